@@ -1,0 +1,1 @@
+// Laws of lists, numbers and lexicographic order. No code: see specs/ and proofs/.

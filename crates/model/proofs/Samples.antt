@@ -1,0 +1,177 @@
+-- 01, "Sample judgements" and the sample of "The replay program", computed from the definitions.
+-- Assumes nothing.
+use Prim.Native.Nat.{ℕ, _+_, _-_, Ordering}
+use mathlib.Core.Path.{_≡_, refl}
+use Rattle.model.proofs.Computing.{computing}
+use mathlib.Core.Bool.{Bool, true, false}
+use mathlib.Core.List.{List, [], _∷_, _++_, map}
+use lib.Dec.{ltb}
+use lib.ListN.{length, take, replicate}
+use Rattle.laws.specs.Lists.{within, tab, every, any, select, leading, insertAt, chained, apart, overlay, joined, padded}
+use Rattle.laws.specs.Lex.{isLess, lexCompare, firstDifference}
+use Rattle.model.specs.Setup.{Setup, leastModulus, inLimits, width, longestFrame, depth, holdbackLength}
+use Rattle.model.specs.Timestamp.{Timestamp, countAt, sum, atMost, soundTimestamp, soundTables, trimmed, widened, ahead, near, fresh, replaced, shift, step, absorb, countOwn}
+use Rattle.model.specs.Frame.{Frame, twoBytes, twoAt, section, encode, payloadCountAt, frameEnd, wellFormed, decode}
+use Rattle.model.specs.Order.{countsDown, key, keyNear, compareFrames, before, decidedAt, due, dueNear}
+use Rattle.model.specs.Batch.{endsAfter, exactBatch, entriesOf, batchEntries}
+use Rattle.model.specs.Question.{ask, firstNo, askSetup, askForm, askRange, askStamp, frameQuestions}
+use Rattle.model.specs.Holdback.{cutFrames, heldBytes, held, sameOrigin, passes, notEarly, notOverdue, soundHoldback, encodeFrames, encodeHoldback}
+use Rattle.model.specs.Codec.{askPayload, frameOf}
+use Rattle.model.specs.Judge.{readingOf, askLate, askEarly, askCounts, askRepeat, askRoom, placeQuestions, judgeQuestions, verdictNumber, placeFor, judge, hearOne, hear}
+use Rattle.model.specs.Tick.{Input, Output, holdbackSize, roomy, callQuestions, refusal, ownStamp, tablesSound, queueSound, repairOf, openingStamp, openingQueue, heardOf, newStamp, sentBytes, dueNow, deliveredOf, keptOf, takenCount, acceptance, tick}
+
+-- "n 2, ε 2, δ 1, B 14 unless said"
+abbrev usual : Setup
+usual = record { n = 2; epsilon = 2; delta = 1; modulus = 14; own = 0 }
+
+-- ★l: "n 1, ε 1, δ 0, B 7"
+abbrev single : Setup
+single = record { n = 1; epsilon = 1; delta = 0; modulus = 7; own = 0 }
+
+abbrev stamp : ℕ → ℕ → List ℕ → Timestamp
+stamp r c kn = record { r = r; c = c; kn = kn }
+
+-- a frame of station 1 with the ticket 41, hexadecimal
+abbrev frame : ℕ → ℕ → List ℕ → Frame
+frame r c kn = record { station = 1; stamp = stamp r c kn; payload = 0x41 ∷ [] }
+
+-- "station 1, r 2, c 0, counts 1,1,1,0 (frame A)"
+abbrev A : Frame
+A = frame 2 0 (1 ∷ 1 ∷ 1 ∷ 0 ∷ [])
+
+-- a call with an empty shelf and buffers of ones, as long as they must be
+abbrev call : Setup → ℕ → Timestamp → List ℕ → Bool → List ℕ → List ℕ → Input
+call s clock tables holdback send payload batch =
+    record {
+      setup = s;
+      clock = clock;
+      tables = tables;
+      holdback = holdback;
+      batch = batch;
+      send = send;
+      payload = payload;
+      outgoing = replicate 71 1;
+      verdicts = replicate 255 1;
+      delivery = replicate (holdbackSize s) 1;
+    }
+
+-- a batch of one frame
+abbrev one : List ℕ → List ℕ
+one bytes = 1 ∷ (length bytes ∷ bytes)
+
+-- an empty batch
+abbrev silent : List ℕ
+silent = 0 ∷ []
+
+-- the tick of ★a and of the replay's first line
+abbrev first : Output
+first =
+    tick (call usual 1 (widened (fresh 2 0)) (replicate (holdbackSize usual) 0) true (0x42 ∷ []) (one (encode A)))
+
+-- the frame that it sends
+abbrev S : Frame
+S = decode 2 (take (first .answer .sent) (first .outgoing))
+
+-- the clock that a reading near v stands for
+abbrev clockOf : ℕ → ℕ → ℕ
+clockOf v reading = reading + v - 14
+
+-- the verdict's number of a frame at v with an empty shelf
+abbrev verdictAt : ℕ → Frame → List ℕ
+verdictAt v f = verdictNumber (judge usual v [] (encode f)) ∷ []
+
+abbrev one-if : Bool → ℕ
+one-if true = 1
+one-if false = 0
+
+-- the first 2ε counts of an answer's tables, after its mend and c
+abbrev outcome : ℕ → Output → List ℕ
+outcome w o = o .answer .repair ∷ o .answer .tables .c ∷ take w (o .answer .tables .kn)
+
+-- a case: what the definitions give, and what 01 says
+pub record Case : Type 0 where
+  pub computed : List ℕ
+  pub stated : List ℕ
+
+abbrev says : List ℕ → List ℕ → Case
+says computed stated = record { computed = computed; stated = stated }
+
+-- the ★ cases, a to l
+pub stars : List Case
+stars =
+    -- ★a: A is taken; "tables c 1, counts 0,1,2,1"
+    says (first .answer .taken ∷ outcome 4 first) (1 ∷ 0 ∷ 1 ∷ 0 ∷ 1 ∷ 2 ∷ 1 ∷ [])
+    -- ★b: "A and the frame sent at that tick both have sum 2; A is first, by the second count" (place 2 of the key, after the sum and a count)
+    ∷ says
+    (clockOf 1 (sum (readingOf usual 1 A) (A .stamp .c)) ∷ clockOf 1 (sum (readingOf usual 1 S) (S .stamp .c)) ∷ one-if (before 2 14 1 A S) ∷ decidedAt 2 14 1 A S ∷ [])
+    (2 ∷ 2 ∷ 1 ∷ 2 ∷ [])
+    -- ★c: "Both are due at 5"
+    ∷ says (clockOf 1 (dueNear 2 1 14 1 A) ∷ clockOf 1 (dueNear 2 1 14 1 S) ∷ []) (5 ∷ 5 ∷ [])
+    -- ★d: "At v 5, r 2 with A's c and counts is taken"
+    ∷ says (verdictAt 5 A) (0 ∷ [])
+    -- ★e: "r 1 gets 13"
+    ∷ says (verdictAt 5 (frame 1 0 (A .stamp .kn))) (13 ∷ [])
+    -- ★f: "At v 1, r 2, c 1, counts 1,1,1,1 gets 14"
+    ∷ says (verdictAt 1 (frame 2 1 (1 ∷ 1 ∷ 1 ∷ 1 ∷ []))) (14 ∷ [])
+    -- ★g: "r 3, c 0, A's counts gets 13 (12 behind)"
+    ∷ says (verdictAt 1 (frame 3 0 (A .stamp .kn)) ++ ((14 - near 2 14 1 3) ∷ [])) (13 ∷ 12 ∷ [])
+    -- ★h: "At v 1, r 2, c 0, counts 1,2,1,0 gets 15"
+    ∷ says (verdictAt 1 (frame 2 0 (1 ∷ 2 ∷ 1 ∷ 0 ∷ []))) (15 ∷ [])
+    -- ★i: "c 0, counts 1,1,0,0 gets 12"
+    ∷ says (verdictAt 1 (frame 2 0 (1 ∷ 1 ∷ 0 ∷ 0 ∷ []))) (12 ∷ [])
+    -- ★j: "At v 0, r 13 is one behind"
+    ∷ says ((14 - near 2 14 0 13) ∷ []) (1 ∷ [])
+    -- ★k: "Tables with r 3 at clock 5 are replaced": mend 1, c 0 and no count but the own event's
+    ∷ says (outcome 4 (tick (call usual 5 (widened (fresh 2 3)) (replicate (holdbackSize usual) 0) false [] silent)))
+    (1 ∷ 0 ∷ 0 ∷ 0 ∷ 1 ∷ 0 ∷ [])
+    -- ★l: "n 1, ε 1, δ 0, B 7, fresh at 0, empty tick 1: counts 1,1"
+    ∷ says (outcome 2 (tick (call single 1 (widened (fresh 1 0)) (replicate (holdbackSize single) 0) false [] silent)))
+    (0 ∷ 0 ∷ 1 ∷ 1 ∷ [])
+    ∷ []
+
+-- every ★ case is as 01 says
+pub stars-hold : map (λ (k : Case). k .computed) stars ≡ map (λ (k : Case). k .stated) stars
+unfolding stars computing
+stars-hold = refl
+
+-- "The replay program": each tick line as clock, mend, c, took, sent (1 or 0), gave
+abbrev line : ℕ → Output → List ℕ
+line clock o =
+    clock ∷ o .answer .repair ∷ o .answer .tables .c ∷ o .answer .taken ∷ one-if (ltb 0 (o .answer .sent)) ∷ o .answer .delivered ∷ []
+
+-- a tick after another of the same station, sending nothing
+abbrev next : ℕ → Output → List ℕ → Output
+next clock o batch = tick (call usual clock (o .answer .tables) (o .holdback) false [] batch)
+
+-- "tick 2 hears that frame back; ticks 3 to 5 are empty"
+abbrev second : Output
+second = next 2 first (one (take (first .answer .sent) (first .outgoing)))
+
+abbrev third : Output
+third = next 3 second silent
+
+abbrev fourth : Output
+fourth = next 4 third silent
+
+abbrev fifth : Output
+fifth = next 5 fourth silent
+
+-- a give line: station, r, ticket
+abbrev given : Frame → List ℕ
+given f = f .station ∷ f .stamp .r ∷ f .payload
+
+-- the sample's seven lines
+pub replay-holds :
+    _≡_ {A = List (List ℕ)} (line 1 first ∷ line 2 second ∷ line 3 third ∷ line 4 fourth ∷ line 5 fifth ∷ map given (held 2 (fifth .delivery)))
+    ((1 ∷ 0 ∷ 1 ∷ 1 ∷ 1 ∷ 0 ∷ []) ∷ (2 ∷ 0 ∷ 0 ∷ 1 ∷ 0 ∷ 0 ∷ []) ∷ (3 ∷ 0 ∷ 0 ∷ 0 ∷ 0 ∷ 0 ∷ []) ∷ (4 ∷ 0 ∷ 0 ∷ 0 ∷ 0 ∷ 0 ∷ [])
+    ∷ (5 ∷ 0 ∷ 0 ∷ 0 ∷ 0 ∷ 2 ∷ []) ∷ (1 ∷ 2 ∷ 0x41 ∷ []) ∷ (0 ∷ 1 ∷ 0x42 ∷ []) ∷ [])
+unfolding computing
+replay-holds = refl
+
+-- "B 13 gets 1; ticket of 33 gets 4"
+pub refusals-hold :
+    _≡_ {A = List ℕ} (tick (call (record { n = 2; epsilon = 2; delta = 1; modulus = 13; own = 0 }) 1 (widened (fresh 2 0)) (replicate (holdbackSize usual) 0) false [] silent) .answer .number
+    ∷ tick (call usual 1 (widened (fresh 2 0)) (replicate (holdbackSize usual) 0) false (replicate 33 0) silent) .answer .number ∷ [])
+    (1 ∷ 4 ∷ [])
+unfolding computing
+refusals-hold = refl

@@ -1,0 +1,60 @@
+-- 01: "Reader and writer alone". A refused one "answers the number alone and writes nothing".
+use Prim.Native.Nat.{ℕ, zero, suc}
+use mathlib.Core.Bool.{Bool}
+use mathlib.Core.List.{List, [], _∷_}
+use lib.Dec.{leb}
+use lib.ListN.{length, replicate}
+use Rattle.laws.specs.Lists.{overlay}
+use Rattle.model.specs.Setup.{Setup, widest, longestPayload}
+use Rattle.model.specs.Timestamp.{Timestamp, trimmed, widened}
+use Rattle.model.specs.Frame.{Frame, encode, decode}
+use Rattle.model.specs.Question.{Question, ask, firstNo, askSetup, askRange, askStamp, frameQuestions}
+
+-- 01, 4: "Is the ticket at most 32 bytes?"
+unfoldable pub askPayload : List ℕ → Question
+askPayload payload = ask (leb (length payload) longestPayload) 4
+
+-- 01: "the reader asks 1, 10, 11, 12"
+unfoldable pub readQuestions : Setup → List ℕ → List Question
+readQuestions s bytes = askSetup s ∷ frameQuestions s bytes
+
+-- what the reader answers: the number, the contents, and the payload, "the very bytes of the frame"
+pub record ReadAnswer : Type 0 where
+  pub number : ℕ
+  pub station : ℕ
+  pub stamp : Timestamp
+  pub payload : List ℕ
+
+-- a timestamp of zeros
+unfoldable pub noTimestamp : Timestamp
+noTimestamp = record { r = 0; c = 0; kn = replicate widest 0 }
+
+abbrev pub readBy : ℕ → Frame → ReadAnswer
+readBy zero f = record { number = 0; station = f .station; stamp = widened (f .stamp); payload = f .payload }
+readBy (suc k) f = record { number = suc k; station = 0; stamp = noTimestamp; payload = [] }
+
+unfoldable pub read : Setup → List ℕ → ReadAnswer
+read s bytes = readBy (firstNo (readQuestions s bytes)) (decode (s .epsilon) bytes)
+
+-- the frame that the writer makes of a station, a stamp and a ticket
+unfoldable pub frameOf : ℕ → ℕ → Timestamp → List ℕ → Frame
+frameOf epsilon station t payload = record { station = station; stamp = trimmed epsilon t; payload = payload }
+
+-- 01: "the writer asks 1, 4, 11, 12, then 6 if its buffer is shorter than this frame"
+unfoldable pub writeQuestions : Setup → Frame → List ℕ → List Question
+writeQuestions s f buffer =
+    askSetup s ∷ askPayload (f .payload) ∷ askRange s f ∷ askStamp s f
+    ∷ ask (leb (length (encode f)) (length buffer)) 6 ∷ []
+
+-- what the writer answers and leaves in its buffer
+pub record WriteAnswer : Type 0 where
+  pub number : ℕ
+  pub size : ℕ
+  pub buffer : List ℕ
+
+abbrev pub writeBy : ℕ → Frame → List ℕ → WriteAnswer
+writeBy zero f buffer = record { number = 0; size = length (encode f); buffer = overlay (encode f) buffer }
+writeBy (suc k) f buffer = record { number = suc k; size = 0; buffer = buffer }
+
+unfoldable pub write : Setup → Frame → List ℕ → WriteAnswer
+write s f buffer = writeBy (firstNo (writeQuestions s f buffer)) f buffer

@@ -1,0 +1,56 @@
+-- 01: the shelf, here the hold-back queue, and the hand-out, here the delivery.
+use Prim.Native.Nat.{ℕ, zero, suc, _+_, _-_}
+use mathlib.Core.Bool.{Bool, _&&_}
+use mathlib.Core.List.{List, [], _∷_, _++_, map}
+use lib.Dec.{leb, eqb}
+use lib.ListN.{length, take, drop}
+use Rattle.laws.specs.Lists.{every, chained, apart, joined, padded}
+use Rattle.model.specs.Setup.{Setup, depth}
+use Rattle.model.specs.Timestamp.{sum, near}
+use Rattle.model.specs.Frame.{Frame, twoBytes, twoAt, encode, decode, frameEnd}
+use Rattle.model.specs.Order.{before, dueNear}
+use Rattle.model.specs.Question.{firstNo, frameQuestions}
+
+-- 01: "frames …, each ending where its counts say": the bytes of k frames
+unfoldable pub cutFrames : ℕ → ℕ → List ℕ → List (List ℕ)
+cutFrames epsilon zero s = []
+cutFrames epsilon (suc k) s = take (frameEnd epsilon s) s ∷ cutFrames epsilon k (drop (frameEnd epsilon s) s)
+
+-- 01: "A shelf is a two-byte count, then frames"
+unfoldable pub heldBytes : ℕ → List ℕ → List (List ℕ)
+heldBytes epsilon s = cutFrames epsilon (twoAt s 0) (drop 2 s)
+
+unfoldable pub held : ℕ → List ℕ → List Frame
+held epsilon s = map (decode epsilon) (heldBytes epsilon s)
+
+-- 01: "that station and r"
+unfoldable pub sameOrigin : Frame → Frame → Bool
+sameOrigin f g = eqb (f .station) (g .station) && eqb (f .stamp .r) (g .stamp .r)
+
+-- 01: "pass 10 to 12"
+unfoldable pub passes : Setup → List ℕ → Bool
+passes s bytes = eqb (firstNo (frameQuestions s bytes)) 0
+
+-- 01: "sum at most ε − 1 past v", which reads B
+unfoldable pub notEarly : Setup → ℕ → Frame → Bool
+notEarly s v f = leb (sum (near (s .epsilon) (s .modulus) v (f .stamp .r)) (f .stamp .c)) (s .modulus + (s .epsilon - 1))
+
+-- 01: "sum + δ + ε not before v"
+unfoldable pub notOverdue : Setup → ℕ → Frame → Bool
+notOverdue s v f = leb (s .modulus) (dueNear (s .epsilon) (s .delta) (s .modulus) v f)
+
+-- 01: "It is sound if it holds at most n(δ + 3ε) frames that pass 10 to 12, strictly in order, no station and r twice,
+-- each sum at most ε − 1 past v and each sum + δ + ε not before v"
+unfoldable pub soundHoldback : Setup → ℕ → List ℕ → Bool
+soundHoldback s v bytes =
+    leb (twoAt bytes 0) (depth (s .n) (s .epsilon) (s .delta)) && (every (passes s) (heldBytes (s .epsilon) bytes)
+    && (chained (before (s .epsilon) (s .modulus) v) (held (s .epsilon) bytes) && (apart sameOrigin (held (s .epsilon) bytes)
+    && (every (notEarly s v) (held (s .epsilon) bytes) && every (notOverdue s v) (held (s .epsilon) bytes)))))
+
+-- 01: "A hand-out has the shelf's form without the zeros"
+unfoldable pub encodeFrames : List Frame → List ℕ
+encodeFrames queue = twoBytes (length queue) ++ joined encode queue
+
+-- 01: "then zeros written by the tick"
+unfoldable pub encodeHoldback : ℕ → List Frame → List ℕ
+encodeHoldback size queue = padded size (encodeFrames queue)

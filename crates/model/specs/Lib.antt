@@ -1,0 +1,12 @@
+pub mod Setup
+pub mod Timestamp
+pub mod Frame
+pub mod Order
+pub mod Batch
+pub mod Holdback
+pub mod Question
+pub mod Codec
+pub mod Judge
+pub mod Tick
+pub mod Published
+pub mod Run

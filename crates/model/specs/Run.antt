@@ -1,0 +1,129 @@
+-- 01, "Premises of demands 2 and 3" and "Demand 3 in full": stations, lists of calls, and what a call does to the stations.
+use Prim.Native.Nat.{ℕ, suc}
+use mathlib.Core.Bool.{Bool, _&&_, cond}
+use mathlib.Core.List.{List, [], _∷_, _++_}
+use mathlib.Core.Option.{Option, none, some}
+use lib.Dec.{eqb}
+use lib.ListN.{take, set, getElem?}
+use Rattle.model.specs.Setup.{Setup}
+use Rattle.model.specs.Timestamp.{Timestamp}
+use Rattle.model.specs.Frame.{Frame, decode}
+use Rattle.model.specs.Tick.{Input, Output, tick}
+
+-- 01: a station: its own number, its true clock, the tables and the shelf that its call before left
+pub record Node : Type 0 where
+  pub own : ℕ
+  pub clock : ℕ
+  pub tables : Timestamp
+  pub holdback : List ℕ
+
+-- 01: "Each bundle entry of an accepted call comes from one earlier call, or is an older frame of any bytes" (here: stale)
+pub data Origin : Type 0 where
+  sentBy : ℕ → Origin
+  stale : Origin
+
+-- one call in the list: which node's it is (its position), its arguments but for the tables and the shelf, and its entries' origins
+pub record Call : Type 0 where
+  pub node : ℕ
+  pub setup : Setup
+  pub clock : ℕ
+  pub batch : List ℕ
+  pub origins : List Origin
+  pub send : Bool
+  pub payload : List ℕ
+  pub outgoing : List ℕ
+  pub verdicts : List ℕ
+  pub delivery : List ℕ
+
+-- 01: "given its station's tables and shelf"
+unfoldable pub inputOf : Node → Call → Input
+inputOf node call =
+    record {
+      setup = call .setup;
+      clock = call .clock;
+      tables = node .tables;
+      holdback = node .holdback;
+      batch = call .batch;
+      send = call .send;
+      payload = call .payload;
+      outgoing = call .outgoing;
+      verdicts = call .verdicts;
+      delivery = call .delivery;
+    }
+
+-- 01: a call is accepted if its answer's number is 0
+unfoldable pub isAccepted : Output → Bool
+isAccepted o = eqb (o .answer .number) 0
+
+-- a call that has been made: by which node (its position and own number), the true clock it moved to, the call, what came of it
+pub record Done : Type 0 where
+  pub node : ℕ
+  pub own : ℕ
+  pub clock : ℕ
+  pub call : Call
+  pub output : Output
+
+-- all stations, and the calls made so far, in their order: an earlier call is named by its position
+pub record World : Type 0 where
+  pub nodes : List Node
+  pub past : List Done
+
+-- 01: "a clock moves to v in its call for v, not before"; a refused call "moves no clock"
+unfoldable pub movedClock : Output → ℕ → ℕ
+movedClock o clock = cond (isAccepted o) (suc clock) clock
+
+-- a node after its call; a refused call "leaves both" tables and shelf, as the tick's answer has them
+unfoldable pub nodeAfter : Node → Output → Node
+nodeAfter node o =
+    record {
+      own = node .own;
+      clock = movedClock o (node .clock);
+      tables = o .answer .tables;
+      holdback = o .holdback;
+    }
+
+-- what a call makes of its node, and the record of it
+unfoldable pub outputOf : Node → Call → Output
+outputOf node call = tick (inputOf node call)
+
+unfoldable pub doneOf : Node → Call → Done
+doneOf node call =
+    record {
+      node = call .node;
+      own = node .own;
+      clock = movedClock (outputOf node call) (node .clock);
+      call = call;
+      output = outputOf node call;
+    }
+
+-- what a call does to the stations: its own node changes, no other
+abbrev pub actOn : Option Node → World → Call → World
+actOn none w call = w
+actOn (some node) w call =
+    record {
+      nodes = set (w .nodes) (call .node) (nodeAfter node (outputOf node call));
+      past = w .past ++ (doneOf node call ∷ []);
+    }
+
+unfoldable pub act : World → Call → World
+act w call = actOn (getElem? (w .nodes) (call .node)) w call
+
+-- the stations before any call
+unfoldable pub atStart : List Node → World
+atStart nodes = record { nodes = nodes; past = [] }
+
+-- what a whole list of calls makes of the stations
+unfoldable pub runFrom : World → List Call → World
+runFrom w [] = w
+runFrom w (call ∷ calls) = runFrom (act w call) calls
+
+-- 01: "A message is the outgoing frame of an accepted call with a ticket to send"
+unfoldable pub sends : Done → Bool
+sends d = isAccepted (d .output) && d .call .send
+
+unfoldable pub messageBytes : Done → List ℕ
+messageBytes d = take (d .output .answer .sent) (d .output .outgoing)
+
+-- what that frame holds
+unfoldable pub messageFrame : Done → Frame
+messageFrame d = decode (d .call .setup .epsilon) (messageBytes d)

@@ -1,0 +1,156 @@
+-- 01, "One tick at clock v": the call's questions, the answer, and every buffer after the call.
+use Prim.Native.Nat.{ℕ, zero, suc, _+_}
+use mathlib.Core.Bool.{Bool, _&&_, not, cond}
+use mathlib.Core.List.{List, [], _∷_}
+use lib.Dec.{leb, ltb, eqb}
+use lib.ListN.{length}
+use Rattle.laws.specs.Lists.{select, overlay}
+use Rattle.model.specs.Setup.{Setup, inLimits, longestFrame, holdbackLength, verdictLength}
+use Rattle.model.specs.Timestamp.{Timestamp, trimmed, widened, soundTables, replaced, step, countOwn}
+use Rattle.model.specs.Frame.{Frame, encode}
+use Rattle.model.specs.Order.{dueNear}
+use Rattle.model.specs.Batch.{exactBatch, batchEntries}
+use Rattle.model.specs.Holdback.{held, soundHoldback, encodeFrames, encodeHoldback}
+use Rattle.model.specs.Question.{Question, ask, firstNo, askSetup}
+use Rattle.model.specs.Codec.{askPayload, frameOf}
+use Rattle.model.specs.Judge.{Heard, hear}
+
+-- the arguments of one call. The tables have 32 counts
+pub record Input : Type 0 where
+  pub setup : Setup
+  pub clock : ℕ
+  pub tables : Timestamp
+  pub holdback : List ℕ
+  pub batch : List ℕ
+  pub send : Bool
+  pub payload : List ℕ
+  pub outgoing : List ℕ
+  pub verdicts : List ℕ
+  pub delivery : List ℕ
+
+-- 01: "The answer gives 0, new tables, mend, frames taken, frames handed out, outgoing length (0 if none)"
+pub record Answer : Type 0 where
+  pub number : ℕ
+  pub tables : Timestamp
+  pub repair : ℕ
+  pub taken : ℕ
+  pub delivered : ℕ
+  pub sent : ℕ
+
+-- the answer, and the buffers after the call
+pub record Output : Type 0 where
+  pub answer : Answer
+  pub holdback : List ℕ
+  pub outgoing : List ℕ
+  pub verdicts : List ℕ
+  pub delivery : List ℕ
+
+abbrev pub holdbackSize : Setup → ℕ
+holdbackSize s = holdbackLength (s .n) (s .epsilon) (s .delta)
+
+-- 01, 6: "Has the outgoing buffer at least 39 + 2ε bytes, the verdict buffer 255, the hand-out buffer a shelf's length?"
+unfoldable pub roomy : Input → Bool
+roomy i =
+    leb (longestFrame (i .setup .epsilon)) (length (i .outgoing)) && (leb verdictLength (length (i .verdicts))
+    && leb (holdbackSize (i .setup)) (length (i .delivery)))
+
+-- 01: "Of the call, in order": 1 to 6
+unfoldable pub callQuestions : Input → List Question
+callQuestions i =
+    askSetup (i .setup)
+    ∷ ask (ltb (i .clock) (i .setup .modulus)) 2
+    ∷ ask (eqb (length (i .holdback)) (holdbackSize (i .setup))) 3
+    ∷ askPayload (i .payload)
+    ∷ ask (exactBatch (i .batch)) 5
+    ∷ ask (roomy i) 6
+    ∷ []
+
+-- 01: "the answer is that number and the tables as given, all else 0, and all buffers keep their contents"
+unfoldable pub refusal : Input → ℕ → Output
+refusal i number =
+    record {
+      answer = record { number = number; tables = i .tables; repair = 0; taken = 0; delivered = 0; sent = 0 };
+      holdback = i .holdback;
+      outgoing = i .outgoing;
+      verdicts = i .verdicts;
+      delivery = i .delivery;
+    }
+
+-- the tables as the tick sees them
+unfoldable pub ownStamp : Input → Timestamp
+ownStamp i = trimmed (i .setup .epsilon) (i .tables)
+
+unfoldable pub tablesSound : Input → Bool
+tablesSound i = soundTables (i .setup .n) (i .setup .epsilon) (i .setup .modulus) (i .clock) (ownStamp i)
+
+unfoldable pub queueSound : Input → Bool
+queueSound i = soundHoldback (i .setup) (i .clock) (i .holdback)
+
+-- 01, tick 1: "(mend 1)", "(mend 2; both, mend 3)"
+unfoldable pub repairOf : Input → ℕ
+repairOf i = cond (tablesSound i) 0 1 + cond (queueSound i) 0 2
+
+-- 01, tick 1 and 2: the stamp with which hearing starts
+unfoldable pub openingStamp : Input → Timestamp
+openingStamp i = cond (tablesSound i) (step (i .clock) (ownStamp i)) (replaced (i .setup .epsilon) (i .clock))
+
+-- 01, tick 1: "An unsound shelf is emptied"
+unfoldable pub openingQueue : Input → List Frame
+openingQueue i = cond (queueSound i) (held (i .setup .epsilon) (i .holdback)) []
+
+-- 01, tick 3
+unfoldable pub heardOf : Input → Heard
+heardOf i =
+    hear (i .setup) (i .clock) (record { stamp = openingStamp i; queue = openingQueue i; verdicts = [] })
+    (batchEntries (i .batch))
+
+-- 01, tick 4
+unfoldable pub newStamp : Input → Timestamp
+newStamp i = countOwn (i .setup .epsilon) (i .clock) (heardOf i .stamp)
+
+-- 01, tick 5: "If a ticket is to be sent, the frame carries this stamp"
+unfoldable pub sentBytes : Input → List ℕ
+sentBytes i = cond (i .send) (encode (frameOf (i .setup .epsilon) (i .setup .own) (newStamp i) (i .payload))) []
+
+-- 01, tick 6: "whose sum + δ + ε (its due clock) equals v", which reads B
+unfoldable pub dueNow : Setup → ℕ → Frame → Bool
+dueNow s v f = eqb (dueNear (s .epsilon) (s .delta) (s .modulus) v f) (s .modulus)
+
+-- 01, tick 6: "is handed out, in order"
+unfoldable pub deliveredOf : Input → List Frame
+deliveredOf i = select (dueNow (i .setup) (i .clock)) (heardOf i .queue)
+
+-- 01, tick 6: "and leaves the shelf"
+unfoldable pub keptOf : Input → List Frame
+keptOf i = select (λ f. not (dueNow (i .setup) (i .clock) f)) (heardOf i .queue)
+
+-- how many verdicts are 0
+unfoldable pub takenCount : List ℕ → ℕ
+takenCount verdicts = length (select (λ x. eqb x 0) verdicts)
+
+-- an accepted call: "Bytes beyond those written stay"
+unfoldable pub acceptance : Input → Output
+acceptance i =
+    record {
+      answer =
+          record {
+            number = 0;
+            tables = widened (newStamp i);
+            repair = repairOf i;
+            taken = takenCount (heardOf i .verdicts);
+            delivered = length (deliveredOf i);
+            sent = length (sentBytes i);
+          };
+      holdback = encodeHoldback (holdbackSize (i .setup)) (keptOf i);
+      outgoing = overlay (sentBytes i) (i .outgoing);
+      verdicts = overlay (heardOf i .verdicts) (i .verdicts);
+      delivery = overlay (encodeFrames (deliveredOf i)) (i .delivery);
+    }
+
+abbrev pub tickBy : ℕ → Input → Output
+tickBy zero i = acceptance i
+tickBy (suc k) i = refusal i (suc k)
+
+-- 01: "A call is accepted exactly if none of its questions gets a no, and refused otherwise"
+unfoldable pub tick : Input → Output
+tick i = tickBy (firstNo (callQuestions i)) i

@@ -1,0 +1,85 @@
+-- 01, "The stamp", and the steps of "One tick" that change it.
+-- A clock w is named by w + ε, so that no offset is negative: place i of the counts of a timestamp with reading x is for the clock named x + i.
+use Prim.Native.Nat.{ℕ, _+_, _-_, _%_, max}
+use mathlib.Core.Bool.{Bool, _&&_, cond}
+use mathlib.Core.List.{List, _++_}
+use lib.Dec.{leb, ltb, eqb}
+use lib.ListN.{drop, getD, set, replicate}
+use Rattle.laws.specs.Lists.{tab, every, padded}
+use Rattle.model.specs.Setup.{width, widest}
+
+-- 01: the stamp. r is "the clock at the event", c "how far the largest known clock lies ahead of r", kn the counts, from offset −ε up
+pub record Timestamp : Type 0 where
+  pub r : ℕ
+  pub c : ℕ
+  pub kn : List ℕ
+
+-- 01: "what the station knows of the number of events at" the clock named w; "Outside those offsets a count reads as 0"
+unfoldable pub countAt : ℕ → List ℕ → ℕ → ℕ
+countAt reading kn w = cond (leb reading w) (getD kn (w - reading) 0) 0
+
+-- 01: "The sum is r + c"
+unfoldable pub sum : ℕ → ℕ → ℕ
+sum reading c = reading + c
+
+-- 01: "each count ≤" the bound
+unfoldable pub atMost : ℕ → List ℕ → Bool
+atMost bound kn = every (λ x. leb x bound) kn
+
+-- 01: "A stamp is sound if c ≤ ε − 1, each count ≤ n, the count at offset c is at least 1, and all counts above offset c are 0"
+unfoldable pub soundTimestamp : ℕ → ℕ → Timestamp → Bool
+soundTimestamp n epsilon t =
+    leb (t .c) (epsilon - 1) && (atMost n (t .kn) && (leb 1 (getD (t .kn) (epsilon + t .c) 0)
+    && atMost 0 (drop (epsilon + t .c + 1) (t .kn))))
+
+-- 01: "sound for a new clock v if the stamp is sound, r is below B and one before v modulo B, and counts at offsets 1 and up are at most n − 1"
+unfoldable pub soundTables : ℕ → ℕ → ℕ → ℕ → Timestamp → Bool
+soundTables n epsilon modulus v t =
+    soundTimestamp n epsilon t && (ltb (t .r) modulus && (eqb ((t .r + 1) % modulus) v
+    && atMost (n - 1) (drop (epsilon + 1) (t .kn))))
+
+-- the 2ε counts alone. 01: "Places past the 2ε counts are ignored"
+unfoldable pub trimmed : ℕ → Timestamp → Timestamp
+trimmed epsilon t = record { r = t .r; c = t .c; kn = tab (width epsilon) (λ i. getD (t .kn) i 0) }
+
+-- 01: they "come back 0"
+unfoldable pub widened : Timestamp → Timestamp
+widened t = record { r = t .r; c = t .c; kn = padded widest (t .kn) }
+
+-- 01: "u is (r − v) modulo B"
+unfoldable pub ahead : ℕ → ℕ → ℕ → ℕ
+ahead modulus v r = (r + (modulus - v)) % modulus
+
+-- 01: "If u ≤ ε − 1, r is u ahead. Otherwise it is B − u behind." v itself reads B, so that no reading is negative
+unfoldable pub near : ℕ → ℕ → ℕ → ℕ → ℕ
+near epsilon modulus v r =
+    cond (leb (ahead modulus v r) (epsilon - 1)) (modulus + ahead modulus v r) (modulus - (modulus - ahead modulus v r))
+
+-- 01: "Fresh tables at a clock have that r, c 0, count 1 at offset 0, otherwise 0"
+unfoldable pub fresh : ℕ → ℕ → Timestamp
+fresh epsilon clock = record { r = clock; c = 0; kn = set (replicate (width epsilon) 0) epsilon 1 }
+
+-- 01, tick 1: "Unsound tables are replaced by c 0 and no counts at all"
+unfoldable pub replaced : ℕ → ℕ → Timestamp
+replaced epsilon v = record { r = v; c = 0; kn = replicate (width epsilon) 0 }
+
+-- counts placed k offsets further down
+unfoldable pub shift : ℕ → List ℕ → List ℕ
+shift k kn = drop k kn ++ replicate k 0
+
+-- 01, tick 2: "In sound tables c drops by one, not below 0, and counts move one offset down"; they are placed relative to v from here on
+unfoldable pub step : ℕ → Timestamp → Timestamp
+step v t = record { r = v; c = t .c - 1; kn = shift 1 (t .kn) }
+
+-- 01, tick 3: "c and each count become the larger of own and frame's, both placed relative to v", which reads B
+unfoldable pub absorb : ℕ → ℕ → Timestamp → ℕ → Timestamp → Timestamp
+absorb epsilon modulus t reading f =
+    record {
+      r = t .r;
+      c = max (t .c) (sum reading (f .c) - modulus);
+      kn = tab (width epsilon) (λ i. max (getD (t .kn) i 0) (countAt reading (f .kn) (modulus + i)));
+    }
+
+-- 01, tick 4: "The count at offset 0 rises by one; r is v"
+unfoldable pub countOwn : ℕ → ℕ → Timestamp → Timestamp
+countOwn epsilon v t = record { r = v; c = t .c; kn = set (t .kn) epsilon (getD (t .kn) epsilon 0 + 1) }

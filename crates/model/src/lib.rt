@@ -1,0 +1,1 @@
+// Document 01 as definitions. No code: see specs/ and proofs/.
