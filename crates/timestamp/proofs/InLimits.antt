@@ -4,10 +4,11 @@ use Prim.Native.Nat.{ℕ, _+_, _*_, _≤_, _<_}
 use native.Mathlib.Nat.{mul-le-mul}
 use native.Mathlib.Omega.{arith}
 use mathlib.Core.Path.{_≡_, refl, sym}
-use mathlib.Core.Bool.{Bool, true, false, _&&_, false≢true}
+use mathlib.Core.Bool.{Bool, true, false, _&&_}
 use lib.Dec.{leb, ltb}
 use borrow.Author.Tests.{ltb-true, ltb-false, leb-true, lt-ltb, le-leb}
 use Rattle.laws.specs.Lists.{within}
+use Rattle.laws.proofs.Numbers.{and-left, and-right, false-of-no}
 use Rattle.model.specs.Setup.{Setup, inLimits, leastModulus, longestFrame, width, depth}
 
 -- 01: "Limits: n 1..16, ε 1..16, δ 0..64, B from 6ε + δ + 1 to 65,535, own number below n"
@@ -21,20 +22,10 @@ pub record Limits (s : Setup) : Type 0 where
   pub modulus-most : s .modulus ≤ 65535
   pub own-most : s .own < s .n
 
--- a test that cannot be true is false
-pub false-of : (b : Bool) → (b ≡ true → ⊥) → b ≡ false
-false-of true h = absurd (h refl)
-false-of false h = refl
-
-both-true : (a b : Bool) → (a && b) ≡ true → (a ≡ true) × (b ≡ true)
-both-true true b h = (refl, h)
-both-true false b h = absurd (false≢true h)
-
 within-true : (lo hi x : ℕ) → within lo hi x ≡ true → (lo ≤ x) × (x ≤ hi)
 unfolding within
 within-true lo hi x h =
-    let p : (leb lo x ≡ true) × (leb x hi ≡ true) = both-true (leb lo x) (leb x hi) h in
-    (leb-true lo x (p .0), leb-true x hi (p .1))
+    (leb-true lo x (and-left (leb lo x) (leb x hi) h), leb-true x hi (and-right (leb lo x) (leb x hi) h))
 
 within-of : (lo hi x : ℕ) → lo ≤ x → x ≤ hi → within lo hi x ≡ true
 unfolding within
@@ -43,22 +34,22 @@ within-of lo hi x h k = rw (le-leb lo x h, le-leb x hi k)
 pub limits-of : (s : Setup) → inLimits s ≡ true → Limits s
 unfolding inLimits leastModulus
 limits-of s h =
-    let p = both-true (within 1 16 (s .n)) _ h in
-    let q = both-true (within 1 16 (s .epsilon)) _ (p .1) in
-    let t = both-true (leb (s .delta) 64) _ (q .1) in
-    let u = both-true (within (6 * s .epsilon + s .delta + 1) 65535 (s .modulus)) _ (t .1) in
-    let n-in = within-true 1 16 (s .n) (p .0) in
-    let epsilon-in = within-true 1 16 (s .epsilon) (q .0) in
-    let modulus-in = within-true (6 * s .epsilon + s .delta + 1) 65535 (s .modulus) (u .0) in
+    let rest-n = and-right (within 1 16 (s .n)) _ h in
+    let rest-epsilon = and-right (within 1 16 (s .epsilon)) _ rest-n in
+    let rest-delta = and-right (leb (s .delta) 64) _ rest-epsilon in
+    let least = 6 * s .epsilon + s .delta + 1 in
+    let n-in = within-true 1 16 (s .n) (and-left (within 1 16 (s .n)) _ h) in
+    let epsilon-in = within-true 1 16 (s .epsilon) (and-left (within 1 16 (s .epsilon)) _ rest-n) in
+    let modulus-in = within-true least 65535 (s .modulus) (and-left (within least 65535 (s .modulus)) _ rest-delta) in
     record {
       n-least = n-in .0;
       n-most = n-in .1;
       epsilon-least = epsilon-in .0;
       epsilon-most = epsilon-in .1;
-      delta-most = leb-true (s .delta) 64 (t .0);
+      delta-most = leb-true (s .delta) 64 (and-left (leb (s .delta) 64) _ rest-epsilon);
       modulus-least = modulus-in .0;
       modulus-most = modulus-in .1;
-      own-most = ltb-true (s .own) (s .n) (u .1);
+      own-most = ltb-true (s .own) (s .n) (and-right (within least 65535 (s .modulus)) _ rest-delta);
     }
 
 pub limits-hold : (s : Setup) → Limits s → inLimits s ≡ true
@@ -74,7 +65,7 @@ limits-hold s l =
 
 -- a setup past a limit is refused
 pub past-limit : (s : Setup) → (Limits s → ⊥) → false ≡ inLimits s
-past-limit s h = sym (false-of (inLimits s) (λ e. h (limits-of s e)))
+past-limit s h = sym (false-of-no (inLimits s) (λ e. h (limits-of s e)))
 
 -- within the other limits, the own number decides
 pub own-decides : (s : Setup) → (s .own < s .n → Limits s) → ltb (s .own) (s .n) ≡ inLimits s
