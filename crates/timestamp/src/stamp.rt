@@ -7,7 +7,7 @@ ghost use Rattle.laws.specs.Lists.{tab, padded};
 ghost use Rattle.model.specs.Setup.{widest};
 ghost use Rattle.model.specs.Timestamp.{countAt, atMost, soundTimestamp, soundTables, trimmed, widened};
 ghost use Rattle.model.specs.Timestamp as model;
-ghost use Rattle.timestamp.specs.Views.{stampOf};
+ghost use Rattle.timestamp.specs.Views.{stampOf, largerAt};
 
 // 01: the stamp.
 pub struct Timestamp {
@@ -212,7 +212,7 @@ fn larger_counts(own: &[u8], other: &[u8], width: usize, modulus: usize, reading
     }
     ensures {
         λ kn. ⌜ kn
-        ≡ padded widest (tab width (λ i. max (getD (take width (now (own .entry))) i 0) (countAt reading (take width (now (other .entry))) (modulus + i)))) ⌝
+        ≡ padded widest (tab width (largerAt modulus reading (take width (now (own .entry))) (take width (now (other .entry))))) ⌝
     }
 {
     let mut kn = [0u8; Timestamp::WIDTH];
