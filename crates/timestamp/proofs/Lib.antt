@@ -1,0 +1,3 @@
+pub mod InLimits
+pub mod Counts
+pub mod Readings
