@@ -43,10 +43,11 @@ loop-less c = omega arith
 
 -- src/stamp.rt:163:5
 loop-again : tie.Need-loop-again Inv-loop μ-loop
-loop-again c =
-    (omega arith,
-      copied-next 32 _ _ _ _ _ (c .before .before .before .pre .0) (c .before .before .before .pre .1) (c .before .loop-test .taken)
-      (c .before .before .loop .inv .1))
+loop-again c = (
+  omega arith,
+  copied-next 32 _ _ _ _ _ (c .before .before .before .pre .0) (c .before .before .before .pre .1) (c .before .loop-test .taken)
+      (c .before .before .loop .inv .1),
+)
 
 -- src/stamp.rt:157:1
 returns : tie.Need-returns Inv-loop μ-loop

@@ -56,10 +56,11 @@ loop-less c = omega arith
 
 -- src/stamp.rt:220:5
 loop-again : tie.Need-loop-again Inv-loop μ-loop
-loop-again c =
-    (omega arith,
-      larger-next 32 _ _ _ _ _ _ _ _ _ (c .before .before .before .before .before .before .before .pre .0) (c .before .before .before .loop-test .taken) (c .before .count-at .ensures)
-      (c .larger .ensures) (c .before .before .before .before .loop .inv .1))
+loop-again c = (
+  omega arith,
+  larger-next 32 _ _ _ _ _ _ _ _ _ (c .before .before .before .before .before .before .before .pre .0) (c .before .before .before .loop-test .taken) (c .before .count-at .ensures)
+      (c .larger .ensures) (c .before .before .before .before .loop .inv .1),
+)
 
 -- src/stamp.rt:209:1
 returns : tie.Need-returns Inv-loop μ-loop

@@ -1,0 +1,7 @@
+pub mod Given
+pub mod RoundTrip
+pub mod Frames
+pub mod Reading
+pub mod Sound
+pub mod Seen
+pub mod Order
