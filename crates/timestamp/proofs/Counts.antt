@@ -25,9 +25,14 @@ pub padded-next : (w : ℕ) (l : List ℕ) (i x : ℕ) → length l ≡ i → i 
 unfolding padded
 padded-next w l i x e h =
     let short : length l < w = omega arith in
-    rw
-    (← e, sub-next w (length l) short, set-append-seam, length-append, append-assoc,
-      add-one (length l))
+    rw (
+      ← e,
+      sub-next w (length l) short,
+      set-append-seam,
+      length-append,
+      append-assoc,
+      add-one (length l),
+    )
 
 -- a count is written
 pub set-padded : (w : ℕ) (l : List ℕ) (i x : ℕ) → i < length l → set (padded w l) i x ≡ padded w (set l i x)

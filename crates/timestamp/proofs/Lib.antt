@@ -1,3 +1,5 @@
 pub mod InLimits
 pub mod Counts
 pub mod Readings
+pub mod Steps
+pub mod Soundness

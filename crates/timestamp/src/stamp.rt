@@ -72,10 +72,8 @@ impl Timestamp {
     // 01, tick 3: "c and each count become the larger of own and frame's, both placed relative to v", which reads B.
     pub fn absorb(self, epsilon: usize, modulus: usize, reading: usize, f: Timestamp) -> Self
         requires { ⌜ (epsilon ≤ 16) × ((modulus ≤ 65535) × ((reading ≤ 2 ^ 17) × (f .c ≤ 2 ^ 16))) ⌝ }
-        ensures {
-            λ s. ⌜ stampOf s
-            ≡ widened (model.absorb epsilon modulus (trimmed epsilon (stampOf self)) reading (trimmed epsilon (stampOf f))) ⌝
-        }
+        ensures { λ s. ⌜ stampOf s
+            ≡ widened (model.absorb epsilon modulus (trimmed epsilon (stampOf self)) reading (trimmed epsilon (stampOf f))) ⌝ }
     {
         let own = self.kn;
         let other = f.kn;
@@ -95,7 +93,11 @@ impl Timestamp {
         let own = self.kn;
         let mut kn = counts_of(&own, 0, 2 * epsilon);
         kn[epsilon] = kn[epsilon] + 1;
-        Timestamp { r: v, c: self.c, kn }
+        Timestamp {
+            r: v,
+            c: self.c,
+            kn,
+        }
     }
 
     // 01: "A stamp is sound if c ≤ ε − 1, each count ≤ n, the count at offset c is at least 1, and all counts above offset c are 0".
@@ -206,14 +208,16 @@ fn one_less(c: usize) -> usize
 }
 
 // 01, tick 3: each count "the larger of own and frame's", the frame's placed by its reading.
-fn larger_counts(own: &[u8], other: &[u8], width: usize, modulus: usize, reading: usize) -> [u8; Timestamp::WIDTH]
-    requires {
-        ⌜ (width ≤ 32) × ((width ≤ length (now own)) × ((width ≤ length (now other)) × (modulus ≤ 65535))) ⌝
-    }
-    ensures {
-        λ kn. ⌜ kn
-        ≡ padded widest (tab width (largerAt modulus reading (take width (now (own .entry))) (take width (now (other .entry))))) ⌝
-    }
+fn larger_counts(
+    own: &[u8],
+    other: &[u8],
+    width: usize,
+    modulus: usize,
+    reading: usize,
+) -> [u8; Timestamp::WIDTH]
+    requires { ⌜ (width ≤ 32) × ((width ≤ length (now own)) × ((width ≤ length (now other)) × (modulus ≤ 65535))) ⌝ }
+    ensures { λ kn. ⌜ kn
+        ≡ padded widest (tab width (largerAt modulus reading (take width (now (own .entry))) (take width (now (other .entry))))) ⌝ }
 {
     let mut kn = [0u8; Timestamp::WIDTH];
     let mut i = 0;
