@@ -49,7 +49,7 @@ module _ {A : Type 0} where
   pub length-tab : (n : ℕ) (f : ℕ → A) → length (tab n f) ≡ n
   unfolding tab
   length-tab zero f = refl
-  length-tab (suc n) f = ap suc (length-tab n (λ i. f (suc i)))
+  length-tab (suc n) f = ap suc (length-tab n _)
 
   pub getD-tab : (n : ℕ) (f : ℕ → A) (i : ℕ) (d : A) → i < n → getD (tab n f) i d ≡ f i
   unfolding tab
@@ -332,9 +332,10 @@ module _ {A : Type 0} where
   unfolding leading
   leading-le p [] = zero-le
   leading-le p (x ∷ xs) =
+      let r : leading p xs ≤ length xs = leading-le p xs in
       elim (true-or-false (p x)) [
-        | inl e ↦ rw e (suc-le-suc (leading-le p xs))
-        | inr e ↦ rw e zero-le
+        | inl e ↦ rw e (omega arith)
+        | inr e ↦ rw e (omega arith)
       ]
 
   pub every-leading : (p : A → Bool) (l : List A) → every p (take (leading p l) l) ≡ true
