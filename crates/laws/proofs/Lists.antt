@@ -400,6 +400,17 @@ module _ {A : Type 0} where
   length-insertAt (suc i) x [] = refl
   length-insertAt (suc i) x (y ∷ l) = ap suc (length-insertAt i x l)
 
+  pub insertAt-end : (x : A) (l : List A) → insertAt (length l) x l ≡ l ++ (x ∷ [])
+  unfolding insertAt
+  insertAt-end x [] = refl
+  insertAt-end x (y ∷ l) = ap₂ _∷_ refl (insertAt-end x l)
+
+  pub getD-insertAt : (i : ℕ) (x : A) (l : List A) (d : A) → i ≤ length l → getD (insertAt i x l) i d ≡ x
+  unfolding insertAt
+  getD-insertAt zero x l d h = refl
+  getD-insertAt (suc i) x [] d h = absurd (not-suc-le-zero h)
+  getD-insertAt (suc i) x (y ∷ l) d h = getD-insertAt i x l d (le-of-suc-le-suc h)
+
   pub mem-insertAt-new : (i : ℕ) (x : A) (l : List A) → List·Memᴰ x (insertAt i x l)
   unfolding insertAt
   mem-insertAt-new i x l = Memᴰ·append-right (take i l) (List·Memᴰ·head refl)
