@@ -3,3 +3,4 @@ pub mod Counts
 pub mod Readings
 pub mod Steps
 pub mod Soundness
+pub mod Ordered

@@ -9,7 +9,7 @@ ghost use Rattle.model.specs.Order.{key};
 ghost use Rattle.timestamp.specs.Views.{stampOf};
 ghost use Rattle.timestamp.specs.Ranks.{orderOf, countsFrom, frameOf, rankedFrame, Ranked};
 
-use stamp::Timestamp;
+use crate::stamp::Timestamp;
 
 // How the first of two stands to the second.
 pub enum Order {
