@@ -1,3 +1,5 @@
+-- `timestamp::stamp::counts_at_most` meets its contract: the loop's invariant: the test of the whole part is that of what is left.
+-- Assumes nothing.
 use Prim.Native.Nat.{_-_}
 use mathlib.Core.Path.{_≡_, refl, sym, _∙_}
 use native.Mathlib.Omega.{arith}
@@ -6,8 +8,6 @@ use Rattle.model.specs.Timestamp.{atMost}
 use Rattle.timestamp.proofs.Counts.{at-most-stop, at-most-next, at-most-none}
 use Rattle.timestamp.proofs.stamp.counts_at_most.Statement.{statement}
 use Rattle.timestamp.proofs.stamp.counts_at_most.Tie as tie
-use Rattle.timestamp.proofs.stamp.counts_at_most.Reads as reads
-use Rattle.timestamp.proofs.stamp.counts_at_most.Lts as lts
 
 abbrev Inv-loop : tie.InvT-loop
 Inv-loop kn from to bound i₀ i = atMost bound (slice from to kn) ≡ atMost bound (slice i to kn)
@@ -15,40 +15,32 @@ Inv-loop kn from to bound i₀ i = atMost bound (slice from to kn) ≡ atMost bo
 abbrev μ-loop : tie.MeasureT-loop
 μ-loop kn from to bound i₀ i = to - i
 
--- src/stamp.rt:147:5
 loop-holds : tie.Need-loop-holds Inv-loop μ-loop
 loop-holds c = refl
 
--- src/stamp.rt:148:20
 shared-slice-read-if1 : tie.Need-shared-slice-read-if1 Inv-loop μ-loop
 shared-slice-read-if1 c = omega arith
 
--- src/stamp.rt:148:20
 cast-if1 : tie.Need-cast-if1 Inv-loop μ-loop
 cast-if1 c = omega (arith, c .shared-slice-known .given (c .before .before .loop .i))
 
--- src/stamp.rt:149:13
 returns : tie.Need-returns Inv-loop μ-loop
 returns c =
     sym
     (c .before .before .before .loop .inv
     ∙ at-most-stop _ _ _ _ (c .before .before .loop-test .taken) (c .before .before .before .before .pre) (c .if1 .taken))
 
--- src/stamp.rt:151:9
 add-i : tie.Need-add-i Inv-loop μ-loop
 add-i c = omega arith
 
--- src/stamp.rt:147:5
 loop-less : tie.Need-loop-less Inv-loop μ-loop
 loop-less c = omega arith
 
--- src/stamp.rt:147:5
 loop-again : tie.Need-loop-again Inv-loop μ-loop
 loop-again c =
     c .before .before .before .loop .inv
     ∙ at-most-next _ _ _ _ (c .before .before .loop-test .taken) (c .before .before .before .before .pre) (c .if1 .left)
 
--- src/stamp.rt:142:1
 returns-2 : tie.Need-returns-2 Inv-loop μ-loop
 returns-2 c = sym (c .before .loop .inv ∙ at-most-none _ _ _ _ (c .loop-test .left) (c .before .before .pre))
 

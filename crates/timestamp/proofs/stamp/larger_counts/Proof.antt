@@ -1,3 +1,5 @@
+-- `timestamp::stamp::larger_counts` meets its contract: the loop's invariant: the counts passed are the larger ones, the other places are 0.
+-- Assumes nothing.
 use Prim.Native.Nat.{_-_, _≤_}
 use mathlib.Core.Path.{_≡_, refl}
 use native.Mathlib.Nat.{le-antisymm}
@@ -9,10 +11,6 @@ use Rattle.timestamp.specs.Views.{largerAt}
 use Rattle.timestamp.proofs.Readings.{larger-next}
 use Rattle.timestamp.proofs.stamp.larger_counts.Statement.{statement}
 use Rattle.timestamp.proofs.stamp.larger_counts.Tie as tie
-use Rattle.timestamp.proofs.stamp.larger_counts.Reads as reads
-use Rattle.timestamp.proofs.stamp.larger_counts.Lts as lts
-use Rattle.timestamp.proofs.stamp.count_at.Reads as count-at-reads
-use Rattle.timestamp.proofs.stamp.larger.Reads as larger-reads
 
 abbrev Inv-loop : tie.InvT-loop
 Inv-loop own other width modulus reading kn₀ i₀ kn i =
@@ -21,40 +19,31 @@ Inv-loop own other width modulus reading kn₀ i₀ kn i =
 abbrev μ-loop : tie.MeasureT-loop
 μ-loop own other width modulus reading kn₀ i₀ kn i = width - i
 
--- src/stamp.rt:220:5
 loop-holds : tie.Need-loop-holds Inv-loop μ-loop
 unfolding padded tab
 loop-holds c = (omega arith, refl)
 
--- src/stamp.rt:221:24
 shared-slice-read-larger : tie.Need-shared-slice-read-larger Inv-loop μ-loop
 shared-slice-read-larger c = omega arith
 
--- src/stamp.rt:221:64
 add-count-at : tie.Need-add-count-at Inv-loop μ-loop
 add-count-at c = omega arith
 
--- src/stamp.rt:221:32
 count-at-requires : tie.Need-count-at-requires Inv-loop μ-loop
 count-at-requires c κs = search needs
 
--- src/stamp.rt:221:17
 larger-requires : tie.Need-larger-requires Inv-loop μ-loop
 larger-requires c κs = search needs
 
--- src/stamp.rt:221:9
 array-write-kn : tie.Need-array-write-kn Inv-loop μ-loop
 array-write-kn c = omega arith
 
--- src/stamp.rt:222:9
 add-i : tie.Need-add-i Inv-loop μ-loop
 add-i c = omega arith
 
--- src/stamp.rt:220:5
 loop-less : tie.Need-loop-less Inv-loop μ-loop
 loop-less c = omega arith
 
--- src/stamp.rt:220:5
 loop-again : tie.Need-loop-again Inv-loop μ-loop
 loop-again c = (
   omega arith,
@@ -62,7 +51,6 @@ loop-again c = (
       (c .larger .ensures) (c .before .before .before .before .loop .inv .1),
 )
 
--- src/stamp.rt:209:1
 returns : tie.Need-returns Inv-loop μ-loop
 returns c = rw (le-antisymm (c .before .loop .inv .0) (c .loop-test .left)) at (c .before .loop .inv .1)
 

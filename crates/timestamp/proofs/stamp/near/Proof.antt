@@ -1,36 +1,29 @@
+-- `timestamp::stamp::near` meets its contract: u is below B, so that no sum wraps.
+-- Assumes nothing.
 use native.Mathlib.Omega.{arith}
 use borrow.Author.Needs.{needs}
 use Rattle.timestamp.proofs.Readings.{ahead-below, near-ahead, near-behind}
 use Rattle.timestamp.proofs.stamp.near.Statement.{statement}
 use Rattle.timestamp.proofs.stamp.near.Tie as tie
-use Rattle.timestamp.proofs.stamp.near.Reads as reads
-use Rattle.timestamp.proofs.stamp.near.Lts as lts
 
--- src/stamp.rt:232:19
 sub-u : tie.Need-sub-u
 sub-u c = search needs
 
--- src/stamp.rt:232:14
 add-u : tie.Need-add-u
 add-u c = search needs
 
--- src/stamp.rt:232:13
 rem-u : tie.Need-rem-u
 rem-u c = search needs
 
--- src/stamp.rt:233:13
 sub-if1 : tie.Need-sub-if1
 sub-if1 c = search needs
 
--- src/stamp.rt:233:27
 add-result : tie.Need-add-result
 add-result c = omega (arith, ahead-below (c .before .args .modulus) (c .before .args .v) (c .before .args .r) (c .before .pre .1 .1 .0))
 
--- src/stamp.rt:228:1
 returns : tie.Need-returns
 returns c = near-ahead _ _ _ _ (c .if1 .taken)
 
--- src/stamp.rt:228:1
 returns-2 : tie.Need-returns-2
 returns-2 c = near-behind _ _ _ _ (c .before .pre .1 .1 .0) (c .if1 .left)
 

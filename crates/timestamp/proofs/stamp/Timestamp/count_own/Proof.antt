@@ -1,37 +1,43 @@
+-- `timestamp::stamp::Timestamp::count_own` meets its contract: the own count lies within the 2ε counts.
+-- Assumes nothing.
+use mathlib.Core.Path.{_≡_}
+use native.Mathlib.Omega.{arith}
+use lib.ListN.{length}
+use Rattle.timestamp.proofs.Steps.{own-count, count-own-widened}
+use Rattle.timestamp.specs.Views.{stampOf}
 use borrow.Author.Needs.{needs}
 use Rattle.timestamp.proofs.stamp.Timestamp.count_own.Statement.{statement}
 use Rattle.timestamp.proofs.stamp.Timestamp.count_own.Tie as tie
-use Rattle.timestamp.proofs.stamp.Timestamp.count_own.Reads as reads
-use Rattle.timestamp.proofs.stamp.Timestamp.count_own.Lts as lts
-use Rattle.timestamp.proofs.stamp.counts_of.Reads as counts-of-reads
 
--- src/stamp.rt:96:32
+long : (c : tie.Start) → length (c .args .self .kn) ≡ 32
+long c = search needs
+
 slice-aggregate-counts-of : tie.Need-slice-aggregate-counts-of
 slice-aggregate-counts-of c = search needs
 
--- src/stamp.rt:96:41
 mul-counts-of : tie.Need-mul-counts-of
 mul-counts-of c = search needs
 
--- src/stamp.rt:96:22
 counts-of-requires : tie.Need-counts-of-requires
-counts-of-requires c κs = ?
+counts-of-requires c κs = omega (arith, long (c .before .before))
 
--- src/stamp.rt:97:23
 array-read-kn : tie.Need-array-read-kn
 array-read-kn c = search needs
 
--- src/stamp.rt:97:23
 add-kn : tie.Need-add-kn
-add-kn c = ?
+add-kn c =
+    omega (
+      arith,
+      c .before .before .before .pre .1 .1,
+      own-count (c .before .before .before .args .epsilon) (stampOf (c .before .before .before .args .self)) (c .before .before .before .pre .1 .0) (long (c .before .before .before)) (c .counts-of .result) (c .before .before .before .pre .0) (c .counts-of .ensures),
+    )
 
--- src/stamp.rt:97:9
 array-write-kn : tie.Need-array-write-kn
 array-write-kn c = search needs
 
--- src/stamp.rt:91:5
 returns : tie.Need-returns
-returns c = ?
+returns c =
+    count-own-widened _ _ (c .before .before .before .pre .1 .0) (long (c .before .before .before)) _ _ (c .before .before .before .pre .0) (c .counts-of .ensures)
 
 pub count-own-spec : {M : Type 1} → statement M
 count-own-spec =

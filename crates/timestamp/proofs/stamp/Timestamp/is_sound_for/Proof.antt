@@ -1,58 +1,55 @@
+-- `timestamp::stamp::Timestamp::is_sound_for` meets its contract: each answer is that of the first question that decides.
+-- Assumes nothing.
+use mathlib.Core.Path.{_≡_, sym, _∙_}
+use native.Mathlib.Omega.{arith}
+use lib.ListN.{length}
+use borrow.Author.Tests.{not-true, not-false}
+use Rattle.timestamp.proofs.Soundness.{unsound-tables, tables-past, tables-other, tables-above}
 use borrow.Author.Needs.{needs}
 use Rattle.timestamp.proofs.stamp.Timestamp.is_sound_for.Statement.{statement}
 use Rattle.timestamp.proofs.stamp.Timestamp.is_sound_for.Tie as tie
-use Rattle.timestamp.proofs.stamp.Timestamp.is_sound_for.Reads as reads
-use Rattle.timestamp.proofs.stamp.Timestamp.is_sound_for.Lts as lts
-use Rattle.timestamp.proofs.stamp.Timestamp.is_sound.Reads as is-sound-reads
-use Rattle.timestamp.proofs.stamp.counts_at_most.Reads as counts-at-most-reads
 
--- src/stamp.rt:128:13
+long : (c : tie.Start) → length (c .args .self .kn) ≡ 32
+long c = search needs
+
 is-sound-requires : tie.Need-is-sound-requires
 is-sound-requires c κs = search needs
 
--- src/stamp.rt:129:13
 returns : tie.Need-returns
-returns c = ?
+returns c = unsound-tables _ _ (c .before .before .before .pre .1 .1) (long (c .before .before .before)) _ _ _ (sym (c .before .is-sound .ensures) ∙ not-true _ (c .if1 .taken))
 
--- src/stamp.rt:132:13
 returns-2 : tie.Need-returns-2
-returns-2 c = ?
+returns-2 c =
+    tables-past _ _ (c .before .before .before .before .pre .1 .1) (long (c .before .before .before .before)) _ _ _ (sym (c .before .before .is-sound .ensures) ∙ not-false _ (c .before .if1 .left)) (c .if2 .taken)
 
--- src/stamp.rt:134:13
 add-if3 : tie.Need-add-if3
 add-if3 c = search needs
 
--- src/stamp.rt:134:12
 rem-if3 : tie.Need-rem-if3
 rem-if3 c = search needs
 
--- src/stamp.rt:135:13
 returns-3 : tie.Need-returns-3
-returns-3 c = ?
+returns-3 c =
+    tables-other _ _ (c .before .before .before .before .before .pre .1 .1) (long (c .before .before .before .before .before)) _ _ _ (sym (c .before .before .before .is-sound .ensures) ∙ not-false _ (c .before .before .if1 .left)) (c .before .if2 .left) (c .if3 .taken)
 
--- src/stamp.rt:137:24
 slice-aggregate-counts-at-most : tie.Need-slice-aggregate-counts-at-most
 slice-aggregate-counts-at-most c = search needs
 
--- src/stamp.rt:137:29
 add-counts-at-most : tie.Need-add-counts-at-most
 add-counts-at-most c = search needs
 
--- src/stamp.rt:137:42
 mul-counts-at-most : tie.Need-mul-counts-at-most
 mul-counts-at-most c = search needs
 
--- src/stamp.rt:137:55
 sub-counts-at-most : tie.Need-sub-counts-at-most
 sub-counts-at-most c = search needs
 
--- src/stamp.rt:137:9
 counts-at-most-requires : tie.Need-counts-at-most-requires
-counts-at-most-requires c κs = ?
+counts-at-most-requires c κs = omega (arith, long (c .before .before .before .before .before .before))
 
--- src/stamp.rt:122:5
 returns-4 : tie.Need-returns-4
-returns-4 c = ?
+returns-4 c =
+    c .counts-at-most .ensures ∙ tables-above _ _ (c .before .before .before .before .before .before .before .pre .1 .1) (long (c .before .before .before .before .before .before .before)) _ _ _ (sym (c .before .before .before .before .before .is-sound .ensures) ∙ not-false _ (c .before .before .before .before .if1 .left)) (c .before .before .before .if2 .left) (c .before .before .if3 .left)
 
 pub is-sound-for-spec : {M : Type 1} → statement M
 is-sound-for-spec =

@@ -1,11 +1,11 @@
+-- `timestamp::stamp::Timestamp::replaced` meets its contract: the zeros are those of 2ε counts and of the places past them, whatever ε is.
+-- Assumes nothing.
+use Rattle.timestamp.proofs.Steps.{replaced-widened}
 use Rattle.timestamp.proofs.stamp.Timestamp.replaced.Statement.{statement}
 use Rattle.timestamp.proofs.stamp.Timestamp.replaced.Tie as tie
-use Rattle.timestamp.proofs.stamp.Timestamp.replaced.Reads as reads
-use Rattle.timestamp.proofs.stamp.Timestamp.replaced.Lts as lts
 
--- src/stamp.rt:37:5
 returns : tie.Need-returns
-returns c = ?
+returns c = λ epsilon h. replaced-widened epsilon _ h
 
 pub replaced-spec : {M : Type 1} → statement M
 replaced-spec = tie.close (tie.spec returns)

@@ -1,34 +1,34 @@
+-- `timestamp::stamp::Timestamp::step` meets its contract: the counts but the first are copied, and what stands past them is 0.
+-- Assumes nothing.
+use Rattle.timestamp.proofs.Steps.{step-widened}
+use mathlib.Core.Path.{_≡_}
+use native.Mathlib.Omega.{arith}
+use lib.ListN.{length}
 use borrow.Author.Needs.{needs}
 use Rattle.timestamp.proofs.stamp.Timestamp.step.Statement.{statement}
 use Rattle.timestamp.proofs.stamp.Timestamp.step.Tie as tie
-use Rattle.timestamp.proofs.stamp.Timestamp.step.Reads as reads
-use Rattle.timestamp.proofs.stamp.Timestamp.step.Lts as lts
-use Rattle.timestamp.proofs.stamp.counts_of.Reads as counts-of-reads
-use Rattle.timestamp.proofs.stamp.one_less.Reads as one-less-reads
 
--- src/stamp.rt:64:28
+long : (c : tie.Start) → length (c .args .self .kn) ≡ 32
+long c = search needs
+
 slice-aggregate-counts-of : tie.Need-slice-aggregate-counts-of
 slice-aggregate-counts-of c = search needs
 
--- src/stamp.rt:64:37
 mul-counts-of : tie.Need-mul-counts-of
 mul-counts-of c = search needs
 
--- src/stamp.rt:64:37
 sub-counts-of : tie.Need-sub-counts-of
 sub-counts-of c = search needs
 
--- src/stamp.rt:64:13
 counts-of-requires : tie.Need-counts-of-requires
-counts-of-requires c κs = ?
+counts-of-requires c κs = omega (arith, long (c .before .before))
 
--- src/stamp.rt:67:16
 one-less-requires : tie.Need-one-less-requires
 one-less-requires c κs = search needs
 
--- src/stamp.rt:59:5
 returns : tie.Need-returns
-returns c = ?
+returns c =
+    step-widened _ _ (c .before .before .before .before .pre .1) (long (c .before .before .before .before)) _ _ _ (c .before .before .before .before .pre .0) (c .one-less .ensures) (c .before .counts-of .ensures)
 
 pub step-spec : {M : Type 1} → statement M
 step-spec =
