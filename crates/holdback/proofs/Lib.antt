@@ -5,3 +5,4 @@ pub mod Reading
 pub mod Sound
 pub mod Seen
 pub mod Order
+pub mod Changes
