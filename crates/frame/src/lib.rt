@@ -1,0 +1,11 @@
+// The frame: its form, the reader and the writer.
+mod form;
+mod writer;
+
+pub use form::byte_at;
+pub use form::c_of;
+pub use form::frame_end;
+pub use form::r_of;
+pub use form::station_of;
+pub use form::two_at;
+pub use form::well_formed;
