@@ -1,1 +1,5 @@
 pub mod Numbers
+pub mod Lists
+pub mod Lex
+pub mod Sorted
+pub mod InsertionSort
