@@ -1,9 +1,14 @@
 // The form of a frame: where its counts say that it ends, whether they are right, and what stands at its fixed places.
 // Any bytes get an answer; a place past the end reads as 0.
+use timestamp::Timestamp;
+use timestamp::counts_of;
 ghost use mathlib.Core.Path.{_≡_};
+ghost use mathlib.Core.Bool.{true};
 ghost use Prim.Native.Nat.{ℕ, _+_, _^_, _≤_, _<_};
 ghost use lib.ListN.{getD};
 ghost use Rattle.model.specs.Frame.{twoAt, frameEnd, wellFormed, decode};
+ghost use Rattle.model.specs.Timestamp.{widened};
+ghost use Rattle.timestamp.specs.Views.{stampOf};
 
 // The byte at a position.
 pub fn byte_at(s: &[u8], at: usize) -> u8
@@ -68,4 +73,15 @@ pub fn c_of(s: &[u8]) -> usize
     ensures { λ r. ⌜ ((epsilon : ℕ) → r ≡ decode epsilon (now (s .entry)) .stamp .c) ⌝ }
 {
     byte_at(s, 5) as usize
+}
+
+// 01: the stamp of a well-formed frame, by value; the places past its 2ε counts are 0.
+pub fn stamp_of(epsilon: usize, s: &[u8]) -> Timestamp
+    requires { ⌜ (epsilon ≤ 16) × (wellFormed epsilon (now s) ≡ true) ⌝ }
+    ensures { λ r. ⌜ stampOf r ≡ widened (decode epsilon (now (s .entry)) .stamp) ⌝ }
+{
+    let kn = counts_of(s, 6, 2 * epsilon);
+    let r = r_of(s);
+    let c = c_of(s);
+    Timestamp { r, c, kn }
 }
