@@ -1,14 +1,17 @@
-// The form of a frame: where its counts say that it ends, whether they are right, and what stands at its fixed places.
+// The form of a frame and its questions 10 to 12: where its counts say that it ends, whether they are right, and what stands at its fixed places.
 // Any bytes get an answer; a place past the end reads as 0.
+use timestamp::Setup;
 use timestamp::Timestamp;
 use timestamp::counts_of;
 ghost use mathlib.Core.Path.{_≡_};
 ghost use mathlib.Core.Bool.{true};
 ghost use Prim.Native.Nat.{ℕ, _+_, _^_, _≤_, _<_};
 ghost use lib.ListN.{getD};
+ghost use Rattle.model.specs.Setup.{inLimits};
 ghost use Rattle.model.specs.Frame.{twoAt, frameEnd, wellFormed, decode};
 ghost use Rattle.model.specs.Timestamp.{widened};
-ghost use Rattle.timestamp.specs.Views.{stampOf};
+ghost use Rattle.model.specs.Question.{firstNo, frameQuestions};
+ghost use Rattle.timestamp.specs.Views.{setupOf, stampOf};
 
 // The byte at a position.
 pub fn byte_at(s: &[u8], at: usize) -> u8
@@ -84,4 +87,28 @@ pub fn stamp_of(epsilon: usize, s: &[u8]) -> Timestamp
     let r = r_of(s);
     let c = c_of(s);
     Timestamp { r, c, kn }
+}
+
+// 01, 10 to 12: the number of the first no, or 0.
+pub fn check(setup: Setup, s: &[u8]) -> u8
+    requires { ⌜ inLimits (setupOf setup) ≡ true ⌝ }
+    ensures { λ r. ⌜ r ≡ firstNo (frameQuestions (setupOf setup) (now (s .entry))) ⌝ }
+{
+    let n = setup.n as usize;
+    let epsilon = setup.epsilon as usize;
+    let modulus = setup.modulus as usize;
+    if !well_formed(epsilon, s) {
+        return 10;
+    }
+    if n <= station_of(s) {
+        return 11;
+    }
+    if modulus <= r_of(s) {
+        return 11;
+    }
+    let stamp = stamp_of(epsilon, s);
+    if !stamp.is_sound(n, epsilon) {
+        return 12;
+    }
+    0
 }

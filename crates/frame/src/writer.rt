@@ -1,5 +1,7 @@
-// The writer.
+// The writer alone: any setup, numbers, payload and buffer get an answer; a refusal writes nothing.
+use timestamp::Setup;
 use timestamp::Timestamp;
+use timestamp::in_limits;
 ghost use mathlib.Core.Path.{_≡_};
 ghost use mathlib.Core.List.{_∷_};
 ghost use Prim.Native.Nat.{_+_, _*_, _≤_, _<_};
@@ -7,10 +9,13 @@ ghost use lib.ListN.{length};
 ghost use Rattle.laws.specs.Lists.{overlay};
 ghost use Rattle.model.specs.Frame.{section, twoBytes};
 ghost use Rattle.model.specs.Timestamp.{trimmed};
-ghost use Rattle.model.specs.Codec.{frameOf};
+ghost use Rattle.model.specs.Question.{firstNo};
+ghost use Rattle.model.specs.Codec.{frameOf, writeQuestions};
+ghost use Rattle.model.specs.Codec as codec;
 ghost use Rattle.splice.specs.Bytes.{pasted};
-ghost use Rattle.timestamp.specs.Views.{stampOf};
+ghost use Rattle.timestamp.specs.Views.{setupOf, stampOf};
 ghost use Rattle.frame.specs.Lay.{Room, Laid};
+ghost use Rattle.frame.specs.Answers.{writeAnswer};
 
 // 01: the first section, "3 (station, r in two bytes)", laid down at the front.
 fn put_node(out: &mut [u8], station: usize, r: usize)
@@ -59,4 +64,61 @@ pub fn lay(
     let at = 6 + 2 * epsilon;
     put_payload(&mut out[at..], payload);
     at + 1 + payload.len()
+}
+
+// What the writer answers.
+pub struct Written {
+    // 0, or the number of the first no
+    pub number: u8,
+    // how many bytes it wrote
+    pub size: usize,
+}
+
+// 01: "the writer asks 1, 4, 11, 12, then 6 if its buffer is shorter than this frame": the number of the first no, or 0.
+fn check_write(setup: Setup, station: usize, stamp: Timestamp, payload: &[u8], out: &[u8]) -> u8
+    ensures {
+        λ r. ⌜ r ≡ firstNo (writeQuestions (setupOf setup)
+        (frameOf (setup .epsilon) station (stampOf stamp) (now (payload .entry)))
+        (now (out .entry))) ⌝
+    }
+{
+    if !in_limits(setup) {
+        return 1;
+    }
+    let n = setup.n as usize;
+    let epsilon = setup.epsilon as usize;
+    let modulus = setup.modulus as usize;
+    if 32 < payload.len() {
+        return 4;
+    }
+    if n <= station {
+        return 11;
+    }
+    if modulus <= stamp.r {
+        return 11;
+    }
+    if !stamp.is_sound(n, epsilon) {
+        return 12;
+    }
+    if out.len() < 7 + 2 * epsilon + payload.len() {
+        return 6;
+    }
+    0
+}
+
+// The writer.
+pub fn write(setup: Setup, station: usize, stamp: Timestamp, payload: &[u8], out: &mut [u8]) -> Written
+    ensures {
+        λ r. ⌜ writeAnswer r (now (out .exit))
+        ≡ codec.write (setupOf setup)
+        (frameOf (setup .epsilon) station (stampOf stamp) (now (payload .entry)))
+        (now (out .entry)) ⌝
+    }
+{
+    let number = check_write(setup, station, stamp, payload, out);
+    if number != 0 {
+        return Written { number, size: 0 };
+    }
+    let size = lay(setup.epsilon as usize, station, stamp, payload, out);
+    Written { number: 0, size }
 }
