@@ -1,7 +1,7 @@
 // The reader alone: any setup and any bytes get an answer.
-use form::check;
-use form::stamp_of;
-use form::station_of;
+use crate::form::check;
+use crate::form::stamp_of;
+use crate::form::station_of;
 use timestamp::Setup;
 use timestamp::Timestamp;
 use timestamp::in_limits;

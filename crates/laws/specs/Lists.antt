@@ -4,7 +4,7 @@ use Prim.Native.Nat.{ℕ, zero, suc, _-_, max}
 use mathlib.Core.Bool.{Bool, true, false, _&&_, _||_, not, cond}
 use mathlib.Core.List.{List, [], _∷_, _++_}
 use lib.ListN.{length, take, drop, replicate}
-use lib.Dec.{leb}
+use lib.Dec.{leb, eqb}
 
 -- lo ≤ x ≤ hi
 unfoldable pub within : ℕ → ℕ → ℕ → Bool
@@ -51,6 +51,18 @@ module _ {A : Type 0} where
   apart same [] = true
   apart same (x ∷ xs) = not (any (same x) xs) && apart same xs
 
+  -- the elements put in order, one after the other, each after those that come before it
+  unfoldable pub sortBy : (A → A → Bool) → List A → List A
+  sortBy less [] = []
+  sortBy less (x ∷ xs) =
+      let rest : List A = sortBy less xs in
+      insertAt (leading (λ y. less y x) rest) x rest
+
+  -- the elements of which the test holds at their position, counted from i
+  unfoldable pub selectFrom : (ℕ → A → Bool) → ℕ → List A → List A
+  selectFrom p i [] = []
+  selectFrom p i (x ∷ xs) = cond (p i x) (x ∷ selectFrom p (suc i) xs) (selectFrom p (suc i) xs)
+
   -- new at the front of old's place, the rest of old as it was
   unfoldable pub overlay : List A → List A → List A
   overlay new old = new ++ drop (length new) old
@@ -65,6 +77,13 @@ module _ {A B : Type 0} where
 unfoldable pub largest : List ℕ → ℕ
 largest [] = 0
 largest (x ∷ xs) = max x (largest xs)
+
+-- the two lists are the same
+unfoldable pub sameList : List ℕ → List ℕ → Bool
+sameList [] [] = true
+sameList [] (y ∷ ys) = false
+sameList (x ∷ xs) [] = false
+sameList (x ∷ xs) (y ∷ ys) = eqb x y && sameList xs ys
 
 -- the list, then zeros up to n places
 unfoldable pub padded : ℕ → List ℕ → List ℕ

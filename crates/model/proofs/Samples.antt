@@ -175,3 +175,39 @@ pub refusals-hold :
     (1 ∷ 4 ∷ [])
 unfolding computing
 refusals-hold = refl
+
+-- a shelf of these frames
+abbrev stored : List Frame → List ℕ
+stored queue = encodeHoldback (holdbackSize usual) queue
+
+-- a silent tick at a clock, from fresh tables one before it, with these frames on the shelf
+abbrev holding : ℕ → ℕ → List Frame → Output
+holding before clock queue = tick (call usual clock (widened (fresh 2 before)) (stored queue) false [] silent)
+
+-- A with another count: the same station and r
+abbrev A′ : Frame
+A′ = frame 2 0 (1 ∷ 2 ∷ 1 ∷ 0 ∷ [])
+
+-- what a shelf must be, and when a frame is handed out: the mend, and the frames handed out
+pub queues : List Case
+queues =
+    -- "strictly in order": A before the frame sent at ★a's tick
+    says (holding 0 1 (A ∷ S ∷ []) .answer .repair ∷ []) (0 ∷ [])
+    ∷ says (holding 0 1 (S ∷ A ∷ []) .answer .repair ∷ []) (2 ∷ [])
+    ∷ says (holding 0 1 (A ∷ A ∷ []) .answer .repair ∷ []) (2 ∷ [])
+    -- "no station and r twice", though in order
+    ∷ says (holding 0 1 (A ∷ A′ ∷ []) .answer .repair ∷ []) (2 ∷ [])
+    -- "each sum at most ε − 1 past v"
+    ∷ says (holding 13 0 (A ∷ []) .answer .repair ∷ []) (2 ∷ [])
+    -- "each sum + δ + ε not before v"
+    ∷ says (holding 5 6 (A ∷ []) .answer .repair ∷ []) (2 ∷ [])
+    -- a frame is handed out in the tick for its due clock, and not before
+    ∷ says (holding 3 4 (A ∷ []) .answer .delivered ∷ holding 4 5 (A ∷ []) .answer .delivered ∷ []) (0 ∷ 1 ∷ [])
+    -- "Handing out before the bundle of that tick is judged" goes wrong: A is heard and handed out at 5
+    ∷ says
+    (tick (call usual 5 (widened (fresh 2 4)) (stored []) false [] (one (encode A))) .answer .delivered ∷ []) (1 ∷ [])
+    ∷ []
+
+pub queues-hold : map (λ (k : Case). k .computed) queues ≡ map (λ (k : Case). k .stated) queues
+unfolding queues computing
+queues-hold = refl

@@ -6,7 +6,7 @@ use mathlib.Core.Bool.{Bool, _&&_, not, cond}
 use mathlib.Core.List.{List, [], _∷_, _++_, map}
 use lib.Dec.{leb, eqb}
 use lib.ListN.{getD, set}
-use Rattle.laws.specs.Lists.{tab, any, select, leading, insertAt, largest}
+use Rattle.laws.specs.Lists.{tab, any, select, sortBy, largest}
 use Rattle.laws.specs.Lex.{lexCompare, isLess}
 
 -- ⟨r, c, kn⟩, the timestamp of an event; entry i of kn is kn[i − ε]
@@ -74,10 +74,7 @@ deliverable epsilon delta rt m = eqb rt (m .event .r + m .event .c + delta + eps
 
 -- messages put in the order of `less`
 unfoldable pub inOrder : ℕ → List Message → List Message
-inOrder epsilon [] = []
-inOrder epsilon (m ∷ ms) =
-    let rest : List Message = inOrder epsilon ms in
-    insertAt (leading (λ m′. less epsilon m′ m) rest) m rest
+inOrder epsilon messages = sortBy (less epsilon) messages
 
 -- a process sends one message at a clock, so sender and r tell a message
 unfoldable pub sameMessage : Message → Message → Bool

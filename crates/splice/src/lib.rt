@@ -1,0 +1,91 @@
+// Changes to a byte buffer in place: copy into it, move a part of it left or right, clear a part,
+// insert into and cut from the bytes in use, and write a two-byte number.
+//
+// Each contract is one equation: the buffer at exit is a definition of `specs/Bytes.antt` at the
+// buffer at entry. Each `requires` keeps the indices within the buffer; the callers are inside this
+// library and meet it by tests of their own.
+ghost use mathlib.Core.Path.{_≡_};
+ghost use Prim.Native.Nat.{_+_, _≤_, _<_};
+ghost use lib.ListN.{length};
+ghost use Rattle.splice.specs.Bytes.{pasted, part, cleared, inserted, cutOut, twoBytes};
+
+// Copies all of src into dst from index at.
+pub fn copy_into(dst: &mut [u8], at: usize, src: &[u8])
+    requires { ⌜ at + length (now src) ≤ length (now dst) ⌝ }
+    ensures { λ _. ⌜ now (dst .exit) ≡ pasted (now (dst .entry)) at (now (src .entry)) ⌝ }
+{
+    let n = src.len();
+    let mut i = 0;
+    while i < n {
+        dst[at + i] = src[i];
+        i += 1;
+    }
+}
+
+// Moves the len bytes at from to the lower index to; the two places may overlap.
+pub fn move_left(buf: &mut [u8], from: usize, to: usize, len: usize)
+    requires { ⌜ (to ≤ from) × (from + len ≤ length (now buf)) ⌝ }
+    ensures { λ _. ⌜ now (buf .exit) ≡ pasted (now (buf .entry)) to (part (now (buf .entry)) from len) ⌝ }
+{
+    let mut done = 0;
+    while done < len {
+        buf[to + done] = buf[from + done];
+        done += 1;
+    }
+}
+
+// Moves the len bytes at from to the higher index to, the last one first; the two places may
+// overlap.
+pub fn move_right(buf: &mut [u8], from: usize, to: usize, len: usize)
+    requires { ⌜ (from ≤ to) × (to + len ≤ length (now buf)) ⌝ }
+    ensures { λ _. ⌜ now (buf .exit) ≡ pasted (now (buf .entry)) to (part (now (buf .entry)) from len) ⌝ }
+{
+    let mut rest = len;
+    while 0 < rest {
+        rest -= 1;
+        buf[to + rest] = buf[from + rest];
+    }
+}
+
+// Writes 0 at each index from from up to, not including, to.
+pub fn clear(buf: &mut [u8], from: usize, to: usize)
+    requires { ⌜ (from ≤ to) × (to ≤ length (now buf)) ⌝ }
+    ensures { λ _. ⌜ now (buf .exit) ≡ cleared (now (buf .entry)) from to ⌝ }
+{
+    let len = to - from;
+    let mut k = 0;
+    while k < len {
+        buf[from + k] = 0;
+        k += 1;
+    }
+}
+
+// Puts src in before index at. The first used bytes of buf are in use, and those from at on make
+// room.
+pub fn insert(buf: &mut [u8], used: usize, at: usize, src: &[u8])
+    requires { ⌜ (at ≤ used) × (used + length (now src) ≤ length (now buf)) ⌝ }
+    ensures { λ _. ⌜ now (buf .exit) ≡ inserted (now (buf .entry)) used at (now (src .entry)) ⌝ }
+{
+    move_right(buf, at, at + src.len(), used - at);
+    copy_into(buf, at, src);
+}
+
+// Takes out the len bytes at at. The first used bytes of buf are in use; those after the cut move
+// left, and the place that is freed is cleared.
+pub fn cut(buf: &mut [u8], used: usize, at: usize, len: usize)
+    requires { ⌜ (at + len ≤ used) × (used ≤ length (now buf)) ⌝ }
+    ensures { λ _. ⌜ now (buf .exit) ≡ cutOut (now (buf .entry)) used at len ⌝ }
+{
+    let end = at + len;
+    move_left(buf, end, at, used - end);
+    clear(buf, used - len, used);
+}
+
+// Writes value at at as two bytes, the low one first.
+pub fn put_u16(buf: &mut [u8], at: usize, value: usize)
+    requires { ⌜ (at + 2 ≤ length (now buf)) × (value < 65536) ⌝ }
+    ensures { λ _. ⌜ now (buf .exit) ≡ pasted (now (buf .entry)) at (twoBytes value) ⌝ }
+{
+    buf[at] = (value % 256) as u8;
+    buf[at + 1] = (value / 256) as u8;
+}

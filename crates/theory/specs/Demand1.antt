@@ -1,0 +1,13 @@
+-- Demand 1: "A call that fails a check returns that check's number and changes nothing. Every other call is accepted, whatever its tables and shelf hold."
+-- (That any call gets a finished answer is the checker's part: every function is total.)
+use Prim.Native.Nat.{ℕ, suc}
+use mathlib.Core.Path.{_≡_}
+use Rattle.model.specs.Question.{firstNo}
+use Rattle.model.specs.Tick.{Input, callQuestions, refusal, acceptance, tick}
+
+pub record Demand1 (i : Input) : Type 0 where
+  -- "the answer is that number and the tables as given, all else 0, and all buffers keep their contents"
+  pub refused : (k : ℕ) → firstNo (callQuestions i) ≡ suc k → tick i ≡ refusal i (suc k)
+  -- "A call is accepted exactly if none of its questions gets a no, and refused otherwise"
+  pub accepted : firstNo (callQuestions i) ≡ 0 → tick i ≡ acceptance i
+  pub number : tick i .answer .number ≡ firstNo (callQuestions i)

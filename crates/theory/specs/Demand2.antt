@@ -1,0 +1,133 @@
+-- Demand 2: from any state, and from fresh stations.
+use Prim.Native.Nat.{ℕ, _+_, _%_}
+use mathlib.Core.Path.{_≡_}
+use mathlib.Core.Bool.{Bool, true, false, cond}
+use mathlib.Core.List.{List, [], _∷_, _++_, map}
+use mathlib.Core.Option.{Option, none, some}
+use lib.ListN.{length, take, getD, set, getElem?}
+use Rattle.laws.specs.Lists.{overlay}
+use Rattle.model.specs.Setup.{Setup}
+use Rattle.model.specs.Timestamp.{Timestamp, trimmed, widened, soundTables}
+use Rattle.model.specs.Frame.{Frame, encode}
+use Rattle.model.specs.Batch.{batchEntries}
+use Rattle.model.specs.Holdback.{heldBytes, encodeFrames}
+use Rattle.model.specs.Question.{firstNo}
+use Rattle.model.specs.Judge.{Heard, hear, judgeQuestions}
+use Rattle.model.specs.Tick.{Input, openingStamp, openingQueue, takenCount, tick}
+use Rattle.model.specs.Published.{Event, Message, Process, newOnes, eventOf, messageOf, deliveredAt, advanced, started}
+use Rattle.model.specs.Run.{Node, Origin, sentBy, stale, Call, Done, isAccepted, runFrom, atStart}
+use Rattle.theory.specs.Premises.{goodStart, largestClock, keeps, Fresh, noneStale}
+
+-- what a tick has heard before its entry k
+unfoldable pub heardBefore : Input → ℕ → Heard
+heardBefore i k =
+    hear (i .setup) (i .clock) (record { stamp = openingStamp i; queue = openingQueue i; verdicts = [] })
+    (take k (batchEntries (i .batch)))
+
+-- From any state, of an accepted call
+pub record AnyState (i : Input) : Type 0 where
+  -- "each verdict is the number of the first check failed", or 0: one byte a frame, asked of the shelf as it is at that moment
+  pub verdict :
+      (k : ℕ) (entry : List ℕ) → getElem? (batchEntries (i .batch)) k ≡ some entry
+      → getD (tick i .verdicts) k 0 ≡ firstNo (judgeQuestions (i .setup) (i .clock) (heardBefore i k .queue) entry)
+  -- "the figures count what they say": taken counts the 0s, handed out the frames of the hand-out
+  pub taken : tick i .answer .taken ≡ takenCount (take (length (batchEntries (i .batch))) (tick i .verdicts))
+  pub delivered : tick i .answer .delivered ≡ length (heldBytes (i .setup .epsilon) (tick i .delivery))
+  -- "Stamps stay within their bounds after every tick"
+  pub bounded :
+      soundTables (i .setup .n) (i .setup .epsilon) (i .setup .modulus) ((i .clock + 1) % i .setup .modulus)
+      (trimmed (i .setup .epsilon) (tick i .answer .tables)) ≡ true
+
+abbrev pub Demand2Any : Type 0
+Demand2Any = (i : Input) → tick i .answer .number ≡ 0 → AnyState i
+
+-- The published program, run over the same calls: all processes, and what each call sent
+pub record Published : Type 0 where
+  pub processes : List Process
+  pub sent : List (Option Message)
+
+-- the message that an entry is from
+abbrev pub messagesFrom : Option (Option Message) → List Message → List Message
+messagesFrom none rest = rest
+messagesFrom (some none) rest = rest
+messagesFrom (some (some m)) rest = m ∷ rest
+
+unfoldable pub messagesHeard : List (Option Message) → List Origin → List Message
+messagesHeard sent [] = []
+messagesHeard sent (sentBy k ∷ os) = messagesFrom (getElem? sent k) (messagesHeard sent os)
+messagesHeard sent (stale ∷ os) = messagesHeard sent os
+
+-- what one call makes of a process of the published program
+pub record Outcome : Type 0 where
+  pub fresh : List Message
+  pub last : Event
+  pub message : Message
+  pub delivered : List Message
+
+unfoldable pub outcomeOf : Setup → List (Option Message) → Process → Done → Outcome
+outcomeOf s sent p d =
+    record {
+      fresh = newOnes (p .received) (messagesHeard sent (d .call .origins));
+      last = eventOf (s .epsilon) (d .clock) p (messagesHeard sent (d .call .origins));
+      message = messageOf (s .epsilon) (d .clock) p (messagesHeard sent (d .call .origins)) (d .call .payload);
+      delivered = deliveredAt (s .epsilon) (s .delta) (d .clock) p (messagesHeard sent (d .call .origins));
+    }
+
+-- an accepted call is an event of its process, a refused one is none
+abbrev pub publishOn : Setup → Published → Done → Bool → Option Process → Published
+publishOn s w d accepted none = record { processes = w .processes; sent = w .sent ++ (none ∷ []) }
+publishOn s w d false (some p) = record { processes = w .processes; sent = w .sent ++ (none ∷ []) }
+publishOn s w d true (some p) =
+    record {
+      processes =
+          set (w .processes) (d .node)
+          (advanced (s .epsilon) (s .delta) (d .clock) p (messagesHeard (w .sent) (d .call .origins)));
+      sent = w .sent ++ (cond (d .call .send) (some (outcomeOf s (w .sent) p d .message)) none ∷ []);
+    }
+
+unfoldable pub publish : Setup → Published → Done → Published
+publish s w d = publishOn s w d (isAccepted (d .output)) (getElem? (w .processes) (d .node))
+
+unfoldable pub publishAll : Setup → Published → List Done → Published
+publishAll s w [] = w
+publishAll s w (d ∷ ds) = publishAll s (publish s w d) ds
+
+-- the published program's processes, fresh at the stations' clocks
+unfoldable pub publishedStart : Setup → List Node → Published
+publishedStart s nodes =
+    record { processes = map (λ (node : Node). started (s .epsilon) (node .own) (node .clock)) nodes; sent = [] }
+
+-- "reduced modulo B"
+unfoldable pub reduced : ℕ → Event → Timestamp
+reduced modulus e = record { r = e .r % modulus; c = e .c; kn = e .kn }
+
+unfoldable pub reducedFrame : ℕ → Message → Frame
+reducedFrame modulus m = record { station = m .sender; stamp = reduced modulus (m .event); payload = m .content }
+
+-- "every tick does exactly what the published program does with clocks that never wrap, reduced modulo B"
+pub record SameAs (s : Setup) (o : Outcome) (d : Done) : Type 0 where
+  pub tables : d .output .answer .tables ≡ widened (reduced (s .modulus) (o .last))
+  pub repair : d .output .answer .repair ≡ 0
+  -- each message heard is taken once: "the published program passes over a repeat"
+  pub taken : d .output .answer .taken ≡ length (o .fresh)
+  pub outgoing :
+      d .output .outgoing
+      ≡ overlay (cond (d .call .send) (encode (reducedFrame (s .modulus) (o .message))) []) (d .call .outgoing)
+  pub sent :
+      d .output .answer .sent ≡ length (cond (d .call .send) (encode (reducedFrame (s .modulus) (o .message))) [])
+  pub delivery :
+      d .output .delivery ≡ overlay (encodeFrames (map (reducedFrame (s .modulus)) (o .delivered))) (d .call .delivery)
+  pub delivered : d .output .answer .delivered ≡ length (o .delivered)
+
+-- the process of the call's station, as the calls before it left it, does the same
+abbrev pub Matched : Setup → Published → Done → Type 0
+Matched s w d =
+    (p : Process) × (getElem? (w .processes) (d .node) ≡ some p) × SameAs s (outcomeOf s (w .sent) p d) d
+
+-- From fresh stations: of every accepted call of the list
+abbrev pub Demand2Fresh : Type 0
+Demand2Fresh =
+    (s : Setup) (nodes : List Node) (calls : List Call) → goodStart s nodes ≡ true → Fresh s nodes
+    → keeps s (largestClock nodes) (atStart nodes) calls ≡ true → noneStale (runFrom (atStart nodes) calls .past) ≡ true
+    → (j : ℕ) (d : Done) → getElem? (runFrom (atStart nodes) calls .past) j ≡ some d → isAccepted (d .output) ≡ true
+    → Matched s (publishAll s (publishedStart s nodes) (take j (runFrom (atStart nodes) calls .past))) d

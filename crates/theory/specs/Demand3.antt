@@ -1,0 +1,104 @@
+-- Demand 3 in full: one statement about the whole list of calls.
+use Prim.Native.Nat.{ℕ, _+_, _*_, _%_, _<_}
+use mathlib.Core.Path.{_≡_}
+use mathlib.Core.Bool.{Bool, true, false, _&&_, _||_, cond}
+use mathlib.Core.List.{List, [], _∷_, map}
+use mathlib.Core.Option.{some}
+use lib.Dec.{leb, eqb}
+use lib.ListN.{take, getD, getElem?}
+use Rattle.laws.specs.Lists.{any, select, selectFrom, sortBy}
+use Rattle.laws.specs.Lex.{lexCompare, isLess}
+use Rattle.model.specs.Setup.{Setup}
+use Rattle.model.specs.Timestamp.{Timestamp, near}
+use Rattle.model.specs.Frame.{decode}
+use Rattle.model.specs.Order.{key, due}
+use Rattle.model.specs.Holdback.{heldBytes}
+use Rattle.model.specs.Codec.{WriteAnswer, frameOf, write}
+use Rattle.model.specs.Run.{Node, Origin, sentBy, stale, Call, Done, isAccepted, runFrom, atStart, sends, messageBytes, messageFrame}
+use Rattle.theory.specs.Premises.{withOwn, goodStart, largestClock, keeps}
+
+-- 01: "T for X + δ + 3ε"
+unfoldable pub coveredFrom : Setup → ℕ → ℕ
+coveredFrom s x = x + s .delta + 3 * s .epsilon
+
+-- 01: a message "is covered if r is at least T"; "its r here is that call's true clock"
+unfoldable pub covered : Setup → ℕ → Done → Bool
+covered s x m = sends m && leb (coveredFrom s x) (m .clock)
+
+-- an entry that comes from the call at position k
+unfoldable pub isFrom : ℕ → Origin → Bool
+isFrom k (sentBy j) = eqb k j
+isFrom k stale = false
+
+-- 01: "heard where an accepted call's bundle has an entry from it"
+unfoldable pub heardIn : ℕ → ℕ → Done → Bool
+heardIn node k d = isAccepted (d .output) && (eqb (d .node) node && any (isFrom k) (d .call .origins))
+
+-- 01: "due at v": sum + δ + ε equals v
+unfoldable pub dueAt : Setup → ℕ → Done → Bool
+dueAt s v m = eqb (due (s .epsilon) (s .delta) (m .clock) (messageFrame m .stamp .c)) v
+
+-- 01: "the order of two stamps", each with its true clock
+unfoldable pub messageKey : Setup → Done → List ℕ
+messageKey s m = key (s .epsilon) (m .clock) (messageFrame m)
+
+unfoldable pub earlier : Setup → Done → Done → Bool
+earlier s m m′ = isLess (lexCompare (messageKey s m) (messageKey s m′))
+
+-- 01: "the covered messages heard there so far (this call too) that are due at v, each once"
+unfoldable pub dueHere : Setup → ℕ → List Done → ℕ → ℕ → List Done
+dueHere s x past node v = selectFrom (λ k m. covered s x m && (dueAt s v m && any (heardIn node k) past)) 0 past
+
+-- 01: a handed-out frame "whose r, read near v, is at least T"; v reads B
+unfoldable pub coveredFrame : Setup → ℕ → ℕ → List ℕ → Bool
+coveredFrame s x v bytes =
+    leb (s .modulus + coveredFrom s x)
+    (near (s .epsilon) (s .modulus) (v % s .modulus) (decode (s .epsilon) bytes .stamp .r) + v)
+
+-- 01: the tables' new c and counts, with the clock modulo B
+unfoldable pub newTimestamp : Setup → Done → Timestamp
+newTimestamp s d = record { r = d .clock % s .modulus; c = d .output .answer .tables .c; kn = d .output .answer .tables .kn }
+
+-- the writer's answer for that call's sending
+unfoldable pub written : Setup → Done → WriteAnswer
+written s d =
+    write (withOwn s (d .own)) (frameOf (s .epsilon) (d .own) (newTimestamp s d) (d .call .payload)) (d .call .outgoing)
+
+-- 01: "A call leads to later ones of its station, to those that take the message it sent, and on through such steps."
+pub data Leads (past : List Done) : ℕ → ℕ → Type 0 where
+  later :
+      {i j : ℕ} {a b : Done} → i < j → getElem? past i ≡ some a → getElem? past j ≡ some b → a .node ≡ b .node → Leads past i j
+  takes :
+      {i j : ℕ} {b : Done} (e : ℕ) → getElem? past j ≡ some b → isAccepted (b .output) ≡ true
+      → getElem? (b .call .origins) e ≡ some (sentBy i) → getD (b .output .verdicts) e 0 ≡ 0 → Leads past i j
+  on : {i j k : ℕ} → Leads past i j → Leads past j k → Leads past i k
+
+-- what demand 3 promises of a list of calls that have been made
+pub record Promised (s : Setup) (x : ℕ) (past : List Done) : Type 0 where
+  -- "From T on, an accepted call with a ticket to send sends the frame that the writer makes of its station, clock modulo B, new c and counts, and ticket."
+  pub sending :
+      (j : ℕ) (d : Done) → getElem? past j ≡ some d → covered s x d ≡ true
+      → (written s d .number ≡ 0) × (d .output .answer .sent ≡ written s d .size) × (d .output .outgoing ≡ written s d .buffer)
+  -- "On each board, in order of calls and entries, a covered message gets verdict 0 at its first hearing, 16 at each later one."
+  pub hearing :
+      (j : ℕ) (d : Done) → getElem? past j ≡ some d → isAccepted (d .output) ≡ true
+      → (e k : ℕ) (m : Done) → getElem? (d .call .origins) e ≡ some (sentBy k) → getElem? past k ≡ some m → covered s x m ≡ true
+      → getD (d .output .verdicts) e 0
+      ≡ cond (any (heardIn (d .node) k) (take j past) || any (isFrom k) (take e (d .call .origins))) 16 0
+  -- "In each accepted call for v, the handed-out frames whose r, read near v, is at least T are byte for byte the covered messages
+  -- heard there so far (this call too) that are due at v, each once, in the order of two stamps."
+  pub delivering :
+      (j : ℕ) (d : Done) → getElem? past j ≡ some d → isAccepted (d .output) ≡ true
+      → select (coveredFrame s x (d .clock)) (heldBytes (s .epsilon) (d .output .delivery))
+      ≡ map messageBytes (sortBy (earlier s) (dueHere s x (take (j + 1) past) (d .node) (d .clock)))
+  -- "A sending could have known of each message whose call leads to its own; where both are covered, that message comes first in the order of two stamps."
+  pub causality :
+      (i j : ℕ) (a b : Done) → Leads past i j → getElem? past i ≡ some a → getElem? past j ≡ some b
+      → covered s x a ≡ true → covered s x b ≡ true → earlier s a b ≡ true
+
+-- 01: "Demand 3 is one statement about the whole list, not one about each call."
+abbrev pub Demand3 : Type 0
+Demand3 =
+    (s : Setup) (nodes : List Node) (calls : List Call) → goodStart s nodes ≡ true
+    → keeps s (largestClock nodes) (atStart nodes) calls ≡ true
+    → Promised s (largestClock nodes) (runFrom (atStart nodes) calls .past)

@@ -1,0 +1,107 @@
+-- 01, "Premises of demands 2 and 3". Each is a test, so that a given list can be tried.
+use Prim.Native.Nat.{ℕ, _+_, _%_}
+use mathlib.Core.Path.{_≡_}
+use mathlib.Core.Bool.{Bool, true, false, _&&_, _||_, not}
+use mathlib.Core.List.{List, [], _∷_, map}
+use mathlib.Core.Option.{Option, none, some}
+use lib.Dec.{leb, eqb}
+use lib.ListN.{length, getElem?}
+use Rattle.laws.specs.Lists.{every, apart, largest, sameList}
+use Rattle.model.specs.Setup.{Setup, inLimits}
+use Rattle.model.specs.Timestamp.{fresh, widened}
+use Rattle.model.specs.Holdback.{encodeHoldback}
+use Rattle.model.specs.Batch.{batchEntries}
+use Rattle.model.specs.Tick.{holdbackSize}
+use Rattle.model.specs.Run.{Node, Origin, sentBy, stale, Call, Done, World, act, doneOf, isAccepted, sends, messageBytes}
+
+-- 01: "One valid setup, the own number aside"
+unfoldable pub withOwn : Setup → ℕ → Setup
+withOwn s own = record { n = s .n; epsilon = s .epsilon; delta = s .delta; modulus = s .modulus; own = own }
+
+unfoldable pub sameSetup : Setup → Setup → Bool
+sameSetup s t =
+    eqb (s .n) (t .n) && (eqb (s .epsilon) (t .epsilon) && (eqb (s .delta) (t .delta)
+    && (eqb (s .modulus) (t .modulus) && eqb (s .own) (t .own))))
+
+-- 01: "no two station clocks ever differ by more" than ε
+unfoldable pub together : ℕ → List Node → Bool
+together epsilon nodes = every (λ a. every (λ b. leb (a .clock) (b .clock + epsilon)) nodes) nodes
+
+-- 01: "distinct stations"
+unfoldable pub distinct : List Node → Bool
+distinct nodes = apart (λ a b. eqb (a .own) (b .own)) nodes
+
+-- 01: "The list starts from a clock for each station, any tables, and any shelf bytes of the exact length"
+unfoldable pub goodStart : Setup → List Node → Bool
+goodStart s nodes =
+    every (λ node. inLimits (withOwn s (node .own))) nodes && (distinct nodes && (together (s .epsilon) nodes
+    && every (λ node. eqb (length (node .holdback)) (holdbackSize s)) nodes))
+
+-- 01: "X is the largest of these clocks"
+unfoldable pub largestClock : List Node → ℕ
+largestClock nodes = largest (map (λ (node : Node). node .clock) nodes)
+
+-- 01: "an older frame is heard in no call for a clock past X + δ + ε"
+unfoldable pub staleUntil : Setup → ℕ → ℕ
+staleUntil s x = x + s .delta + s .epsilon
+
+-- the clock of the node at a position
+abbrev pub clockAt : Option Node → ℕ
+clockAt none = 0
+clockAt (some node) = node .clock
+
+-- 01: "a frame heard is one sent since, unaltered and not before its sending", and
+-- "a frame is heard while its sender's clock is at most δ past the sending", with the clocks as they stand after the call
+abbrev pub soundlySent : Setup → List Node → List ℕ → Option Done → Bool
+soundlySent s nodes entry none = false
+soundlySent s nodes entry (some d) =
+    sends d && (sameList entry (messageBytes d) && leb (clockAt (getElem? nodes (d .node))) (d .clock + s .delta))
+
+-- one entry of the batch of a call for v, by its origin: the calls before it, and the nodes after it
+abbrev pub entryAllowed : Setup → ℕ → List Done → List Node → ℕ → List ℕ → Origin → Bool
+entryAllowed s x past nodes v entry (sentBy k) = soundlySent s nodes entry (getElem? past k)
+entryAllowed s x past nodes v entry stale = leb v (staleUntil s x)
+
+-- 01: "Each bundle entry of an accepted call comes from one earlier call, or is an older frame of any bytes"
+unfoldable pub entriesAllowed : Setup → ℕ → List Done → List Node → ℕ → List (List ℕ) → List Origin → Bool
+entriesAllowed s x past nodes v [] [] = true
+entriesAllowed s x past nodes v [] (o ∷ os) = false
+entriesAllowed s x past nodes v (e ∷ es) [] = false
+entriesAllowed s x past nodes v (e ∷ es) (o ∷ os) =
+    entryAllowed s x past nodes v e o && entriesAllowed s x past nodes v es os
+
+-- 01: an accepted call has the one setup, "the true clock modulo B", keeps the drift limit, and hears what it may
+unfoldable pub acceptedWell : Setup → ℕ → World → Call → Done → Bool
+acceptedWell s x w call d =
+    sameSetup (call .setup) (withOwn s (d .own)) && (eqb (call .clock) (d .clock % s .modulus)
+    && (together (s .epsilon) (act w call .nodes)
+    && entriesAllowed s x (w .past) (act w call .nodes) (d .clock) (batchEntries (call .batch)) (call .origins)))
+
+-- 01: "A refused call may stand anywhere, given its station's tables and shelf and whatever else"
+abbrev pub allowedFor : Setup → ℕ → World → Call → Option Node → Bool
+allowedFor s x w call none = false
+allowedFor s x w call (some node) =
+    not (isAccepted (doneOf node call .output)) || acceptedWell s x w call (doneOf node call)
+
+unfoldable pub allowed : Setup → ℕ → World → Call → Bool
+allowed s x w call = allowedFor s x w call (getElem? (w .nodes) (call .node))
+
+-- the premises on a list of calls, from a world on
+unfoldable pub keeps : Setup → ℕ → World → List Call → Bool
+keeps s x w [] = true
+keeps s x w (call ∷ calls) = allowed s x w call && keeps s x (act w call) calls
+
+-- 01, demand 2: "every station is fresh at its own clock, its shelf empty"
+abbrev pub Fresh : Setup → List Node → Type 0
+Fresh s nodes =
+    (i : ℕ) (node : Node) → getElem? nodes i ≡ some node
+    → (node .tables ≡ widened (fresh (s .epsilon) (node .clock % s .modulus)))
+    × (node .holdback ≡ encodeHoldback (holdbackSize s) [])
+
+-- 01, demand 2: "no older frame exists"
+unfoldable pub isSent : Origin → Bool
+isSent (sentBy k) = true
+isSent stale = false
+
+unfoldable pub noneStale : List Done → Bool
+noneStale past = every (λ d. not (isAccepted (d .output)) || every isSent (d .call .origins)) past
