@@ -2,3 +2,5 @@
 pub mod Shape
 -- `Laying` has the laws of laying a frame down in a buffer.
 pub mod Laying
+-- `Asking` has the questions of reader and writer, one by one.
+pub mod Asking

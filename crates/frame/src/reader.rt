@@ -5,7 +5,6 @@ use crate::form::station_of;
 use timestamp::Setup;
 use timestamp::Timestamp;
 use timestamp::in_limits;
-
 ghost use mathlib.Core.Path.{_≡_};
 ghost use mathlib.Core.List.{[]};
 ghost use Rattle.model.specs.Question.{firstNo};
@@ -33,10 +32,8 @@ pub fn check_read(setup: Setup, frame: &[u8]) -> u8
 
 // The answer of the reader.
 pub fn read(setup: Setup, frame: &[u8]) -> Reading
-    ensures {
-        λ r. ⌜ readAnswer r (codec.read (setupOf setup) (now (frame .entry)) .payload)
-        ≡ codec.read (setupOf setup) (now (frame .entry)) ⌝
-    }
+    ensures { λ r. ⌜ readAnswer r (codec.read (setupOf setup) (now (frame .entry)) .payload)
+        ≡ codec.read (setupOf setup) (now (frame .entry)) ⌝ }
 {
     let number = check_read(setup, frame);
     if number != 0 {
