@@ -17,7 +17,7 @@ use Rattle.model.specs.Holdback.{heldBytes, held, encodeFrames, encodeHoldback}
 use Rattle.holdback.specs.Queue.{frameStart, bytesAt, frameAt, Figures}
 use Rattle.holdback.proofs.RoundTrip.{Bytes, encode-decode}
 use Rattle.holdback.proofs.Frames.{heldBytes-tab, held-tab, FormedUpTo, take-start, start-within}
-use Rattle.holdback.proofs.Sound.{every-tab-at}
+use Rattle.holdback.proofs.Judging.{every-tab-at}
 
 pub formed-frames : (epsilon : ℕ) (s : List ℕ) → every (wellFormed epsilon) (heldBytes epsilon s) ≡ true → FormedUpTo epsilon s (twoAt s 0)
 formed-frames epsilon s h = every-tab-at (wellFormed epsilon) (twoAt s 0) (bytesAt epsilon s) (rw (heldBytes-tab epsilon s) at h)

@@ -1,8 +1,7 @@
-pub mod Given
 pub mod RoundTrip
 pub mod Frames
 pub mod Reading
-pub mod Sound
+pub mod Judging
 pub mod Seen
 pub mod Order
 pub mod Changes

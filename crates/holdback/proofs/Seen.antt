@@ -16,17 +16,11 @@ use Rattle.model.specs.Timestamp.{near}
 use Rattle.model.specs.Frame.{Frame, decode}
 use Rattle.model.specs.Judge.{readingOf}
 use Rattle.model.specs.Holdback.{sameOrigin}
-use Rattle.holdback.specs.Seen.{rowLength, tableLength, slotOf, seenTable, marked}
-use Rattle.holdback.proofs.Given.{Limits}
+use Rattle.holdback.specs.Seen.{InWindow, isMarked, rowLength, tableLength, slotOf, seenTable, marked}
+use Rattle.timestamp.proofs.InLimits.{Limits}
 use Rattle.holdback.proofs.RoundTrip.{Passing, passing}
 use Rattle.holdback.proofs.Reading.{near-high, near-injective}
-use Rattle.holdback.proofs.Sound.{Fitting, not-overdue, same-origin-sym}
-
--- a frame that has a place in the table
-pub record InWindow (s : Setup) (v : ℕ) (f : Frame) : Type 0 where
-  pub station-below : f .station < s .n
-  pub r-below : f .stamp .r < s .modulus
-  pub not-before : s .modulus ≤ readingOf s v f + (s .delta + 2 * s .epsilon)
+use Rattle.holdback.proofs.Judging.{Fitting, not-overdue, same-origin-sym}
 
 -- a frame that a sound queue can have is one
 pub fitting-window : (s : Setup) (v : ℕ) (bytes : List ℕ) → Fitting s v bytes → InWindow s v (decode (s .epsilon) bytes)
