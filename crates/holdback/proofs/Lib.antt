@@ -5,3 +5,5 @@ pub mod Judging
 pub mod Seen
 pub mod Order
 pub mod Changes
+pub mod Testing
+pub mod Walks
