@@ -108,3 +108,8 @@ seen-cleared s v table l n size e h =
 pub length-seen : (s : Setup) (v : ℕ) (queue : List Frame) → length (seenTable s v queue) ≡ tableLength
 unfolding seenTable
 length-seen s v queue = length-tab tableLength (λ i. cond (any (λ f. eqb (slotOf s v f) i) queue) 1 0)
+
+pub slot-by : (s : Setup) (v : ℕ) (f : Frame) (station reading : ℕ) → station ≡ f .station → reading ≡ readingOf s v f
+    → station * 128 + (reading + (s .delta + 2 * s .epsilon) - s .modulus) ≡ slotOf s v f
+unfolding slotOf
+slot-by s v f station reading es er = rw (es, er)

@@ -22,11 +22,11 @@ use Rattle.model.specs.Holdback.{held, passes, sameOrigin, soundHoldback}
 use Rattle.timestamp.proofs.InLimits.{Limits}
 use Rattle.holdback.specs.Queue.{frameStart, bytesAt, frameAt, Stands}
 use Rattle.holdback.specs.Sound.{fits, follows, isNew, frameSound, Walking, Between, Starting, Opened, openedQueue}
-use Rattle.holdback.specs.Seen.{InWindow, isMarked, marked, slotOf, seenTable}
+use Rattle.holdback.specs.Seen.{InWindow, isMarked, marked, slotOf, seenTable, tableLength}
 use Rattle.holdback.proofs.RoundTrip.{Passing, passing}
 use Rattle.holdback.proofs.Frames.{start-zero, start-suc, start-inside, start-within, held-tab, FormedUpTo}
 use Rattle.holdback.proofs.Judging.{Fitting, fitting, frame-fits, frame-follows, frame-new, sound-by, sound-few, sound-frames, sound-formed}
-use Rattle.holdback.proofs.Seen.{fitting-window, seen-at, seen-more, seen-none}
+use Rattle.holdback.proofs.Seen.{fitting-window, seen-at, seen-more, length-seen}
 use Rattle.holdback.proofs.Changes.{length-held}
 
 -- ---- where a frame stands, by the code's numbers
@@ -81,6 +81,9 @@ module _ {s : Setup} {v : ℕ} {b table : List ℕ} {i prev at : ℕ} (walk : Wa
   pub at-low : 2 ≤ at
   at-low = rw (walk .starts) (start-low (s .epsilon) b i)
 
+  pub table-long : length table ≡ tableLength
+  table-long = ap length (walk .table-is) ∙ length-seen s v (tab i (frameAt (s .epsilon) b))
+
   module _ (size : ℕ) (es : size ≡ frameEnd (s .epsilon) (take (length b - at) (drop at b))) where
     pub next-is : at + size ≡ frameStart (s .epsilon) b (suc i)
     next-is = next-start (s .epsilon) b i at size (walk .starts) es
@@ -103,6 +106,9 @@ module _ {s : Setup} {v : ℕ} {b table : List ℕ} {i prev at : ℕ} (walk : Wa
         judged-no s v b i
         (false-of-no (frameSound s v b i)
         (λ h. clash (e ∙ ap (fits s v) part-is ∙ frame-fits s v b i h) (false-of-not t n)))
+
+    pub fit-of : (t : Bool) → t ≡ fits s v (take (at + size - at) (drop at b)) → not t ≡ false → fits s v (bytesAt (s .epsilon) b i) ≡ true
+    fit-of t e n = sym (e ∙ ap (fits s v) part-is) ∙ true-of-not t n
 
     module _ (fit : fits s v (bytesAt (s .epsilon) b i) ≡ true) where
       pub fit-window : InWindow s v (decode (s .epsilon) (take (at + size - at) (drop at b)))
@@ -224,6 +230,9 @@ walk-starts {s} {v} {b} begin =
       each = λ k h. absurd (not-suc-le-zero h);
       table-is = begin .empty;
     }
+
+pub starting-long : {s : Setup} {v : ℕ} {b table : List ℕ} {count : ℕ} → Starting s v b table count → length table ≡ tableLength
+starting-long {s} {v} begin = ap length (begin .empty) ∙ length-seen s v []
 
 pub verdict-no : (s : Setup) (v : ℕ) (b : List ℕ) (i next : ℕ) → next ≡ verdictAt s v b i → next ≡ 0 → frameSound s v b i ≡ false
 verdict-no s v b i next e z = go (frameSound s v b i) (sym e ∙ z)
@@ -364,3 +373,18 @@ module _ (s : Setup) (v : ℕ) (b : List ℕ) (sound : soundHoldback s v b ≡ t
 
   pub sound-next : (i next : ℕ) → i < twoAt b 0 → next ≡ frameStart (s .epsilon) b (suc i) → next ≤ length b
   sound-next i next l e = rw e (start-inside (s .epsilon) b i (all-formed i l))
+
+  pub sound-part : (i at next : ℕ) → i < twoAt b 0 → at ≡ frameStart (s .epsilon) b i → next ≡ frameStart (s .epsilon) b (suc i) → passes s (take (next - at) (drop at b)) ≡ true
+  sound-part i at next l ea en = ap (passes s) (bytes-part (s .epsilon) b i at next ea en) ∙ sound-fits i l .passed
+
+-- a test of the bytes at a place is one of the frame there
+module _ (p : Frame → Bool) (epsilon : ℕ) (b : List ℕ) (i at next : ℕ) (ea : at ≡ frameStart epsilon b i) (en : next ≡ frameStart epsilon b (suc i)) (t : Bool) (e : t ≡ p (decode epsilon (take (next - at) (drop at b)))) where
+  test-at : t ≡ p (frameAt epsilon b i)
+  unfolding frameAt
+  test-at = e ∙ ap (λ (l : List ℕ). p (decode epsilon l)) (bytes-part epsilon b i at next ea en)
+
+  pub test-holds : not t ≡ false → p (frameAt epsilon b i) ≡ true
+  test-holds n = sym test-at ∙ true-of-not t n
+
+  pub test-fails : not t ≡ true → p (frameAt epsilon b i) ≡ false
+  test-fails n = sym test-at ∙ false-of-not t n
