@@ -2,6 +2,7 @@
 // where its counts say, and then bytes that are ignored until the tick's end writes zeros there.
 mod change;
 mod origins;
+mod search;
 mod soundness;
 mod test;
 
@@ -10,3 +11,5 @@ pub use change::empty;
 pub use change::put;
 pub use origins::mark;
 pub use origins::repeats;
+pub use search::place_for;
+pub use soundness::Walk;

@@ -58,3 +58,35 @@ fn judge_at(s: Setup, v: usize, buf: &[u8], seen: &[u8], i: usize, prev: usize, 
     }
     next
 }
+
+// The walk, with the origins of the frames so far in the table. At a frame that is not sound the table is cleared again.
+fn walk_frames(s: Setup, v: usize, buf: &[u8], count: usize, seen: &mut [u8]) -> Walk
+    requires { ⌜ (inLimits (setupOf s) ≡ true) × (v < s .modulus) ⌝ }
+    requires { ⌜ Starting (setupOf s) v (now buf) (now seen) count ⌝ }
+    ensures { λ w. ⌜ Opened (setupOf s) v (now (buf .entry)) (w .sound) (w .count) (w .end) (now (seen .exit)) ⌝ }
+{
+    let slots = seen.len();
+    let mut i = 0;
+    let mut prev = 2;
+    let mut at = 2;
+    while i < count {
+        let next = judge_at(s, v, buf, seen, i, prev, at);
+        if next == 0 {
+            splice::clear(seen, 0, slots);
+            return Walk {
+                sound: false,
+                count: 0,
+                end: 2,
+            };
+        }
+        mark(s, v, &buf[at..next], seen);
+        prev = at;
+        at = next;
+        i += 1;
+    }
+    Walk {
+        sound: true,
+        count,
+        end: at,
+    }
+}
