@@ -7,3 +7,4 @@ pub mod Order
 pub mod Changes
 pub mod Testing
 pub mod Walks
+pub mod Cut

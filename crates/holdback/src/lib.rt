@@ -11,5 +11,7 @@ pub use change::empty;
 pub use change::put;
 pub use origins::mark;
 pub use origins::repeats;
+pub use search::cut_due;
 pub use search::place_for;
 pub use soundness::Walk;
+pub use soundness::sound;

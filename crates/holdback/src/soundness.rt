@@ -90,3 +90,24 @@ fn walk_frames(s: Setup, v: usize, buf: &[u8], count: usize, seen: &mut [u8]) ->
         end: at,
     }
 }
+
+// 01: "It is sound if it holds at most n(δ + 3ε) frames that pass 10 to 12, strictly in order, no station and r twice, each
+// sum at most ε − 1 past v and each sum + δ + ε not before v." The table is lent, and comes back with the origins of the
+// frames with which the tick starts.
+pub fn sound(s: Setup, v: usize, buf: &[u8], seen: &mut [u8]) -> Walk
+    requires { ⌜ (inLimits (setupOf s) ≡ true) × (v < s .modulus) ⌝ }
+    requires { ⌜ (2 ≤ length (now buf)) × (length (now seen) ≡ tableLength) ⌝ }
+    ensures { λ w. ⌜ Opened (setupOf s) v (now (buf .entry)) (w .sound) (w .count) (w .end) (now (seen .exit)) ⌝ }
+{
+    let slots = seen.len();
+    splice::clear(seen, 0, slots);
+    let count = frame::two_at(buf, 0);
+    if depth(s.n as usize, s.epsilon as usize, s.delta as usize) < count {
+        return Walk {
+            sound: false,
+            count: 0,
+            end: 2,
+        };
+    }
+    walk_frames(s, v, buf, count, seen)
+}
