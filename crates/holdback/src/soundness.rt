@@ -1,7 +1,7 @@
 // 01: "It is sound if": one walk over the frames, each judged once, its origin by one look-up.
+use crate::compare::comes_before;
 use crate::origins::mark;
 use crate::origins::repeats;
-use crate::test::comes_before;
 use crate::test::fits;
 use timestamp::Setup;
 use timestamp::depth;

@@ -7,36 +7,25 @@ use Rattle.holdback.proofs.Seen.{slot-by, slot-below}
 use borrow.Author.Needs.{needs}
 use Rattle.holdback.proofs.origins.slot.Statement.{statement}
 use Rattle.holdback.proofs.origins.slot.Tie as tie
-use Rattle.holdback.proofs.origins.slot.Reads as reads
-use Rattle.holdback.proofs.origins.slot.Lts as lts
-use Rattle.frame.proofs.station_of.Reads as station-of-reads
-use Rattle.holdback.proofs.test.reading_of.Reads as reading-of-reads
 
--- src/origins.rt:19:9
 reading-of-requires : tie.Need-reading-of-requires
 reading-of-requires c κs = search needs
 
--- src/origins.rt:20:16
 cast-back : tie.Need-cast-back
 cast-back c = search needs
 
--- src/origins.rt:20:40
 cast-back-2 : tie.Need-cast-back-2
 cast-back-2 c = search needs
 
--- src/origins.rt:20:35
 mul-back : tie.Need-mul-back
 mul-back c = search needs
 
--- src/origins.rt:20:16
 add-back : tie.Need-add-back
 add-back c = search needs
 
--- src/origins.rt:21:5
 station-of-requires : tie.Need-station-of-requires
 station-of-requires c κs = search needs
 
--- src/origins.rt:21:5
 mul-result : tie.Need-mul-result
 mul-result c =
     let start = c .before .before .before .before .before in
@@ -48,7 +37,6 @@ mul-result c =
     let high = reading-small (setupOf (start .args .s)) (start .args .v) frame limits in
     omega (arith, window .station-below)
 
--- src/origins.rt:21:39
 add-result : tie.Need-add-result
 add-result c =
     let start = c .before .before .before .before .before in
@@ -60,15 +48,12 @@ add-result c =
     let high = reading-small (setupOf (start .args .s)) (start .args .v) frame limits in
     omega arith
 
--- src/origins.rt:21:56
 cast-result : tie.Need-cast-result
 cast-result c = search needs
 
--- src/origins.rt:21:39
 sub-result : tie.Need-sub-result
 sub-result c = search needs
 
--- src/origins.rt:21:5
 add-result-2 : tie.Need-add-result-2
 add-result-2 c =
     let start = c .before .before .before .before .before .before in
@@ -80,7 +65,6 @@ add-result-2 c =
     let high = reading-small (setupOf (start .args .s)) (start .args .v) frame limits in
     omega (arith, window .station-below)
 
--- src/origins.rt:14:1
 returns : tie.Need-returns
 returns c =
     let start = c .before .before .before .before .before .before in

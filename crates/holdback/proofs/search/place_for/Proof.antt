@@ -10,10 +10,6 @@ use Rattle.model.specs.Order.{before}
 use Rattle.model.specs.Judge.{placeFor}
 use Rattle.holdback.proofs.search.place_for.Statement.{statement}
 use Rattle.holdback.proofs.search.place_for.Tie as tie
-use Rattle.holdback.proofs.search.place_for.Reads as reads
-use Rattle.holdback.proofs.search.place_for.Lts as lts
-use Rattle.frame.proofs.frame_end.Reads as frame-end-reads
-use Rattle.holdback.proofs.test.comes_before.Reads as comes-before-reads
 
 abbrev Inv-loop : tie.InvT-loop
 Inv-loop s v buf count frame epsilon i₀ at₀ i at = Led (λ g. before (s .epsilon) (s .modulus) v g (decode (s .epsilon) frame)) (s .epsilon) buf count i at
@@ -21,17 +17,14 @@ Inv-loop s v buf count frame epsilon i₀ at₀ i at = Led (λ g. before (s .eps
 abbrev μ-loop : tie.MeasureT-loop
 μ-loop s v buf count frame epsilon i₀ at₀ i at = count - i
 
--- src/search.rt:30:19
 cast-epsilon : tie.Need-cast-epsilon Inv-loop μ-loop
 cast-epsilon c = search needs
 
--- src/search.rt:33:5
 loop-holds : tie.Need-loop-holds Inv-loop μ-loop
 loop-holds c =
     let start = c .before .before .before in
     led-starts (λ g. before (start .args .s .epsilon) (start .args .s .modulus) (start .args .v) g (decode (start .args .s .epsilon) (start .args .frame .now))) (start .args .s .epsilon) (start .args .buf .now) (start .args .count)
 
--- src/search.rt:34:51
 sub-frame-end : tie.Need-sub-frame-end Inv-loop μ-loop
 sub-frame-end c =
     let start = c .before .before .before .before .before in
@@ -41,7 +34,6 @@ sub-frame-end c =
     let l : loop .i < twoAt b 0 = omega arith in
     sound-inside (setupOf (start .args .s)) (start .args .v) b (start .pre .1 .0 .0) (start .pre .1 .0 .1 .0) (loop .i) (loop .at) l (loop .inv .starts)
 
--- src/search.rt:34:51
 part-frame-end-start : tie.Need-part-frame-end-start Inv-loop μ-loop
 part-frame-end-start c =
     let start = c .before .before .before .before .before in
@@ -52,18 +44,15 @@ part-frame-end-start c =
     let h = sound-inside (setupOf (start .args .s)) (start .args .v) b (start .pre .1 .0 .0) (start .pre .1 .0 .1 .0) (loop .i) (loop .at) l (loop .inv .starts) in
     omega arith
 
--- src/search.rt:34:51
 part-frame-end-end : tie.Need-part-frame-end-end Inv-loop μ-loop
 part-frame-end-end c = search needs
 
--- src/search.rt:34:25
 frame-end-requires : tie.Need-frame-end-requires Inv-loop μ-loop
 frame-end-requires c κs =
     let start = c .before .before .before .before .before .before in
     let limits = limits-of (setupOf (start .args .s)) (start .pre .0 .0) in
     limits .epsilon-most
 
--- src/search.rt:34:20
 add-next : tie.Need-add-next Inv-loop μ-loop
 add-next c =
     let start = c .before .before .before .before .before .before .before in
@@ -76,15 +65,12 @@ add-next c =
     let h = sound-next (setupOf (start .args .s)) (start .args .v) b (start .pre .1 .0 .0) (start .pre .1 .0 .1 .0) (loop .i) (loop .at + size) l next in
     omega arith
 
--- src/search.rt:35:32
 sub-comes-before : tie.Need-sub-comes-before Inv-loop μ-loop
 sub-comes-before c = omega arith
 
--- src/search.rt:35:32
 part-comes-before-start : tie.Need-part-comes-before-start Inv-loop μ-loop
 part-comes-before-start c = omega arith
 
--- src/search.rt:35:32
 part-comes-before-end : tie.Need-part-comes-before-end Inv-loop μ-loop
 part-comes-before-end c =
     let start = c .before .before .before .before .before .before .before in
@@ -97,7 +83,6 @@ part-comes-before-end c =
     let h = sound-next (setupOf (start .args .s)) (start .args .v) b (start .pre .1 .0 .0) (start .pre .1 .0 .1 .0) (loop .i) (loop .at + size) l next in
     omega arith
 
--- src/search.rt:35:13
 comes-before-requires : tie.Need-comes-before-requires Inv-loop μ-loop
 comes-before-requires c κs =
     let start = c .before .before .before .before .before .before .before .before in
@@ -110,7 +95,6 @@ comes-before-requires c κs =
     let ok = sound-part (setupOf (start .args .s)) (start .args .v) b (start .pre .1 .0 .0) (start .pre .1 .0 .1 .0) (loop .i) (loop .at) (loop .at + size) l (loop .inv .starts) next in
     (start .pre .0, (ok, start .pre .1 .1))
 
--- src/search.rt:36:13
 returns : tie.Need-returns Inv-loop μ-loop
 unfolding placeFor
 returns c =
@@ -123,15 +107,12 @@ returns c =
     led-stands (loop .inv) counted
     (λ _. test-fails (λ g. before (start .args .s .epsilon) (start .args .s .modulus) (start .args .v) g (decode (start .args .s .epsilon) (start .args .frame .now))) (start .args .s .epsilon) b (loop .i) (loop .at) (loop .at + size) (loop .inv .starts) next (c .before .comes-before .result) (c .before .comes-before .ensures) (c .if1 .taken))
 
--- src/search.rt:39:9
 add-i : tie.Need-add-i Inv-loop μ-loop
 add-i c = omega arith
 
--- src/search.rt:33:5
 loop-less : tie.Need-loop-less Inv-loop μ-loop
 loop-less c = omega arith
 
--- src/search.rt:33:5
 loop-again : tie.Need-loop-again Inv-loop μ-loop
 loop-again c =
     let start = c .before .before .before .before .before .before .before .before .before .before in
@@ -143,7 +124,6 @@ loop-again c =
     led-turns (loop .inv) (loop .at + size) (c .before .before .before .before .before .loop-test .taken) next
     (test-holds (λ g. before (start .args .s .epsilon) (start .args .s .modulus) (start .args .v) g (decode (start .args .s .epsilon) (start .args .frame .now))) (start .args .s .epsilon) b (loop .i) (loop .at) (loop .at + size) (loop .inv .starts) next (c .before .comes-before .result) (c .before .comes-before .ensures) (c .if1 .left))
 
--- src/search.rt:22:1
 returns-2 : tie.Need-returns-2 Inv-loop μ-loop
 unfolding placeFor
 returns-2 c =

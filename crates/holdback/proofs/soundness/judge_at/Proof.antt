@@ -8,39 +8,27 @@ use Rattle.holdback.proofs.Walks.{at-inside, judged-cut, judged-unfit, 
 use borrow.Author.Needs.{needs}
 use Rattle.holdback.proofs.soundness.judge_at.Statement.{statement}
 use Rattle.holdback.proofs.soundness.judge_at.Tie as tie
-use Rattle.holdback.proofs.soundness.judge_at.Reads as reads
-use Rattle.holdback.proofs.soundness.judge_at.Lts as lts
-use Rattle.frame.proofs.frame_end.Reads as frame-end-reads
-use Rattle.holdback.proofs.origins.repeats.Reads as repeats-reads
-use Rattle.holdback.proofs.soundness.follows.Reads as follows-reads
-use Rattle.holdback.proofs.test.fits.Reads as fits-reads
 
--- src/soundness.rt:46:38
 cast-frame-end : tie.Need-cast-frame-end
 cast-frame-end c = search needs
 
--- src/soundness.rt:46:58
 sub-frame-end : tie.Need-sub-frame-end
 sub-frame-end c = at-inside (c .before .before .before .pre .1)
 
--- src/soundness.rt:46:58
 part-frame-end-start : tie.Need-part-frame-end-start
 part-frame-end-start c =
     let h = at-inside (c .before .before .before .pre .1) in
     omega arith
 
--- src/soundness.rt:46:58
 part-frame-end-end : tie.Need-part-frame-end-end
 part-frame-end-end c = search needs
 
--- src/soundness.rt:46:21
 frame-end-requires : tie.Need-frame-end-requires
 frame-end-requires c κs =
     let start = c .before .before .before .before in
     let limits = limits-of (setupOf (start .args .s)) (start .pre .0 .0) in
     limits .epsilon-most
 
--- src/soundness.rt:46:16
 add-next : tie.Need-add-next
 add-next c =
     let start = c .before .before .before .before .before in
@@ -51,35 +39,28 @@ add-next c =
     let small = end-small (start .args .s .epsilon) (take (length b - at) (drop at b)) (limits .epsilon-most) (bytes-take (length b - at) (drop at b) (bytes-drop at b (λ i. omega (arith, c .before .before .before .before .shared-slice-known .given i)))) in
     omega (arith, c .frame-end .ensures)
 
--- src/soundness.rt:48:9
 returns : tie.Need-returns
 returns c =
     let start = c .before .before .before .before .before .before in
     judged-cut (start .pre .1) (c .before .frame-end .result) (c .before .frame-end .ensures) (c .if1 .taken)
 
--- src/soundness.rt:50:20
 sub-fits : tie.Need-sub-fits
 sub-fits c = search needs
 
--- src/soundness.rt:50:20
 part-fits-start : tie.Need-part-fits-start
 part-fits-start c = search needs
 
--- src/soundness.rt:50:20
 part-fits-end : tie.Need-part-fits-end
 part-fits-end c = search needs
 
--- src/soundness.rt:50:9
 fits-requires : tie.Need-fits-requires
 fits-requires c κs = search needs
 
--- src/soundness.rt:51:9
 returns-2 : tie.Need-returns-2
 returns-2 c =
     let start = c .before .before .before .before .before .before .before .before .before in
     judged-unfit (start .pre .1) (c .before .before .before .before .frame-end .result) (c .before .before .before .before .frame-end .ensures) (c .before .fits2 .result) (c .before .fits2 .ensures) (c .if2 .taken)
 
--- src/soundness.rt:53:9
 follows-requires : tie.Need-follows-requires
 follows-requires c κs =
     let start = c .before .before .before .before .before .before .before .before .before in
@@ -89,7 +70,6 @@ follows-requires c κs =
     let fit = fit-of walk size ends (c .before .fits2 .result) (c .before .fits2 .ensures) (c .if2 .left) in
     (start .pre .0, neighbours walk size ends fit)
 
--- src/soundness.rt:54:9
 returns-3 : tie.Need-returns-3
 returns-3 c =
     let start = c .before .before .before .before .before .before .before .before .before .before .before in
@@ -99,19 +79,15 @@ returns-3 c =
     let fit = fit-of walk size ends (c .before .before .before .fits2 .result) (c .before .before .before .fits2 .ensures) (c .before .before .if2 .left) in
     judged-unordered walk size ends fit (c .before .follows .result) (c .before .follows .ensures) (c .if3 .taken)
 
--- src/soundness.rt:56:22
 sub-repeats : tie.Need-sub-repeats
 sub-repeats c = search needs
 
--- src/soundness.rt:56:22
 part-repeats-start : tie.Need-part-repeats-start
 part-repeats-start c = search needs
 
--- src/soundness.rt:56:22
 part-repeats-end : tie.Need-part-repeats-end
 part-repeats-end c = search needs
 
--- src/soundness.rt:56:8
 repeats-requires : tie.Need-repeats-requires
 repeats-requires c κs =
     let start = c .before .before .before .before .before .before .before .before .before .before .before .before in
@@ -121,7 +97,6 @@ repeats-requires c κs =
     let fit = fit-of walk size ends (c .before .before .before .before .fits2 .result) (c .before .before .before .before .fits2 .ensures) (c .before .before .before .if2 .left) in
     (start .pre .0, (fit-window walk size ends fit, table-long walk))
 
--- src/soundness.rt:57:9
 returns-4 : tie.Need-returns-4
 returns-4 c =
     let start = c .before .before .before .before .before .before .before .before .before .before .before .before .before .before in
@@ -132,7 +107,6 @@ returns-4 c =
     let limits = limits-of (setupOf (start .args .s)) (start .pre .0 .0) in
     judged-repeated walk size ends fit limits (start .pre .0 .1) (c .before .repeats .result) (c .before .repeats .ensures) (c .if4 .taken)
 
--- src/soundness.rt:41:1
 returns-5 : tie.Need-returns-5
 returns-5 c =
     let start = c .before .before .before .before .before .before .before .before .before .before .before .before .before .before in

@@ -9,11 +9,6 @@ use Rattle.holdback.proofs.Seen.{seen-cleared}
 use Rattle.holdback.proofs.Walks.{walk-starts, starting-long, table-long, verdict-no, verdict-yes, walk-fails, opened-no, opened-yes, judged-inside, judged-window, walk-turns}
 use Rattle.holdback.proofs.soundness.walk_frames.Statement.{statement}
 use Rattle.holdback.proofs.soundness.walk_frames.Tie as tie
-use Rattle.holdback.proofs.soundness.walk_frames.Reads as reads
-use Rattle.holdback.proofs.soundness.walk_frames.Lts as lts
-use Rattle.holdback.proofs.origins.mark.Reads as mark-reads
-use Rattle.holdback.proofs.soundness.judge_at.Reads as judge-at-reads
-use Rattle.splice.proofs.clear.Reads as clear-reads
 
 abbrev Inv-loop : tie.InvT-loop
 Inv-loop s v buf count seen₀ slots i₀ prev₀ at₀ seen i prev at = Walking (setupOf s) v buf seen i prev at × (i ≤ count)
@@ -21,13 +16,11 @@ Inv-loop s v buf count seen₀ slots i₀ prev₀ at₀ seen i prev at = Walking
 abbrev μ-loop : tie.MeasureT-loop
 μ-loop s v buf count seen₀ slots i₀ prev₀ at₀ seen i prev at = count - i
 
--- src/soundness.rt:72:5
 loop-holds : tie.Need-loop-holds Inv-loop μ-loop
 loop-holds c =
     let start = c .before .before in
     (walk-starts (start .pre .1), omega arith)
 
--- src/soundness.rt:73:13
 judge-at-requires : tie.Need-judge-at-requires Inv-loop μ-loop
 judge-at-requires c κs =
     let start = c .before .before .before .before .before in
@@ -35,7 +28,6 @@ judge-at-requires c κs =
     let loop = c .before .before .loop in
     (start .pre .0, loop .inv .0)
 
--- src/soundness.rt:75:13
 clear-requires : tie.Need-clear-requires Inv-loop μ-loop
 clear-requires c κs =
     let start = c .before .before .before .before .before .before .before .before in
@@ -45,7 +37,6 @@ clear-requires c κs =
     let long = table-long (loop .inv .0) in
     omega arith
 
--- src/soundness.rt:76:13
 same-length : tie.Need-same-length Inv-loop μ-loop
 same-length c =
     let start = c .before .before .before .before .before .before .before .before .before .before .before in
@@ -56,7 +47,6 @@ same-length c =
     let kept = c .before .before .clear .kept .0 in
     omega arith
 
--- src/soundness.rt:76:13
 returns : tie.Need-returns Inv-loop μ-loop
 returns c =
     let start = c .before .before .before .before .before .before .before .before .before .before .before in
@@ -73,7 +63,6 @@ returns c =
     (verdict-no (setupOf (start .args .s)) (start .args .v) b (loop .i) (judged .result) (judged .ensures) (c .before .before .before .before .if1 .taken)))
     (seen-cleared (setupOf (start .args .s)) (start .args .v) (loop .seen) _ (length (start .args .seen .now)) long slots (c .before .before .clear .ensures))
 
--- src/soundness.rt:82:20
 sub-mark : tie.Need-sub-mark Inv-loop μ-loop
 sub-mark c =
     let start = c .before .before .before .before .before .before .before in
@@ -83,7 +72,6 @@ sub-mark c =
     let right = verdict-yes (setupOf (start .args .s)) (start .args .v) b (loop .i) (judged .result) (judged .ensures) (c .if1 .left) in
     judged-inside (loop .inv .0) (judged .result) right .0
 
--- src/soundness.rt:82:20
 part-mark-start : tie.Need-part-mark-start Inv-loop μ-loop
 part-mark-start c =
     let start = c .before .before .before .before .before .before .before in
@@ -94,7 +82,6 @@ part-mark-start c =
     let o = judged-inside (loop .inv .0) (judged .result) right in
     omega arith
 
--- src/soundness.rt:82:20
 part-mark-end : tie.Need-part-mark-end Inv-loop μ-loop
 part-mark-end c =
     let start = c .before .before .before .before .before .before .before in
@@ -105,7 +92,6 @@ part-mark-end c =
     let o = judged-inside (loop .inv .0) (judged .result) right in
     omega arith
 
--- src/soundness.rt:82:9
 mark-requires : tie.Need-mark-requires Inv-loop μ-loop
 mark-requires c κs =
     let start = c .before .before .before .before .before .before .before .before .before in
@@ -115,15 +101,12 @@ mark-requires c κs =
     let right = verdict-yes (setupOf (start .args .s)) (start .args .v) b (loop .i) (judged .result) (judged .ensures) (c .before .before .if1 .left) in
     (start .pre .0, (judged-window (loop .inv .0) (judged .result) right, table-long (loop .inv .0)))
 
--- src/soundness.rt:85:9
 add-i : tie.Need-add-i Inv-loop μ-loop
 add-i c = omega arith
 
--- src/soundness.rt:72:5
 loop-less : tie.Need-loop-less Inv-loop μ-loop
 loop-less c = omega arith
 
--- src/soundness.rt:72:5
 loop-again : tie.Need-loop-again Inv-loop μ-loop
 loop-again c =
     let start = c .before .before .before .before .before .before .before .before .before .before .before .before in
@@ -133,7 +116,6 @@ loop-again c =
     let right = verdict-yes (setupOf (start .args .s)) (start .args .v) b (loop .i) (judged .result) (judged .ensures) (c .before .before .before .before .before .if1 .left) in
     (walk-turns (loop .inv .0) (judged .result) right _ (c .before .before .mark .ensures), omega arith)
 
--- src/soundness.rt:63:1
 same-length-2 : tie.Need-same-length-2 Inv-loop μ-loop
 same-length-2 c =
     let start = c .before .before .before .before in
@@ -143,7 +125,6 @@ same-length-2 c =
     let long = table-long (loop .inv .0) in
     omega arith
 
--- src/soundness.rt:63:1
 returns-2 : tie.Need-returns-2 Inv-loop μ-loop
 returns-2 c =
     let start = c .before .before .before .before in

@@ -7,24 +7,16 @@ use Rattle.model.specs.Judge.{readingOf}
 use borrow.Author.Needs.{needs}
 use Rattle.holdback.proofs.test.reading_of.Statement.{statement}
 use Rattle.holdback.proofs.test.reading_of.Tie as tie
-use Rattle.holdback.proofs.test.reading_of.Reads as reads
-use Rattle.holdback.proofs.test.reading_of.Lts as lts
-use Rattle.frame.proofs.r_of.Reads as r-of-reads
-use Rattle.timestamp.proofs.near.Reads as near-reads
 
--- src/test.rt:26:10
 cast-near : tie.Need-cast-near
 cast-near c = search needs
 
--- src/test.rt:26:30
 cast-near-2 : tie.Need-cast-near-2
 cast-near-2 c = search needs
 
--- src/test.rt:26:53
 r-of-requires : tie.Need-r-of-requires
 r-of-requires c κs = search needs
 
--- src/test.rt:26:5
 near-requires : tie.Need-near-requires
 near-requires c κs =
     let start = c .before .before .before .before in
@@ -32,7 +24,6 @@ near-requires c κs =
     let r = c .r-of .ensures (start .args .s .epsilon) in
     omega arith
 
--- src/test.rt:21:1
 returns : tie.Need-returns
 unfolding readingOf
 returns c =

@@ -10,23 +10,15 @@ use Rattle.model.specs.Holdback.{encodeFrames, encodeHoldback}
 use Rattle.model.specs.Tick.{dueNow}
 use Rattle.holdback.proofs.Cut.{count-small, sound-figures, due-number, due-left, due-taken}
 use borrow.Author.Needs.{needs}
-use Rattle.holdback.proofs.search.cut_due.Statement.{statement}
-use Rattle.holdback.proofs.search.cut_due.Tie as tie
-use Rattle.holdback.proofs.search.cut_due.Reads as reads
-use Rattle.holdback.proofs.search.cut_due.Lts as lts
-use Rattle.holdback.proofs.change.cut_prefix.Reads as cut-prefix-reads
-use Rattle.holdback.proofs.change.write_prefix.Reads as write-prefix-reads
-use Rattle.holdback.proofs.search.due_prefix.Reads as due-prefix-reads
+use Rattle.holdback.proofs.due.cut_due.Statement.{statement}
+use Rattle.holdback.proofs.due.cut_due.Tie as tie
 
--- src/search.rt:81:19
 cast-epsilon : tie.Need-cast-epsilon
 cast-epsilon c = search needs
 
--- src/search.rt:82:9
 due-prefix-requires : tie.Need-due-prefix-requires
 due-prefix-requires c κs = search needs
 
--- src/search.rt:83:5
 write-prefix-requires : tie.Need-write-prefix-requires
 write-prefix-requires c κs =
     let start = c .before .before .before .before .before .before .before in
@@ -39,7 +31,6 @@ write-prefix-requires c κs =
     let few = count-small s (start .args .v) b sound (start .args .count) limits counted in
     (sound-figures s (start .args .v) b sound (dueNow s (start .args .v)) (start .args .count) (start .args .end) (found .result .index) (found .result .at) (start .pre .1 .0 .1 .0) counted (start .pre .1 .1 .0) (found .ensures), (start .pre .1 .1 .1, omega arith))
 
--- src/search.rt:84:5
 cut-prefix-requires : tie.Need-cut-prefix-requires
 cut-prefix-requires c κs =
     let start = c .before .before .before .before .before .before .before .before .before .before .before in
@@ -52,15 +43,12 @@ cut-prefix-requires c κs =
     let few = count-small s (start .args .v) b sound (start .args .count) limits counted in
     (sound-figures s (start .args .v) b sound (dueNow s (start .args .v)) (start .args .count) (start .args .end) (found .result .index) (found .result .at) (start .pre .1 .0 .1 .0) counted (start .pre .1 .1 .0) (found .ensures), omega arith)
 
--- src/search.rt:67:1
 same-length : tie.Need-same-length
 same-length c = search needs
 
--- src/search.rt:67:1
 same-length-2 : tie.Need-same-length-2
 same-length-2 c = search needs
 
--- src/search.rt:67:1
 returns : tie.Need-returns
 returns c =
     let start = c .before .before .before .before .before .before .before .before .before .before .before .before .before .before in

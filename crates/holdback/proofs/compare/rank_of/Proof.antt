@@ -1,25 +1,16 @@
 use borrow.Author.Needs.{needs}
-use Rattle.holdback.proofs.test.rank_of.Statement.{statement}
-use Rattle.holdback.proofs.test.rank_of.Tie as tie
-use Rattle.holdback.proofs.test.rank_of.Reads as reads
-use Rattle.holdback.proofs.test.rank_of.Lts as lts
-use Rattle.frame.proofs.c_of.Reads as c-of-reads
-use Rattle.frame.proofs.station_of.Reads as station-of-reads
-use Rattle.holdback.proofs.test.reading_of.Reads as reading-of-reads
+use Rattle.holdback.proofs.compare.rank_of.Statement.{statement}
+use Rattle.holdback.proofs.compare.rank_of.Tie as tie
 
--- src/test.rt:71:18
 reading-of-requires : tie.Need-reading-of-requires
 reading-of-requires c κs = search needs
 
--- src/test.rt:72:12
 c-of-requires : tie.Need-c-of-requires
 c-of-requires c κs = search needs
 
--- src/test.rt:73:18
 station-of-requires : tie.Need-station-of-requires
 station-of-requires c κs = search needs
 
--- src/test.rt:65:1
 returns : tie.Need-returns
 returns c =
     let start = c .before .before .before .before in
