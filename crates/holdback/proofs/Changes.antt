@@ -48,11 +48,11 @@ module _ (epsilon : ℕ) (s : List ℕ) (bytes : Bytes s) (two : 2 ≤ length s)
       let x : List ℕ = joined encode (take k q) in
       let y : List ℕ = joined encode (drop k q) in
       let all : joined encode (tab n (frameAt epsilon s)) ≡ x ++ y =
-          ap (joined encode) (sym (held-tab epsilon s)) ∙ ap (joined encode) (sym (take-append-drop k q)) ∙ joined-append encode (take k q) (drop k q) in
+      ap (joined encode) (sym (held-tab epsilon s)) ∙ ap (joined encode) (sym (take-append-drop k q)) ∙ joined-append encode (take k q) (drop k q) in
       let some : tab k (frameAt epsilon s) ≡ take k q =
-          sym (take-tab k n (frameAt epsilon s) h) ∙ ap (take k) (sym (held-tab epsilon s)) in
+      sym (take-tab k n (frameAt epsilon s) h) ∙ ap (take k) (sym (held-tab epsilon s)) in
       let f : frameStart epsilon s k ≡ 2 + length x =
-          start-length k (λ i l. ok i (omega arith)) ∙ ap (λ (l : List Frame). 2 + length (joined encode l)) some in
+      start-length k (λ i l. ok i (omega arith)) ∙ ap (λ (l : List Frame). 2 + length (joined encode l)) some in
       let e : end ≡ 2 + length (x ++ y) = start-length n ok ∙ ap (λ (l : List ℕ). 2 + length l) all in
       record {
         split =
@@ -106,11 +106,11 @@ module _ (epsilon : ℕ) (s : List ℕ) (k : ℕ) (p : Pieces epsilon s k) where
       let n : ℕ = twoAt s 0 in
       let tail : List ℕ = drop (length src) (drop end s) in
       let new : encodeFrames (insertAt k f q) ≡ twoBytes (n + 1) ++ (first ++ (src ++ others)) =
-          ap₂ (λ (m : ℕ) (r : List ℕ). twoBytes m ++ r)
-          (length-insertAt k f q ∙ omega (arith, length-held epsilon s))
-          (joined-insertAt encode k f q ∙ ap (λ (r : List ℕ). first ++ (r ++ others)) e) in
+      ap₂ (λ (m : ℕ) (r : List ℕ). twoBytes m ++ r)
+      (length-insertAt k f q ∙ omega (arith, length-held epsilon s))
+      (joined-insertAt encode k f q ∙ ap (λ (r : List ℕ). first ++ (r ++ others)) e) in
       let size : length (encodeFrames (insertAt k f q)) ≡ end + length src =
-          ap length new ∙ omega (arith, length-append first (src ++ others), length-append src others, p .front, p .back) in
+      ap length new ∙ omega (arith, length-append first (src ++ others), length-append src others, p .front, p .back) in
       made
       ∙ ap (λ (r : List ℕ). pasted (inserted r end (frameStart epsilon s k) src) 0 (twoBytes (n + 1))) (p .split)
       ∙ put-pieces (twoBytes n) (twoBytes (n + 1)) first others (drop end s) src (frameStart epsilon s k) end refl (p .front) (p .back)
@@ -160,7 +160,7 @@ module _ (epsilon : ℕ) (s : List ℕ) (k : ℕ) (p : Pieces epsilon s k) where
       let count : length (drop k q) ≡ twoAt s 0 - k = length-drop k q ∙ ap (λ (n : ℕ). n - k) (length-held epsilon s) in
       let c : List ℕ = twoBytes (twoAt s 0 - k) in
       let all : length (c ++ (others ++ zeros free)) ≡ length s =
-          omega (arith, length-append c (others ++ zeros free), two-long (twoAt s 0 - k), length-append others (zeros free), length-replicate {A = ℕ} free 0) in
+      omega (arith, length-append c (others ++ zeros free), two-long (twoAt s 0 - k), length-append others (zeros free), length-replicate {A = ℕ} free 0) in
       let used : length (c ++ others) ≡ moved = omega (arith, length-append c others, two-long (twoAt s 0 - k)) in
       made
       ∙ ap₂ (λ (r : List ℕ) (n : ℕ). pasted (cleared (pasted s 2 r) (2 + n) (length s)) 0 c) (other-bytes (end - frameStart epsilon s k) refl) long

@@ -1,7 +1,6 @@
 -- What a sound queue gives to a change of it, and what of it is due.
 -- Assumes nothing.
-use Prim.Native.Nat.{ℕ, suc, _+_, _*_, _≤_, _<_}
-use native.Mathlib.Nat.{mul-le-mul}
+use Prim.Native.Nat.{ℕ, _≤_, _<_}
 use native.Mathlib.Omega.{arith}
 use mathlib.Core.Path.{_≡_, refl, sym, ap, _∙_}
 use mathlib.Core.Bool.{Bool, true, not}
@@ -14,24 +13,18 @@ use Rattle.model.specs.Setup.{Setup, depth}
 use Rattle.model.specs.Frame.{Frame, twoAt, wellFormed}
 use Rattle.model.specs.Holdback.{heldBytes, held, passes, soundHoldback}
 use Rattle.model.specs.Tick.{dueNow}
-use Rattle.timestamp.proofs.InLimits.{Limits}
+use Rattle.timestamp.proofs.InLimits.{Limits, depth-most}
 use Rattle.holdback.specs.Queue.{frameStart, Figures, Stands}
 use Rattle.holdback.proofs.RoundTrip.{passing}
 use Rattle.holdback.proofs.Judging.{sound-few, sound-passes, sound-ordered, sound-overdue}
 use Rattle.holdback.proofs.Changes.{length-held}
 use Rattle.holdback.proofs.Order.{due-prefix, due-rest}
 
--- n(δ + 3ε) is small
-depth-small : (s : Setup) → Limits s → depth (s .n) (s .epsilon) (s .delta) ≤ 1792
-unfolding depth
-depth-small s limits =
-    let high : s .delta + 3 * s .epsilon ≤ 112 = omega arith in
-    let most : s .n * (s .delta + 3 * s .epsilon) ≤ 16 * 112 = mul-le-mul (limits .n-most) high in
-    omega arith
-
 module _ (s : Setup) (v : ℕ) (b : List ℕ) (sound : soundHoldback s v b ≡ true) where
   pub count-small : (count : ℕ) → Limits s → count ≡ twoAt b 0 → count < 65535
-  count-small count limits e = omega (arith, sound-few s v b sound, depth-small s limits)
+  unfolding depth
+  count-small count limits e =
+      omega (arith, sound-few s v b sound, depth-most (s .n) (s .epsilon) (s .delta) (limits .n-most) (limits .epsilon-most) (limits .delta-most))
 
   pub sound-figures : (p : Frame → Bool) (count stop index at : ℕ) → 2 ≤ length b → count ≡ twoAt b 0 → stop ≡ frameStart (s .epsilon) b count
       → Stands (s .epsilon) b (leading p (held (s .epsilon) b)) index at → Figures (s .epsilon) b count stop index at

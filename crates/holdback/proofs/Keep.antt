@@ -32,6 +32,7 @@ use Rattle.holdback.proofs.Frames.{FormedUpTo, held-tab, encode-frame, 
 use Rattle.holdback.proofs.Judging.{Fitting, fitting, frame-fits, same-origin-sym, sound-by, sound-few, sound-ordered, sound-single, sound-early, sound-overdue, sound-frames, sound-formed}
 use Rattle.holdback.proofs.Seen.{fitting-window, seen-at}
 use Rattle.holdback.proofs.Changes.{length-held}
+use Rattle.holdback.proofs.Walks.{one-is}
 
 -- ---- the empty queue
 
@@ -83,10 +84,6 @@ module _ (s : Setup) (v : ℕ) (b : List ℕ) (sound : soundHoldback s v b ≡ t
   unfolding isMarked
   repeat-found f limits below w =
       ap (λ (n : ℕ). eqb n 1) (seen-at s v limits below (held (s .epsilon) b) f held-windows w) ∙ one-is (any (sameOrigin f) (held (s .epsilon) b))
-    where
-      one-is : (t : Bool) → eqb (cond t 1 0) 1 ≡ t
-      one-is true = refl
-      one-is false = refl
 
   -- room for one frame more
   start-most : (k : ℕ) → k ≤ twoAt b 0 → frameStart (s .epsilon) b k ≤ 2 + k * (39 + 2 * s .epsilon)

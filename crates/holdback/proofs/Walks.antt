@@ -13,7 +13,7 @@ use lib.ListN.{length, take, drop, getD, length-drop}
 use lib.Seq.{take-all}
 use borrow.Author.Tests.{lt-leb}
 use Rattle.laws.specs.Lists.{tab, any, every, leading}
-use Rattle.laws.proofs.Numbers.{clash, lt-or-ge, false-of-no, true-of-not, not-of-true, not-of-false, and-left, and-intro}
+use Rattle.laws.proofs.Numbers.{clash, lt-or-ge, false-of-no, false-of-not, true-of-not, not-of-true, not-of-false, and-left, and-intro}
 use Rattle.laws.proofs.Lists.{length-tab, getD-tab, tab-suc, any-append, index-of-mem, take-tab, every-tab, leading-unique}
 use Rattle.model.specs.Setup.{Setup, depth}
 use Rattle.model.specs.Frame.{Frame, twoAt, decode, frameEnd, wellFormed}
@@ -52,13 +52,10 @@ bytes-part epsilon b k at next ea en =
 abbrev pub verdictAt : Setup → ℕ → List ℕ → ℕ → ℕ
 verdictAt s v b i = cond (frameSound s v b i) (frameStart (s .epsilon) b (suc i)) 0
 
-one-is : (t : Bool) → eqb (cond t 1 0) 1 ≡ t
+-- a mark is 1
+pub one-is : (t : Bool) → eqb (cond t 1 0) 1 ≡ t
 one-is true = refl
 one-is false = refl
-
-false-of-not : (t : Bool) → not t ≡ true → t ≡ false
-false-of-not true h = sym h
-false-of-not false h = refl
 
 sound-of-parts : (s : Setup) (v : ℕ) (b : List ℕ) (i : ℕ) → fits s v (bytesAt (s .epsilon) b i) ≡ true → follows s v b i ≡ true → isNew s b i ≡ true → frameSound s v b i ≡ true
 unfolding frameSound
@@ -148,8 +145,8 @@ module _ {s : Setup} {v : ℕ} {b table : List ℕ} {i prev at : ℕ} (walk : Wa
             let queue : List Frame = tab i (frameAt (s .epsilon) b) in
             let w : InWindow s v f = fitting-window s v (bytesAt (s .epsilon) b i) (fitting s v (bytesAt (s .epsilon) b i) fit) in
             let same : t ≡ any (sameOrigin f) queue =
-                e ∙ ap₂ (λ (l tab′ : List ℕ). eqb (getD tab′ (slotOf s v (decode (s .epsilon) l)) 0) 1) part-is (walk .table-is)
-                ∙ ap (λ (n : ℕ). eqb n 1) (seen-at s v limits below queue f windows w) ∙ one-is (any (sameOrigin f) queue) in
+            e ∙ ap₂ (λ (l tab′ : List ℕ). eqb (getD tab′ (slotOf s v (decode (s .epsilon) l)) 0) 1) part-is (walk .table-is)
+            ∙ ap (λ (n : ℕ). eqb n 1) (seen-at s v limits below queue f windows w) ∙ one-is (any (sameOrigin f) queue) in
             ap not (sym same)
 
         pub judged-repeated : (t : Bool) → t ≡ isMarked s v (decode (s .epsilon) (take (at + size - at) (drop at b))) table → t ≡ true → _≡_ {A = ℕ} 0 (verdictAt s v b i)
@@ -310,7 +307,7 @@ unfolding openedQueue
 opened-yes {s} {v} {b} {count} {i} begin walk le ge =
     let all : i ≡ twoAt b 0 = omega (arith, begin .counted) in
     let sound : soundHoldback s v b ≡ true =
-        sound-by s v b (omega (arith, begin .counted, begin .few)) (λ k l. walk .each k (omega arith)) in
+    sound-by s v b (omega (arith, begin .counted, begin .few)) (λ k l. walk .each k (omega arith)) in
     record {
       sound-is = sym sound;
       count-is = begin .counted ∙ rw sound;

@@ -29,10 +29,8 @@ pub fn empty(buf: &mut [u8])
 pub fn put(epsilon: usize, buf: &mut [u8], count: usize, end: usize, place: Place, frame: &[u8])
     requires { ⌜ Figures epsilon (now buf) count end (place .index) (place .at) ⌝ }
     requires { ⌜ (wellFormed epsilon (now frame) ≡ true) × ((end + length (now frame) ≤ length (now buf)) × (count < 65535)) ⌝ }
-    ensures {
-        λ _. ⌜ now (buf .exit)
-        ≡ overlay (encodeFrames (insertAt (place .index) (decode epsilon (now (frame .entry))) (held epsilon (now (buf .entry))))) (now (buf .entry)) ⌝
-    }
+    ensures { λ _. ⌜ now (buf .exit)
+        ≡ overlay (encodeFrames (insertAt (place .index) (decode epsilon (now (frame .entry))) (held epsilon (now (buf .entry))))) (now (buf .entry)) ⌝ }
 {
     let at = place.at;
     splice::insert(buf, end, at, frame);
@@ -40,13 +38,18 @@ pub fn put(epsilon: usize, buf: &mut [u8], count: usize, end: usize, place: Plac
 }
 
 // 01, tick 6: the first frames of a queue are handed out: their number and their bytes.
-pub fn write_prefix(epsilon: usize, buf: &[u8], count: usize, end: usize, prefix: Place, delivery: &mut [u8])
+pub fn write_prefix(
+    epsilon: usize,
+    buf: &[u8],
+    count: usize,
+    end: usize,
+    prefix: Place,
+    delivery: &mut [u8],
+)
     requires { ⌜ Figures epsilon (now buf) count end (prefix .index) (prefix .at) ⌝ }
     requires { ⌜ (length (now buf) ≤ length (now delivery)) × (count < 65536) ⌝ }
-    ensures {
-        λ _. ⌜ now (delivery .exit)
-        ≡ overlay (encodeFrames (take (prefix .index) (held epsilon (now (buf .entry))))) (now (delivery .entry)) ⌝
-    }
+    ensures { λ _. ⌜ now (delivery .exit)
+        ≡ overlay (encodeFrames (take (prefix .index) (held epsilon (now (buf .entry))))) (now (delivery .entry)) ⌝ }
 {
     let at = prefix.at;
     splice::put_u16(delivery, 0, prefix.index);
@@ -57,10 +60,8 @@ pub fn write_prefix(epsilon: usize, buf: &[u8], count: usize, end: usize, prefix
 pub fn cut_prefix(epsilon: usize, buf: &mut [u8], count: usize, end: usize, prefix: Place)
     requires { ⌜ Figures epsilon (now buf) count end (prefix .index) (prefix .at) ⌝ }
     requires { ⌜ count < 65536 ⌝ }
-    ensures {
-        λ _. ⌜ now (buf .exit)
-        ≡ encodeHoldback (length (now (buf .entry))) (drop (prefix .index) (held epsilon (now (buf .entry)))) ⌝
-    }
+    ensures { λ _. ⌜ now (buf .exit)
+        ≡ encodeHoldback (length (now (buf .entry))) (drop (prefix .index) (held epsilon (now (buf .entry)))) ⌝ }
 {
     let at = prefix.at;
     let len = buf.len();

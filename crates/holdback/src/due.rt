@@ -20,9 +20,7 @@ ghost use Rattle.holdback.specs.Queue.{frameStart, Stands};
 fn due_prefix(s: Setup, v: usize, buf: &[u8], count: usize) -> Place
     requires { ⌜ (inLimits (setupOf s) ≡ true) × (v < s .modulus) ⌝ }
     requires { ⌜ (soundHoldback (setupOf s) v (now buf) ≡ true) × ((2 ≤ length (now buf)) × (count ≡ twoAt (now buf) 0)) ⌝ }
-    ensures {
-        λ p. ⌜ Stands (s .epsilon) (now (buf .entry)) (leading (dueNow (setupOf s) v) (held (s .epsilon) (now (buf .entry)))) (p .index) (p .at) ⌝
-    }
+    ensures { λ p. ⌜ Stands (s .epsilon) (now (buf .entry)) (leading (dueNow (setupOf s) v) (held (s .epsilon) (now (buf .entry)))) (p .index) (p .at) ⌝ }
 {
     let epsilon = s.epsilon as usize;
     let mut i = 0;
@@ -39,19 +37,22 @@ fn due_prefix(s: Setup, v: usize, buf: &[u8], count: usize) -> Place
 }
 
 // 01, tick 6: every frame that is due at v "is handed out, in order, and leaves the shelf". Answers how many.
-pub fn cut_due(s: Setup, v: usize, buf: &mut [u8], count: usize, end: usize, delivery: &mut [u8]) -> usize
+pub fn cut_due(
+    s: Setup,
+    v: usize,
+    buf: &mut [u8],
+    count: usize,
+    end: usize,
+    delivery: &mut [u8],
+) -> usize
     requires { ⌜ (inLimits (setupOf s) ≡ true) × (v < s .modulus) ⌝ }
     requires { ⌜ (soundHoldback (setupOf s) v (now buf) ≡ true) × ((2 ≤ length (now buf)) × (count ≡ twoAt (now buf) 0)) ⌝ }
     requires { ⌜ (end ≡ frameStart (s .epsilon) (now buf) count) × (length (now buf) ≤ length (now delivery)) ⌝ }
     ensures { λ r. ⌜ r ≡ length (select (dueNow (setupOf s) v) (held (s .epsilon) (now (buf .entry)))) ⌝ }
-    ensures {
-        λ _. ⌜ now (buf .exit)
-        ≡ encodeHoldback (length (now (buf .entry))) (select (λ f. not (dueNow (setupOf s) v f)) (held (s .epsilon) (now (buf .entry)))) ⌝
-    }
-    ensures {
-        λ _. ⌜ now (delivery .exit)
-        ≡ overlay (encodeFrames (select (dueNow (setupOf s) v) (held (s .epsilon) (now (buf .entry))))) (now (delivery .entry)) ⌝
-    }
+    ensures { λ _. ⌜ now (buf .exit)
+        ≡ encodeHoldback (length (now (buf .entry))) (select (λ f. not (dueNow (setupOf s) v f)) (held (s .epsilon) (now (buf .entry)))) ⌝ }
+    ensures { λ _. ⌜ now (delivery .exit)
+        ≡ overlay (encodeFrames (select (dueNow (setupOf s) v) (held (s .epsilon) (now (buf .entry))))) (now (delivery .entry)) ⌝ }
 {
     let epsilon = s.epsilon as usize;
     let due = due_prefix(s, v, buf, count);

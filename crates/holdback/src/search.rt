@@ -18,9 +18,7 @@ pub fn place_for(s: Setup, v: usize, buf: &[u8], count: usize, frame: &[u8]) -> 
     requires { ⌜ (inLimits (setupOf s) ≡ true) × (v < s .modulus) ⌝ }
     requires { ⌜ (soundHoldback (setupOf s) v (now buf) ≡ true) × ((2 ≤ length (now buf)) × (count ≡ twoAt (now buf) 0)) ⌝ }
     requires { ⌜ passes (setupOf s) (now frame) ≡ true ⌝ }
-    ensures {
-        λ p. ⌜ Stands (s .epsilon) (now (buf .entry)) (placeFor (setupOf s) v (held (s .epsilon) (now (buf .entry))) (decode (s .epsilon) (now (frame .entry)))) (p .index) (p .at) ⌝
-    }
+    ensures { λ p. ⌜ Stands (s .epsilon) (now (buf .entry)) (placeFor (setupOf s) v (held (s .epsilon) (now (buf .entry))) (decode (s .epsilon) (now (frame .entry)))) (p .index) (p .at) ⌝ }
 {
     let epsilon = s.epsilon as usize;
     let mut i = 0;

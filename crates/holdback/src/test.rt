@@ -18,7 +18,12 @@ pub fn reading_of(s: Setup, v: usize, frame: &[u8]) -> usize
     requires { ⌜ decode (s .epsilon) (now frame) .stamp .r < s .modulus ⌝ }
     ensures { λ r. ⌜ r ≡ readingOf (setupOf s) v (decode (s .epsilon) (now (frame .entry))) ⌝ }
 {
-    near(s.epsilon as usize, s.modulus as usize, v, frame::r_of(frame))
+    near(
+        s.epsilon as usize,
+        s.modulus as usize,
+        v,
+        frame::r_of(frame),
+    )
 }
 
 // Its sum, r + c, with r read near v.

@@ -1,3 +1,4 @@
+-- `holdback::change::cut_prefix` meets its contract: the frames behind the prefix move to the front, zeros follow to the end, and the count falls. Assumes nothing.
 use native.Mathlib.Omega.{arith}
 use Rattle.holdback.proofs.Changes.{located, prefix-cut}
 use borrow.Author.Needs.{needs}

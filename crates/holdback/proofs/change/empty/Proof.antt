@@ -1,3 +1,4 @@
+-- `holdback::change::empty` meets its contract: `splice::clear` over the whole buffer leaves the empty queue. Assumes nothing.
 use mathlib.Core.Path.{_∙_}
 use Rattle.holdback.proofs.Changes.{emptied}
 use borrow.Author.Needs.{needs}

@@ -1,3 +1,4 @@
+-- `holdback::change::put` meets its contract: `splice::insert` at the place, and the count one higher. Assumes nothing.
 use native.Mathlib.Omega.{arith}
 use Rattle.holdback.proofs.Changes.{located, put-placed}
 use borrow.Author.Needs.{needs}

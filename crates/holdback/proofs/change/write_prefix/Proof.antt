@@ -1,3 +1,4 @@
+-- `holdback::change::write_prefix` meets its contract: the number of frames, and then their bytes. Assumes nothing.
 use Prim.Native.Nat.{_-_}
 use native.Mathlib.Omega.{arith}
 use lib.ListN.{drop, length-take, length-drop}

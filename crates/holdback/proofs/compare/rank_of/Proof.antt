@@ -1,3 +1,4 @@
+-- `holdback::compare::rank_of` meets its contract: each field is what the frame has. Assumes nothing.
 use borrow.Author.Needs.{needs}
 use Rattle.holdback.proofs.compare.rank_of.Statement.{statement}
 use Rattle.holdback.proofs.compare.rank_of.Tie as tie

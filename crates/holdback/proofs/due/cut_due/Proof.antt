@@ -1,3 +1,4 @@
+-- `holdback::due::cut_due` meets its contract: what is due is the prefix, and the rest is not. Assumes nothing.
 use native.Mathlib.Omega.{arith}
 use Rattle.timestamp.specs.Views.{setupOf}
 use Rattle.timestamp.proofs.InLimits.{limits-of}
@@ -59,8 +60,7 @@ returns c =
     let counted = start .pre .1 .0 .1 .1 in
     let found = c .before .before .before .before .before .before .before .before .before .due-prefix in
     let kept = c .before .before .cut-prefix .ensures in
-    let given = c .before .before .before .before .before .before .write-prefix .ensures in
-    (
+    let given = c .before .before .before .before .before .before .write-prefix .ensures in (
       due-number s (start .args .v) b sound (found .result .index) (found .result .at) (found .ensures),
       (
         kept ∙ ap (encodeHoldback (length b)) (due-left s (start .args .v) b sound (found .result .index) (found .result .at) (found .ensures)),

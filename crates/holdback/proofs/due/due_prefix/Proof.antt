@@ -1,3 +1,4 @@
+-- `holdback::due::due_prefix` meets its contract. The invariant of the loop: every frame passed is due, and the next one starts at `at`. The measure is what is left of the count. Assumes nothing.
 use borrow.Author.Needs.{needs}
 use native.Mathlib.Omega.{arith}
 use Rattle.timestamp.specs.Views.{setupOf}

@@ -1,3 +1,4 @@
+-- `holdback::origins::mark` meets its contract: one store. Assumes nothing.
 use mathlib.Core.Path.{_≡_, refl, sym, ap, ap₂, _∙_}
 use Prim.Native.Nat.{ℕ}
 use lib.ListN.{set}

@@ -1,3 +1,4 @@
+-- `holdback::origins::repeats` meets its contract: one look-up. Assumes nothing.
 use mathlib.Core.Path.{_≡_, refl, sym, ap, ap₂, _∙_}
 use Prim.Native.Nat.{ℕ}
 use lib.Dec.{eqb}

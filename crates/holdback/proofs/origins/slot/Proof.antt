@@ -1,3 +1,4 @@
+-- `holdback::origins::slot` meets its contract: a station has its row, a reading its place in it. Assumes nothing.
 use native.Mathlib.Omega.{arith}
 use Rattle.timestamp.specs.Views.{setupOf}
 use Rattle.timestamp.proofs.InLimits.{limits-of}

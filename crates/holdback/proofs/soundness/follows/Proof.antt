@@ -1,3 +1,4 @@
+-- `holdback::soundness::follows` meets its contract: the first frame follows nothing; another is compared with the one before it. Assumes nothing.
 use native.Mathlib.Omega.{arith}
 use Rattle.timestamp.specs.Views.{setupOf}
 use Rattle.holdback.proofs.Walks.{follows-none, between-order, previous-passes, own-passes, follows-by}

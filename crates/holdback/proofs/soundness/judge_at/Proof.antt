@@ -1,3 +1,4 @@
+-- `holdback::soundness::judge_at` meets its contract: each test that fails makes the frame unsound, and all together make it sound. Assumes nothing.
 use native.Mathlib.Omega.{arith}
 use Rattle.timestamp.specs.Views.{setupOf}
 use Rattle.timestamp.proofs.InLimits.{limits-of}

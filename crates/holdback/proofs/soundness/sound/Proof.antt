@@ -1,3 +1,4 @@
+-- `holdback::soundness::sound` meets its contract: the table is cleared, the count is in its bound or not, and the walk does the rest. Assumes nothing.
 use Prim.Native.Nat.{_<_}
 use Rattle.model.specs.Setup.{depth}
 use Rattle.model.specs.Frame.{twoAt}
@@ -44,8 +45,7 @@ returns c =
 
 walk-frames-requires : tie.Need-walk-frames-requires
 walk-frames-requires c κs =
-    let start = c .before .before .before .before .before .before .before .before .before .before .before .before .before in
-    (
+    let start = c .before .before .before .before .before .before .before .before .before .before .before .before .before in (
       start .pre .0,
       record {
         two = start .pre .1 .0;

@@ -1,3 +1,4 @@
+-- `holdback::soundness::walk_frames` meets its contract. The invariant of the loop: the frames so far are sound, and the table has their origins. The measure is what is left of the count. Assumes nothing.
 use native.Mathlib.Omega.{arith}
 use Rattle.timestamp.specs.Views.{setupOf}
 use mathlib.Core.Path.{_≡_}

@@ -1,3 +1,4 @@
+-- `holdback::test::fits` meets its contract: the three tests one after the other. Assumes nothing.
 use native.Mathlib.Omega.{arith}
 use Rattle.timestamp.specs.Views.{setupOf}
 use Rattle.timestamp.proofs.InLimits.{limits-of}

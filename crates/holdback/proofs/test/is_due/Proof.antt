@@ -1,3 +1,4 @@
+-- `holdback::test::is_due` meets its contract: the due clock reads B. Assumes nothing.
 use Rattle.timestamp.specs.Views.{setupOf}
 use Rattle.model.specs.Frame.{decode}
 use Rattle.holdback.proofs.Testing.{due-tested}

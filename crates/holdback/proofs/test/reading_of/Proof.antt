@@ -1,3 +1,4 @@
+-- `holdback::test::reading_of` meets its contract: a reading is `near` at the r that the frame has. Assumes nothing.
 use native.Mathlib.Omega.{arith}
 use mathlib.Core.Path.{_≡_, refl, sym, ap, ap₂, _∙_}
 use Rattle.timestamp.specs.Views.{setupOf}

@@ -1,3 +1,4 @@
+-- `holdback::test::sum_of` meets its contract: a reading and c, both bounded. Assumes nothing.
 use native.Mathlib.Omega.{arith}
 use Rattle.timestamp.specs.Views.{setupOf}
 use Rattle.timestamp.proofs.InLimits.{limits-of}
