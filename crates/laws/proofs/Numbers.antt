@@ -10,7 +10,8 @@ use mathlib.Core.Bool.{Bool, true, false, _&&_, _||_, not, cond, true≢false}
 use mathlib.Core.Logic.{_⊎_, inl, inr}
 use mathlib.Core.Path.{_≡_, refl, sym, ap, _∙_}
 use lib.Dec.{leb, ltb, eqb}
-use borrow.Author.Tests.{eqb-true, eqb-false, leb-true, leb-false, eq-eqb}
+use borrow.Author.Tests.{eqb-true, eqb-false, leb-true, leb-false, le-leb, eq-eqb}
+use Rattle.laws.specs.Lists.{within}
 
 -- cases on numbers
 pub lt-or-ge : (a b : ℕ) → (a < b) ⊎ (b ≤ a)
@@ -195,6 +196,19 @@ ap-cond f false x y = refl
 pub eqb-sym : (a b : ℕ) → eqb a b ≡ eqb b a
 eqb-sym a b =
     same-test (eqb a b) (eqb b a) (λ h. eq-eqb b a (sym (eqb-true a b h))) (λ h. eq-eqb a b (sym (eqb-true b a h)))
+
+-- lo ≤ x ≤ hi
+pub within-high : (lo hi x : ℕ) → within lo hi x ≡ true → x ≤ hi
+unfolding within
+within-high lo hi x h = leb-true x hi (and-right (leb lo x) (leb x hi) h)
+
+pub within-low : (lo hi x : ℕ) → within lo hi x ≡ true → lo ≤ x
+unfolding within
+within-low lo hi x h = leb-true lo x (and-left (leb lo x) (leb x hi) h)
+
+pub within-intro : {lo hi x : ℕ} → lo ≤ x → x ≤ hi → within lo hi x ≡ true
+unfolding within
+within-intro {lo} {hi} {x} h k = and-intro (le-leb lo x h) (le-leb x hi k)
 
 -- remainders
 pub mod-add-left : (a b B : ℕ) → (a % B + b) % B ≡ (a + b) % B
