@@ -15,8 +15,8 @@ use Rattle.model.specs.Batch.{batchEntries}
 use Rattle.model.specs.Holdback.{heldBytes}
 use Rattle.model.specs.Tick.{Input, Output, heardOf, newStamp, deliveredOf, takenCount, acceptance, tick}
 use Rattle.theory.specs.Demand2.{heardBefore, AnyState, Demand2Any}
-use Rattle.theory.proofs.Counts.{trimmed-widened}
-use Rattle.theory.proofs.OneTick.{Accepted, accepted-call, opening, hear-length, new-sound, new-tables, tables-are, verdicts-are, verdict-byte, delivered-bytes}
+use Rattle.lemmas.proofs.Counts.{trimmed-widened}
+use Rattle.lemmas.proofs.OneTick.{Accepted, accepted-call, opening, hear-length, new-sound, new-tables, tables-are, verdicts-are, verdict-byte, delivered-bytes}
 
 taken-is : (i : Input) → Accepted i → tick i .answer .taken ≡ takenCount (heardOf i .verdicts)
 unfolding acceptance

@@ -13,8 +13,8 @@ use Rattle.laws.proofs.Lex.{lex-head-lt, lex-head-eq, lex-append, lex-dominated
 use Rattle.model.specs.Timestamp.{Timestamp, countAt, sum}
 use Rattle.model.specs.Frame.{Frame}
 use Rattle.model.specs.Order.{key, countsDown}
-use Rattle.theory.proofs.Bounds.{Sound}
-use Rattle.theory.proofs.Counts.{count-index}
+use Rattle.lemmas.proofs.Bounds.{Sound}
+use Rattle.lemmas.proofs.Counts.{count-index}
 
 -- entry k of the counts of a key is for the clock k below the sum
 counts-down-at : (epsilon R : ℕ) (t : Timestamp) (k : ℕ) → k < epsilon → getD (countsDown epsilon t) k 0 ≡ countAt R (t .kn) (R + t .c + epsilon - k)

@@ -5,7 +5,7 @@ use mathlib.Core.Path.{_≡_, refl, ap, _∙_, sym}
 use Rattle.model.specs.Question.{firstNo}
 use Rattle.model.specs.Tick.{Input, Output, callQuestions, acceptance, tick}
 use Rattle.theory.specs.Demand1.{Demand1}
-use Rattle.theory.proofs.OneTick.{tick-by, refusal-number}
+use Rattle.lemmas.proofs.OneTick.{tick-by, refusal-number}
 
 -- the number in the answer is that of the first question that gets a no
 number-is : (i : Input) → tick i .answer .number ≡ firstNo (callQuestions i)

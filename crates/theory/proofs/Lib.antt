@@ -1,12 +1,6 @@
-pub mod Questions
-pub mod Bounds
-pub mod Reading
-pub mod Counts
 pub mod Cause
-pub mod RoundTrip
-pub mod Queue
+pub mod Bytes
 pub mod Readers
-pub mod OneTick
 pub mod Demand1
 pub mod AnyState
 pub mod Instance

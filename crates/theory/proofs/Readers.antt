@@ -2,27 +2,27 @@
 -- Assumes nothing.
 use Prim.Native.Nat.{ℕ, zero, suc, _+_, _*_, _-_, _/_, _%_, _≤_, _<_}
 use native.Mathlib.Omega.{arith}
-use mathlib.Core.Path.{_≡_, refl, sym, ap, ap₂, _∙_}
-use mathlib.Core.Bool.{Bool, true, false, _&&_}
+use mathlib.Core.Path.{_≡_, refl, sym, ap, _∙_}
+use mathlib.Core.Bool.{true}
 use mathlib.Core.List.{List, [], _∷_, _++_, map, append-assoc, List·Memᴰ}
-use lib.Dec.{leb, ltb, eqb}
+use lib.Dec.{leb, ltb}
 use lib.ListN.{length, take, drop, replicate, length-map, take-append-drop}
 use lib.Seq.{drop-append-seam}
-use borrow.Author.Tests.{le-leb, lt-ltb, leb-true, ltb-true, eqb-true}
+use borrow.Author.Tests.{le-leb, lt-ltb, leb-true, ltb-true}
 use Rattle.laws.specs.Lists.{every, joined, overlay, padded}
 use Rattle.laws.proofs.Numbers.{and-left, and-right}
 use Rattle.laws.proofs.Lists.{every-take, every-drop, every-mono, take-overlay}
 use Rattle.model.specs.Setup.{Setup, width, inLimits, depth, holdbackLength, longestPayload}
-use Rattle.model.specs.Timestamp.{Timestamp, trimmed, widened, soundTimestamp}
+use Rattle.model.specs.Timestamp.{Timestamp, trimmed, widened}
 use Rattle.model.specs.Frame.{Frame, encode, decode, wellFormed, frameEnd, twoAt, twoBytes}
-use Rattle.model.specs.Question.{Question, ask, firstNo, askSetup, askForm, askRange, askStamp, frameQuestions}
-use Rattle.model.specs.Codec.{askPayload, readQuestions, ReadAnswer, readBy, read, frameOf, writeQuestions, WriteAnswer, writeBy, write}
+use Rattle.model.specs.Question.{ask, firstNo, askSetup, askRange, askStamp, frameQuestions}
+use Rattle.model.specs.Codec.{askPayload, readQuestions, readBy, read, frameOf, writeQuestions, writeBy, write}
 use Rattle.model.specs.Holdback.{cutFrames, heldBytes, held, passes, soundHoldback, encodeFrames, encodeHoldback}
 use Rattle.model.specs.Tick.{holdbackSize}
-use Rattle.theory.proofs.Bounds.{Limits, Sound, FrameOk}
-use Rattle.theory.proofs.Questions.{limits-from, first-yes, other-yes}
-use Rattle.theory.proofs.Counts.{sound-from, sound-to, trimmed-wide, trimmed-widened}
-use Rattle.theory.proofs.RoundTrip.{none-no, bounds-passed, form-passed, passes-formed, decode-encode, encode-decode, frame-passes, frame-passed, held-frames}
+use Rattle.lemmas.proofs.Bounds.{FrameOk}
+use Rattle.lemmas.proofs.Questions.{limits-from, first-yes}
+use Rattle.lemmas.proofs.Counts.{sound-to, trimmed-wide, trimmed-widened}
+use Rattle.lemmas.proofs.RoundTrip.{none-no, bounds-passed, form-passed, passes-formed, decode-encode, encode-decode, frame-passes, frame-passed, held-frames}
 
 -- the writer accepts what is in its bounds and fits, and nothing else
 pub record Written (s : Setup) (f : Frame) (buffer : List ℕ) : Type 0 where

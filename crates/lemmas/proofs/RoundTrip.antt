@@ -1,26 +1,27 @@
 -- What is written reads back the same: frame, queue, delivery.
-use Prim.Native.Nat.{ℕ, zero, suc, _+_, _*_, _-_, _/_, _%_, _≤_, _<_}
+-- Assumes nothing.
+use Prim.Native.Nat.{ℕ, suc, _+_, _*_, _-_, _/_, _%_, _≤_, _<_}
 use native.Mathlib.Omega.{arith}
-use native.Mathlib.Nat.{div-add-mod, mod-lt, mul-le-mul-right, mul-comm}
+use native.Mathlib.Nat.{mul-le-mul-right, mul-comm}
 use native.Mathlib.Numerals.{add-one}
 use mathlib.Core.Path.{_≡_, refl, sym, ap, ap₂, _∙_}
-use mathlib.Core.Bool.{Bool, true, false, _&&_, cond}
+use mathlib.Core.Bool.{Bool, true, _&&_}
 use mathlib.Core.List.{List, [], _∷_, _++_, map, append-assoc, append-nil, map-id, List·Memᴰ, List·Memᴰ·head, List·Memᴰ·tail}
 use lib.Dec.{leb, ltb, eqb}
 use lib.ListN.{length, take, drop, getD, length-append, length-take, length-drop, replicate, take-append-drop}
-use lib.Seq.{take-at, drop-at, getD-at, take-append-seam, drop-append-seam, drop-append-add, getD-append-add, drop-cons, drop-drop, getD-drop}
+use lib.Seq.{take-at, getD-at, take-append-seam, drop-append-seam, drop-append-add, getD-append-add, drop-cons, drop-drop}
 use borrow.Author.Tests.{le-leb, lt-ltb, eq-eqb, leb-true, ltb-true, eqb-true}
-use Rattle.laws.specs.Lists.{tab, every, joined, overlay, padded}
+use Rattle.laws.specs.Lists.{tab, every, joined, padded}
 use Rattle.laws.proofs.Numbers.{and-intro, and-left, and-right}
 use Rattle.laws.proofs.Lists.{tab-take, every-index, map-map, map-ext, length-joined-le, length-padded}
 use Rattle.model.specs.Setup.{Setup, width, depth, longestFrame, holdbackLength}
-use Rattle.model.specs.Timestamp.{Timestamp, soundTimestamp}
+use Rattle.model.specs.Timestamp.{soundTimestamp}
 use Rattle.model.specs.Frame.{Frame, section, twoBytes, twoAt, encode, decode, payloadCountAt, wellFormed, frameEnd}
 use Rattle.model.specs.Question.{Question, ask, firstNo, askForm, askRange, askStamp, frameQuestions}
 use Rattle.model.specs.Holdback.{cutFrames, heldBytes, held, passes, encodeFrames, encodeHoldback}
-use Rattle.theory.proofs.Bounds.{Limits, Sound, FrameOk}
-use Rattle.theory.proofs.Questions.{first-yes, other-yes}
-use Rattle.theory.proofs.Counts.{sound-from, sound-to}
+use Rattle.lemmas.proofs.Bounds.{Limits, FrameOk}
+use Rattle.lemmas.proofs.Questions.{first-yes, other-yes}
+use Rattle.lemmas.proofs.Counts.{sound-from, sound-to}
 
 -- the bytes of a frame, opened
 pub encode-bytes : (f : Frame) → encode f ≡ 3 ∷ f .station ∷ f .stamp .r % 256 ∷ f .stamp .r / 256 ∷ suc (length (f .stamp .kn)) ∷ f .stamp .c ∷ (f .stamp .kn ++ (length (f .payload) ∷ f .payload))

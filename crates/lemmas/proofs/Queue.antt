@@ -1,33 +1,33 @@
 -- The hold-back queue stays sound: opening it, taking a frame, letting the due ones go; it is never full.
 -- Assumes nothing.
-use Prim.Native.Nat.{ℕ, zero, suc, _+_, _-_, _*_, _%_, _≤_, _<_}
+use Prim.Native.Nat.{ℕ, suc, _+_, _-_, _*_, _%_, _≤_, _<_}
 use native.Mathlib.Omega.{arith}
-use native.Mathlib.Nat.{mod-lt, mul-le-mul-right, mul-le-mul-left, mul-suc}
+use native.Mathlib.Nat.{mul-le-mul-right, mul-suc}
 use mathlib.Core.Path.{_≡_, refl, sym, ap, ap₂, _∙_}
 use mathlib.Core.Bool.{Bool, true, false, not, _&&_, cond}
 use mathlib.Core.Logic.{_⊎_, inl, inr}
-use mathlib.Core.List.{List, [], _∷_, _++_, map, List·Memᴰ, List·Memᴰ·not-nil, Memᴰ·of-map}
-use lib.Dec.{leb, ltb, eqb}
-use lib.ListN.{length, drop, replicate}
+use mathlib.Core.List.{List, [], _∷_, List·Memᴰ, List·Memᴰ·not-nil, Memᴰ·of-map}
+use lib.Dec.{leb, eqb}
+use lib.ListN.{length, drop}
 use lib.Seq.{drop-at}
-use borrow.Author.Tests.{le-leb, lt-ltb, eq-eqb, leb-true, ltb-true, eqb-true, eqb-false}
-use Rattle.laws.specs.Lists.{any, every, chained, apart, insertAt, leading, select, padded}
+use borrow.Author.Tests.{le-leb, lt-ltb, eq-eqb, leb-true, eqb-false}
+use Rattle.laws.specs.Lists.{any, every, chained, apart, insertAt, select}
 use Rattle.laws.specs.Lex.{lexCompare}
-use Rattle.laws.proofs.Numbers.{true-or-false, clash, and-intro, and-left, and-right, false-of-not, not-of-false, not-of-true, eqb-sym}
-use Rattle.laws.proofs.Lists.{length-tab, every-mem, every-of-mem, every-map, every-insertAt, every-select, any-of-mem, any-false, mem-of-insertAt, mem-of-select}
+use Rattle.laws.proofs.Numbers.{clash, and-intro, and-left, and-right, false-of-not, eqb-sym}
+use Rattle.laws.proofs.Lists.{length-tab, every-mem, every-of-mem, every-map, every-insertAt, any-false, mem-of-insertAt, mem-of-select}
 use Rattle.laws.proofs.Lex.{lex-shift}
-use Rattle.laws.proofs.Sorted.{Sorted, lessBy, sorted-of-chained, chained-of-sorted, sorted-select, sorted-insert, sorted-rekey, apart-select, apart-insertAt, pigeonhole-pairs}
-use Rattle.model.specs.Setup.{Setup, width, depth, holdbackLength}
+use Rattle.laws.proofs.Sorted.{Sorted, sorted-of-chained, chained-of-sorted, sorted-select, sorted-insert, sorted-rekey, apart-select, apart-insertAt, pigeonhole-pairs}
+use Rattle.model.specs.Setup.{Setup, width, depth}
 use Rattle.model.specs.Timestamp.{sum, near, atMost}
-use Rattle.model.specs.Frame.{Frame, encode, decode, twoAt, twoBytes}
+use Rattle.model.specs.Frame.{Frame, encode, decode, twoAt}
 use Rattle.model.specs.Order.{countsDown, key, keyNear, compareFrames, before, due, dueNear}
-use Rattle.model.specs.Holdback.{sameOrigin, passes, notEarly, notOverdue, heldBytes, held, soundHoldback, encodeFrames, encodeHoldback}
-use Rattle.model.specs.Question.{Question, ask, firstNo, frameQuestions}
+use Rattle.model.specs.Holdback.{sameOrigin, passes, notEarly, notOverdue, heldBytes, held, soundHoldback, encodeHoldback}
+use Rattle.model.specs.Question.{firstNo}
 use Rattle.model.specs.Judge.{readingOf, askLate, askEarly, askCounts, askRepeat, askRoom, placeQuestions, judgeQuestions, placeFor}
 use Rattle.model.specs.Tick.{Input, queueSound, openingQueue, dueNow, holdbackSize}
-use Rattle.theory.proofs.Bounds.{Limits, Sound, FrameOk, QueueOk}
-use Rattle.theory.proofs.Reading.{near-high, near-next, near-injective}
-use Rattle.theory.proofs.RoundTrip.{decode-encode, none-no, frame-passes, frame-passed, passes-encode, passes-decode, two-at-holdback, held-bytes-holdback, held-holdback}
+use Rattle.lemmas.proofs.Bounds.{Limits, FrameOk, QueueOk}
+use Rattle.lemmas.proofs.Reading.{near-high, near-next, near-injective}
+use Rattle.lemmas.proofs.RoundTrip.{decode-encode, none-no, frame-passes, frame-passed, passes-encode, passes-decode, two-at-holdback, held-bytes-holdback, held-holdback}
 
 -- the tests of a frame's time, as facts
 pub early-from : (s : Setup) (v : ℕ) (f : Frame) → notEarly s v f ≡ true → readingOf s v f + f .stamp .c ≤ s .modulus + (s .epsilon - 1)

@@ -11,7 +11,7 @@ use Rattle.laws.specs.Lists.{within}
 use Rattle.laws.proofs.Numbers.{and-left, and-right, and-intro}
 use Rattle.model.specs.Setup.{Setup, inLimits, leastModulus}
 use Rattle.model.specs.Question.{Question, ask, firstNo}
-use Rattle.theory.proofs.Bounds.{Limits}
+use Rattle.lemmas.proofs.Bounds.{Limits}
 
 -- a list with no no: the first question gets a yes, and so do the others
 pub first-yes : (holds : Bool) (k : ℕ) (qs : List Question) → firstNo (ask holds (suc k) ∷ qs) ≡ 0 → holds ≡ true

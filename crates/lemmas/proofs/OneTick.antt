@@ -24,12 +24,12 @@ use Rattle.model.specs.Question.{Question, ask, askSetup, firstNo}
 use Rattle.model.specs.Codec.{askPayload}
 use Rattle.model.specs.Judge.{Heard, Verdict, taken, refused, verdictBy, judge, hearBy, hear, hearOne, judgeQuestions, placeFor, readingOf}
 use Rattle.model.specs.Tick.{Input, Output, holdbackSize, roomy, callQuestions, ownStamp, tablesSound, queueSound, openingStamp, openingQueue, heardOf, newStamp, sentBytes, deliveredOf, keptOf, dueNow, repairOf, acceptance, refusal, tickBy, tick}
-use Rattle.theory.proofs.Bounds.{Limits, Sound, Opened, FrameOk, QueueOk}
-use Rattle.theory.proofs.Questions.{first-yes, other-yes, limits-from}
-use Rattle.theory.proofs.Counts.{opened-step, opened-replaced, opened-absorb, own-sound, own-tables, trimmed-wide, trimmed-widened}
-use Rattle.theory.proofs.Reading.{near-high}
-use Rattle.theory.proofs.RoundTrip.{held-encode, held-holdback}
-use Rattle.theory.proofs.Queue.{Passed, judged-passed, opening-queue, queue-take, queue-room, queue-next, queue-sound}
+use Rattle.lemmas.proofs.Bounds.{Limits, Sound, Opened, FrameOk, QueueOk}
+use Rattle.lemmas.proofs.Questions.{first-yes, other-yes, limits-from}
+use Rattle.lemmas.proofs.Counts.{opened-step, opened-replaced, opened-absorb, own-sound, own-tables, trimmed-wide, trimmed-widened}
+use Rattle.lemmas.proofs.Reading.{near-high}
+use Rattle.lemmas.proofs.RoundTrip.{held-encode, held-holdback}
+use Rattle.lemmas.proofs.Queue.{Passed, judged-passed, opening-queue, queue-take, queue-room, queue-next, queue-sound}
 
 -- the tick by the number of the first question that gets a no
 pub tick-by : (i : Input) (k : ℕ) → firstNo (callQuestions i) ≡ k → tick i ≡ tickBy k i

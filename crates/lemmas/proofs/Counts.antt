@@ -16,7 +16,7 @@ use Rattle.laws.proofs.Numbers.{lt-or-ge, eq-or-ne, and-intro, and-left, and-ri
 use Rattle.laws.proofs.Lists.{length-tab, getD-tab, getD-tab-out, tab-getD, tab-ext, every-index, every-of-index, getD-zeros, getD-append-zeros, getD-padded}
 use Rattle.model.specs.Setup.{width, widest}
 use Rattle.model.specs.Timestamp.{Timestamp, countAt, sum, atMost, soundTimestamp, soundTables, shift, step, replaced, absorb, countOwn, trimmed, widened, fresh}
-use Rattle.theory.proofs.Bounds.{Sound, Opened}
+use Rattle.lemmas.proofs.Bounds.{Sound, Opened}
 
 -- counts outside the window read 0
 pub count-below : (R : ℕ) (kn : List ℕ) (w : ℕ) → w < R → countAt R kn w ≡ 0
