@@ -101,6 +101,14 @@ unfolding lexCompare
 lex-refl [] = refl
 lex-refl (x ∷ l) = lex-head-eq x x l l refl ∙ lex-refl l
 
+pub lex-flip : (a b : List ℕ) → lexCompare b a ≡ flipped (lexCompare a b)
+unfolding lexCompare
+lex-flip [] [] = refl
+lex-flip [] (y ∷ b) = refl
+lex-flip (x ∷ a) [] = refl
+lex-flip (x ∷ a) (y ∷ b) =
+    rw (compare-flip x y, lex-flip a b) (orElse-flip (compare x y) (lexCompare a b))
+
 pub lex-eq : (a b : List ℕ) → lexCompare a b ≡ Ordering·eq → a ≡ b
 unfolding lexCompare
 lex-eq [] [] h = refl
@@ -115,14 +123,6 @@ lex-eq (x ∷ a) (y ∷ b) h =
             | inr k ↦ absurd (eq-not-gt h (lex-head-gt x y a b (omega arith)))
           ]
     ]
-
-pub lex-flip : (a b : List ℕ) → lexCompare b a ≡ flipped (lexCompare a b)
-unfolding lexCompare
-lex-flip [] [] = refl
-lex-flip [] (y ∷ b) = refl
-lex-flip (x ∷ a) [] = refl
-lex-flip (x ∷ a) (y ∷ b) =
-    rw (compare-flip x y, lex-flip a b) (orElse-flip (compare x y) (lexCompare a b))
 
 pub lex-gt-of-lt : (a b : List ℕ) → lexCompare a b ≡ Ordering·lt → lexCompare b a ≡ Ordering·gt
 lex-gt-of-lt a b h = lex-flip a b ∙ ap flipped h

@@ -2,7 +2,7 @@
 -- Assumes nothing.
 use Prim.Native.Nat.{ℕ, zero, suc, _+_, _*_, _-_, _≤_, _<_, max, zero-le, suc-le-suc}
 use native.Mathlib.Omega.{arith}
-use native.Mathlib.Nat.{suc-inj, not-suc-le-zero, le-of-suc-le-suc, zero-add, suc-add, add-suc, zero-sub, sub-zero, suc-sub-suc, suc-mul, zero-mul}
+use native.Mathlib.Nat.{suc-inj, not-suc-le-zero, le-of-suc-le-suc, zero-add, add-zero, suc-add, add-suc, zero-sub, sub-zero, suc-sub-suc, suc-mul, zero-mul}
 use mathlib.Core.Bool.{Bool, true, false, _&&_, _||_, not, cond}
 use mathlib.Core.List.{List, [], _∷_, _++_, map, append-assoc, append-nil}
 use mathlib.Core.List.{List·Memᴰ, List·Memᴰ·head, List·Memᴰ·tail, List·Memᴰ·not-nil, List·Memᴰ·cases-cons, Memᴰ·append-left, Memᴰ·append-right, List·Memᴰ·append-cases}
@@ -12,8 +12,9 @@ use mathlib.Core.Path.{_≡_, refl, sym, ap, ap₂, _∙_}
 use lib.Dec.{leb, eqb, eqb·zero-suc, eqb·suc-zero, eqb·suc-suc}
 use lib.ListN.{length, take, drop, getD, set, replicate, getElem?}
 use lib.ListN.{length-append, length-drop, length-replicate, take-append-drop, List·getD-eq-default, List·getD-append}
+use borrow.Author.Tests.{eqb-true, eq-eqb}
 use lib.Seq.{take-all, take-append-seam, drop-append-seam, take-append-le, getD-append-add}
-use Rattle.laws.specs.Lists.{tab, every, any, select, leading, insertAt, overlay, joined, largest, padded}
+use Rattle.laws.specs.Lists.{tab, every, any, select, selectFrom, sameList, leading, insertAt, overlay, joined, largest, padded}
 use Rattle.laws.proofs.Numbers.{lt-or-ge, true-or-false, clash, and-intro, and-left, and-right, or-left, or-right, or-cases, or-false-left, or-false-right, or-false-intro, false-of-no}
 
 module _ {A : Type 0} where
@@ -400,6 +401,17 @@ module _ {A : Type 0} where
   length-insertAt (suc i) x [] = refl
   length-insertAt (suc i) x (y ∷ l) = ap suc (length-insertAt i x l)
 
+  pub insertAt-end : (x : A) (l : List A) → insertAt (length l) x l ≡ l ++ (x ∷ [])
+  unfolding insertAt
+  insertAt-end x [] = refl
+  insertAt-end x (y ∷ l) = ap₂ _∷_ refl (insertAt-end x l)
+
+  pub getD-insertAt : (i : ℕ) (x : A) (l : List A) (d : A) → i ≤ length l → getD (insertAt i x l) i d ≡ x
+  unfolding insertAt
+  getD-insertAt zero x l d h = refl
+  getD-insertAt (suc i) x [] d h = absurd (not-suc-le-zero h)
+  getD-insertAt (suc i) x (y ∷ l) d h = getD-insertAt i x l d (le-of-suc-le-suc h)
+
   pub mem-insertAt-new : (i : ℕ) (x : A) (l : List A) → List·Memᴰ x (insertAt i x l)
   unfolding insertAt
   mem-insertAt-new i x l = Memᴰ·append-right (take i l) (List·Memᴰ·head refl)
@@ -544,6 +556,92 @@ module _ {A : Type 0} where
           let s : getElem? (l ++ (x ∷ [])) (length l) ≡ some x = getElem?-last l x in
           let t : getElem? (l ++ (x ∷ [])) (length l) ≡ some y = rw q at e in
           inr (q, cc)
+
+  -- the elements that pass at their position
+  pub selectFrom-yes : (p : ℕ → A → Bool) (i : ℕ) (x : A) (l : List A) → p i x ≡ true → selectFrom p i (x ∷ l) ≡ x ∷ selectFrom p (suc i) l
+  unfolding selectFrom
+  selectFrom-yes p i x l e = rw e
+
+  pub selectFrom-no : (p : ℕ → A → Bool) (i : ℕ) (x : A) (l : List A) → p i x ≡ false → selectFrom p i (x ∷ l) ≡ selectFrom p (suc i) l
+  unfolding selectFrom
+  selectFrom-no p i x l e = rw e
+
+  pub mem-selectFrom : (p : ℕ → A → Bool) (i : ℕ) (l : List A) (k : ℕ) {x : A} → getElem? l k ≡ some x → p (i + k) x ≡ true → List·Memᴰ x (selectFrom p i l)
+  mem-selectFrom p i [] k {x} e h = let z : _≡_ {A = ℕ} 0 1 = cc in absurd (omega arith)
+  mem-selectFrom p i (y ∷ l) zero {x} e h =
+      let q : x ≡ y = cc in
+      let t : p i y ≡ true = rw (add-zero i, q) at h in
+      rw (selectFrom-yes p i y l t) (List·Memᴰ·head q)
+  mem-selectFrom p i (y ∷ l) (suc k) {x} e h =
+      let r : List·Memᴰ x (selectFrom p (suc i) l) = mem-selectFrom p (suc i) l k e (rw (suc-add, ← add-suc i k) h) in
+      elim (true-or-false (p i y)) [
+        | inl t ↦ rw (selectFrom-yes p i y l t) (List·Memᴰ·tail r)
+        | inr t ↦ rw (selectFrom-no p i y l t) r
+      ]
+
+  pub mem-of-selectFrom : (p : ℕ → A → Bool) (i : ℕ) (l : List A) {x : A} → List·Memᴰ x (selectFrom p i l) → (k : ℕ) × (getElem? l k ≡ some x) × (p (i + k) x ≡ true)
+  unfolding selectFrom
+  mem-of-selectFrom p i [] m = absurd (List·Memᴰ·not-nil m)
+  mem-of-selectFrom p i (y ∷ l) {x} m =
+      go (true-or-false (p i y)) (λ (t : List·Memᴰ x (selectFrom p (suc i) l)). later (mem-of-selectFrom p (suc i) l t))
+    where
+      Found : Type 0
+      Found = (k : ℕ) × (getElem? (y ∷ l) k ≡ some x) × (p (i + k) x ≡ true)
+
+      later : (k : ℕ) × (getElem? l k ≡ some x) × (p (suc i + k) x ≡ true) → Found
+      later r = (suc (r .0), r .1, rw (add-suc, ← suc-add) (r .2))
+
+      go : (p i y ≡ true) ⊎ (p i y ≡ false) → (List·Memᴰ x (selectFrom p (suc i) l) → Found) → Found
+      go (inl e) f =
+          elim (List·Memᴰ·cases-cons (rw (selectFrom-yes p i y l e) at m)) [
+            | inl q ↦ (0, ap some (sym q), rw (add-zero i, q) e)
+            | inr t ↦ f t
+          ]
+      go (inr e) f = f (rw (selectFrom-no p i y l e) at m)
+
+  pub mem-selectFrom-zero : (p : ℕ → A → Bool) (l : List A) (k : ℕ) {x : A} → getElem? l k ≡ some x → p k x ≡ true → List·Memᴰ x (selectFrom p 0 l)
+  mem-selectFrom-zero p l k e h = mem-selectFrom p 0 l k e (rw (zero-add k) h)
+
+  pub mem-of-selectFrom-zero : (p : ℕ → A → Bool) (l : List A) {x : A} → List·Memᴰ x (selectFrom p 0 l) → (k : ℕ) × (getElem? l k ≡ some x) × (p k x ≡ true)
+  mem-of-selectFrom-zero p l {x} m =
+      let r = mem-of-selectFrom p 0 l m in
+      let t : p (r .0) x ≡ true = rw (zero-add (r .0)) at (r .2) in (r .0, r .1, t)
+
+  pub selectFrom-append : (p : ℕ → A → Bool) (i : ℕ) (a b : List A) → selectFrom p i (a ++ b) ≡ selectFrom p i a ++ selectFrom p (i + length a) b
+  unfolding selectFrom
+  selectFrom-append p i [] b = rw (add-zero i)
+  selectFrom-append p i (x ∷ a) b =
+      let t : selectFrom p (suc i) (a ++ b) ≡ selectFrom p (suc i) a ++ selectFrom p (i + suc (length a)) b =
+      rw (add-suc i (length a), ← suc-add i (length a)) (selectFrom-append p (suc i) a b)
+      in
+      elim (true-or-false (p i x)) [
+        | inl e ↦ rw e (ap₂ _∷_ refl t)
+        | inr e ↦ rw e t
+      ]
+
+  pub selectFrom-ext : (p q : ℕ → A → Bool) (i : ℕ) (l : List A) → ((k : ℕ) (x : A) → getElem? l k ≡ some x → p (i + k) x ≡ q (i + k) x) → selectFrom p i l ≡ selectFrom q i l
+  unfolding selectFrom
+  selectFrom-ext p q i [] h = refl
+  selectFrom-ext p q i (x ∷ l) h =
+      let e : p i x ≡ q i x = rw (add-zero i) at (h 0 x refl) in
+      let t : selectFrom p (suc i) l ≡ selectFrom q (suc i) l =
+      selectFrom-ext p q (suc i) l (λ k y g. rw (suc-add i k, ← add-suc i k) (h (suc k) y g))
+      in
+      rw (e, t)
+
+  pub selectFrom-const : (p : A → Bool) (i : ℕ) (l : List A) → selectFrom (λ k. p) i l ≡ select p l
+  unfolding selectFrom select
+  selectFrom-const p i [] = refl
+  selectFrom-const p i (x ∷ l) = rw (selectFrom-const p (suc i) l)
+
+  pub select-selectFrom : (q : A → Bool) (p : ℕ → A → Bool) (i : ℕ) (l : List A) → select q (selectFrom p i l) ≡ selectFrom (λ k x. p k x && q x) i l
+  unfolding selectFrom select
+  select-selectFrom q p i [] = refl
+  select-selectFrom q p i (x ∷ l) =
+      elim (true-or-false (p i x)) [
+        | inl e ↦ rw (e, select-selectFrom q p (suc i) l)
+        | inr e ↦ rw e (select-selectFrom q p (suc i) l)
+      ]
 
   -- how many elements pass
   unfoldable pub countOf : (A → Bool) → List A → ℕ
@@ -780,6 +878,23 @@ module _ {A : Type 0} where
   largest-map-mono f g [] h = zero-le
   largest-map-mono f g (x ∷ l) h =
       omega (arith, h x (List·Memᴰ·head refl), largest-map-mono f g l (λ y m. h y (List·Memᴰ·tail m)))
+
+-- the test that two lists are the same
+pub sameList-true : (a b : List ℕ) → sameList a b ≡ true → a ≡ b
+unfolding sameList
+sameList-true [] [] h = refl
+sameList-true [] (y ∷ b) h = absurd (clash h refl)
+sameList-true (x ∷ a) [] h = absurd (clash h refl)
+sameList-true (x ∷ a) (y ∷ b) h =
+    ap₂ _∷_ (eqb-true x y (and-left (eqb x y) (sameList a b) h)) (sameList-true a b (and-right (eqb x y) (sameList a b) h))
+
+pub sameList-refl : (a : List ℕ) → sameList a a ≡ true
+unfolding sameList
+sameList-refl [] = refl
+sameList-refl (x ∷ a) = and-intro (eq-eqb x x refl) (sameList-refl a)
+
+pub sameList-eq : {a b : List ℕ} → a ≡ b → sameList a b ≡ true
+sameList-eq {a} {b} e = rw e (sameList-refl b)
 
 -- zeros up to n places
 pub length-padded : (n : ℕ) (l : List ℕ) → length l ≤ n → length (padded n l) ≡ n

@@ -198,13 +198,13 @@ eqb-sym a b =
     same-test (eqb a b) (eqb b a) (λ h. eq-eqb b a (sym (eqb-true a b h))) (λ h. eq-eqb a b (sym (eqb-true b a h)))
 
 -- lo ≤ x ≤ hi
-pub within-low : (lo hi x : ℕ) → within lo hi x ≡ true → lo ≤ x
-unfolding within
-within-low lo hi x h = leb-true lo x (and-left (leb lo x) (leb x hi) h)
-
 pub within-high : (lo hi x : ℕ) → within lo hi x ≡ true → x ≤ hi
 unfolding within
 within-high lo hi x h = leb-true x hi (and-right (leb lo x) (leb x hi) h)
+
+pub within-low : (lo hi x : ℕ) → within lo hi x ≡ true → lo ≤ x
+unfolding within
+within-low lo hi x h = leb-true lo x (and-left (leb lo x) (leb x hi) h)
 
 pub within-intro : {lo hi x : ℕ} → lo ≤ x → x ≤ hi → within lo hi x ≡ true
 unfolding within

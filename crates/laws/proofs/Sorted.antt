@@ -2,20 +2,21 @@
 -- Assumes nothing.
 use Prim.Native.Nat.{ℕ, zero, suc, _+_, _*_, _-_, _≤_, _<_, zero-le, suc-le-suc, Ordering·lt, Ordering·eq, Ordering·gt}
 use native.Mathlib.Omega.{arith}
-use native.Mathlib.Nat.{not-suc-le-zero, le-of-suc-le-suc, mul-le-mul-right, suc-mul}
+use native.Mathlib.Nat.{add-zero, add-suc, suc-add, not-suc-le-zero, le-of-suc-le-suc, mul-le-mul-right, suc-mul}
 use mathlib.Core.Bool.{Bool, true, false, _&&_, _||_, not, cond}
 use mathlib.Core.List.{List, [], _∷_, _++_, map}
 use mathlib.Core.List.{List·Memᴰ, List·Memᴰ·head, List·Memᴰ·tail, List·Memᴰ·not-nil, List·Memᴰ·cases-cons, Memᴰ·append-left, Memᴰ·append-right}
 use mathlib.Core.Logic.{_⊎_, inl, inr}
 use mathlib.Core.Path.{_≡_, refl, sym, ap, ap₂, _∙_}
+use mathlib.Core.Option.{some}
 use lib.Dec.{eqb}
-use lib.ListN.{length, take, drop, getD, take-append-drop}
+use lib.ListN.{length, take, drop, getD, getElem?, take-append-drop}
 use borrow.Author.Tests.{eqb-true, eqb-false, eq-eqb, ne-eqb}
-use Rattle.laws.specs.Lists.{every, any, select, leading, insertAt, chained, apart}
+use Rattle.laws.specs.Lists.{every, any, select, selectFrom, leading, insertAt, chained, apart}
 use Rattle.laws.specs.Lex.{isLess, lexCompare}
 use Rattle.laws.proofs.Numbers.{lt-or-ge, eq-or-ne, true-or-false, clash, and-intro, and-left, and-right, not-of-true, not-of-false, true-of-not, false-of-not, false-of-no, or-false-left, or-false-right}
 use Rattle.laws.proofs.Lists.{every-index, every-of-index, every-mem, every-of-mem, every-mono, every-mono-mem, every-take, every-drop, every-select, every-append, every-append-intro, every-append-left, every-append-right, every-insertAt, every-map, every-ext}
-use Rattle.laws.proofs.Lists.{any-of-mem, any-false, any-of-false, mem-of-take, mem-of-drop, mem-getD, mem-select, mem-of-select, select-yes, select-no, select-all, select-none, mem-insertAt-new, mem-insertAt-old, mem-of-insertAt, length-insertAt}
+use Rattle.laws.proofs.Lists.{any-of-mem, any-false, any-of-false, mem-of-take, mem-of-drop, mem-getD, mem-select, mem-of-select, select-yes, select-no, select-all, select-none, mem-insertAt-new, mem-insertAt-old, mem-of-insertAt, length-insertAt, selectFrom-yes, selectFrom-no, mem-of-selectFrom}
 use Rattle.laws.proofs.Lex.{isLess-lt, lt-isLess, lex-irrefl, lex-trans, lex-asym, lex-total}
 
 module _ {A : Type 0} where
@@ -117,6 +118,30 @@ module _ {A : Type 0} (r : A → A → Bool) where
         | inl e ↦ rw e (every-mem (λ (w : A). r w x) h m)
         | inr q ↦ pairwise-across (take i l) (drop i l) (rw (take-append-drop i l) t) m q
       ])
+
+  -- the elements that pass at their positions, where any two of them stand in the relation
+  pub pairwise-selectFrom : (p : ℕ → A → Bool) (i : ℕ) (l : List A) → ((j k : ℕ) (x y : A) → j < k → getElem? l j ≡ some x → getElem? l k ≡ some y → p (i + j) x ≡ true → p (i + k) y ≡ true → r x y ≡ true) → pairwise r (selectFrom p i l) ≡ true
+  unfolding selectFrom pairwise
+  pairwise-selectFrom p i [] f = refl
+  pairwise-selectFrom p i (z ∷ l) f =
+      let rest : pairwise r (selectFrom p (suc i) l) ≡ true =
+      pairwise-selectFrom p (suc i) l
+      (λ j k x y h a b c d.
+      f (suc j) (suc k) x y (suc-le-suc h) a b (rw (add-suc i j, ← suc-add i j) c) (rw (add-suc i k, ← suc-add i k) d))
+      in
+      elim (true-or-false (p i z)) [
+        | inl e ↦
+            let c : p (i + 0) z ≡ true = rw (add-zero i) e in
+            rw e
+            (and-intro
+            (every-of-mem (r z) (selectFrom p (suc i) l)
+            (λ y m.
+            let t = mem-of-selectFrom p (suc i) l m in
+            let d : p (i + suc (t .0)) y ≡ true = rw (add-suc i (t .0), ← suc-add i (t .0)) (t .2) in
+            f 0 (suc (t .0)) z y (suc-le-suc zero-le) refl (t .1) c d))
+            rest)
+        | inr e ↦ rw e rest
+      ]
 
   -- neighbours, where the relation is transitive
   pub chained-of-pairwise : (l : List A) → pairwise r l ≡ true → chained r l ≡ true

@@ -1,0 +1,6 @@
+pub mod Cause
+pub mod Bytes
+pub mod Readers
+pub mod Demand1
+pub mod AnyState
+pub mod Instance
