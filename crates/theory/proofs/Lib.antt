@@ -3,4 +3,14 @@ pub mod Bytes
 pub mod Readers
 pub mod Demand1
 pub mod AnyState
+pub mod World
+pub mod Reach
+pub mod Stamps
+pub mod Event
+pub mod HearLoop
+pub mod Delivery
+pub mod Stabilize
+pub mod Chains
+pub mod Start
+pub mod Demand3
 pub mod Instance
