@@ -14,19 +14,18 @@ use prog.Memory.{Memory}
 use prog.Routine.{Routine}
 use prog.Wp.{Heap, Calls, Loops, WpFn, Tables}
 use ghost.Atoms.{Atoms, sem}
-use contract.Lifetimes.{Lfts}
 use contract.Monad.{Fun, fact}
 use contract.Running.{givenOf, tables, tablesOf}
 use types.Kit.{Given, ‵, raw, _⊛_, ⋆, some, later, _$_, _∵_, !, qed, by, move, use1, use2, split, join, pick, fsplit, fjoin, suffices, frame, await, done}
 use types.Part.{agg}
 use types.Run.{look, init, forget, stop, from, load, and-then, no-more, assigns, land, returns, enter, alloc1, alloc0, params1, pass1, pass0, free1, free0}
 use sound.WpLaws.{FmC, fmOf, WpFn-mono}
-use denote.RattleType.{RattleType, owns}
+use denote.RattleType.{owns}
 use denote.Laws.{Is, shows}
 use denote.Plain.{uint-vals, uint-tells, uint-makes}
 use denote.Builtin.{u8, usize}
 use denote.Ref.{RefT, now}
-use denote.Signature.{plain, namedLft}
+use denote.Signature.{plain}
 use denote.Slice.{sliceVal, ShrSlice, slice-vals, shr-slice-tells, shr-slice-lawful, shr-slice-copy}
 use denote.Steps.{owned, peeks, heard, nothing}
 use denote.Struct.Laws as LL
@@ -42,7 +41,7 @@ use denote.Triple.Clauses.{ensured, lasts}
 use Rattle.batch.specs.Walk.{stepAt}
 use Rattle.batch.specs.declared.walker.Walker.{Walker}
 use Rattle.batch.specs.declared.Step.{Step}
-use Rattle.batch.proofs.walker.Walker as T
+use Rattle.batch.proofs.Held.{B, D, L, vd}
 use Rattle.batch.proofs.walker.Walker.Laws as T′
 use Rattle.batch.proofs.Step as S
 use Rattle.batch.proofs.Step.Laws as S′
@@ -54,10 +53,6 @@ use Rattle.batch.proofs.walker.walk_step.Key.{name as #walk-step}
 use Rattle.batch.proofs.walker.walk_step as walk-step
 use Rattle.batch.proofs.walker.walk_step.Statement as stated
 use Rattle.batch.proofs.walker.walk_step.Code as code
-
--- the struct's type, over the signature's lifetimes
-abbrev B : Lfts 1 → RattleType
-B κs = T.the-row (namedLft 1 0 tt κs)
 
 abbrev stayed : Stays (walk-step.ended .signature .params) (walk-step.ended .kept)
 stayed = (stay-none-slice (0 ∷ []) tt (plain (λ _. u8)) yes, (stay-none (λ _. usize) yes, tt))
@@ -102,7 +97,7 @@ module _ {M : Type 1} (𝓤 : URA M) (H : Heap 𝓤) (A : Atoms 𝓤) (W : Given
   goes =
       qed W ((‵ (flft κ q) ⊛ ‵ ftrue) ∷ ‵ (owns (ShrSlice (named 0) κ u8 ∷ usize ∷ []) (s, (n, tt)) vals) ∷ []) ∵
       move ! (1 ∷ []) $ fsplit ! $ use1 W (‵ Own ⊛ ‵ Own) (shr-slice-copy 𝓤 H A W (named 0) κ u8 .twice s (v ∷ [])) $ split ! $ move ! (0 ∷ 2 ∷ []) $ fjoin ! $
-      use1 W (‵ (B (κ, tt) .own d (mach ∷ []))) (own-shut 𝓤 H A W (T.the-type (namedLft 1 0 tt (κ, tt))) (T′.the-laws (namedLft 1 0 tt (κ, tt))) (s, (n, tt))) $
+      use1 W (‵ (B (κ, tt) .own d (mach ∷ []))) (own-shut 𝓤 H A W (D κ) (L κ) (vd κ d)) $
       -- [what the struct owns; what s owns; the token]
       nothing ! $ move ! (1 ∷ 0 ∷ []) $ fjoin ! $ move ! (2 ∷ 0 ∷ []) $ use2 W (raw (OneStep 𝓤 H A mem run .pre to)) asked $ frame ! $ done !
 
