@@ -111,22 +111,9 @@ module _ (s : List ℕ) (at : ℕ) where
   unfolding stepAt nextAt
   step-inside e h o = let b : at + 1 ≡ min (at + 1) (length s) = omega arith in λ i. record { start = b i; end = h i }
 
-  -- a step's bytes are a part of the batch, and are the entry; where they end, the walk goes on
-  pub step-ordered : stepAt s at .start ≤ stepAt s at .end
+  stepped : take (stepAt s at .end - stepAt s at .start) (drop (stepAt s at .start) s) ≡ entryAt s at
   unfolding stepAt nextAt
-  step-ordered = omega arith
-
-  pub step-within : stepAt s at .end ≤ length s
-  unfolding stepAt nextAt
-  step-within = omega arith
-
-  pub step-next : stepAt s at .end ≡ nextAt s at
-  unfolding stepAt
-  step-next = refl
-
-  pub step-entry : take (stepAt s at .end - stepAt s at .start) (drop (stepAt s at .start) s) ≡ entryAt s at
-  unfolding stepAt nextAt
-  step-entry = elim (lt-or-ge at (length s)) [
+  stepped = elim (lt-or-ge at (length s)) [
     | inl h ↦
         let b : min (at + 1) (length s) ≡ at + 1 = omega arith in
         elim (lt-or-ge (length s - (at + 1)) (getD s at 0)) [
@@ -136,6 +123,23 @@ module _ (s : List ℕ) (at : ℕ) where
     | inr h ↦
         let z : min (at + 1 + getD s at 0) (length s) - min (at + 1) (length s) ≡ 0 = omega arith in rw (z, entry-past s at h)
   ]
+
+-- as a caller has it: the bytes are a part of the batch, and are the entry; where they end, the walk goes on
+module _ (s : List ℕ) (at : ℕ) (r : Step) (e : r ≡ stepAt s at) where
+  pub step-ordered : r .start ≤ r .end
+  unfolding stepAt nextAt
+  step-ordered = rw e (omega arith)
+
+  pub step-within : r .end ≤ length s
+  unfolding stepAt nextAt
+  step-within = rw e (omega arith)
+
+  pub step-next : r .end ≡ nextAt s at
+  unfolding stepAt
+  step-next = rw e
+
+  pub step-entry : take (r .end - r .start) (drop (r .start) s) ≡ entryAt s at
+  step-entry = rw e (stepped s at)
 
 -- one turn of a walk over entries of which all are whole
 pub record Turn (k : ℕ) (s : List ℕ) (at : ℕ) : Type 0 where
