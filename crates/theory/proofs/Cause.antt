@@ -23,7 +23,7 @@ counts-down-at epsilon R t k h =
     getD-tab epsilon (λ k. getD (t .kn) (epsilon + t .c - k) 0) k 0 h
     ∙ sym (count-index R (t .kn) (R + t .c + epsilon - k) (epsilon + t .c - k) (omega arith))
 
-length-down : (epsilon : ℕ) (t : Timestamp) → length (countsDown epsilon t) ≡ epsilon
+pub length-down : (epsilon : ℕ) (t : Timestamp) → length (countsDown epsilon t) ≡ epsilon
 unfolding countsDown
 length-down epsilon t = length-tab epsilon (λ k. getD (t .kn) (epsilon + t .c - k) 0)
 
@@ -32,7 +32,7 @@ length-down epsilon t = length-tab epsilon (λ k. getD (t .kn) (epsilon + t .c -
 lex-append-lt : (a b c d : List ℕ) → length a ≡ length b → lexCompare a b ≡ Ordering·lt → lexCompare (a ++ c) (b ++ d) ≡ Ordering·lt
 lex-append-lt a b c d e h = lex-append a b c d e ∙ rw h
 
-counts-down-first :
+pub counts-down-first :
     (n epsilon R R′ : ℕ) (t t′ : Timestamp) → Sound n epsilon t → Sound n epsilon t′
     → R + t .c ≡ R′ + t′ .c
     → ((w : ℕ) → R′ < w → countAt R (t .kn) w ≤ countAt R′ (t′ .kn) w)

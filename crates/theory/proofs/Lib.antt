@@ -12,5 +12,12 @@ pub mod Delivery
 pub mod Stabilize
 pub mod Chains
 pub mod Start
+pub mod PublishedEvent
+pub mod PublishedQueue
+pub mod PublishedHear
+pub mod PublishedRun
+pub mod PublishedCall
+pub mod PublishedStart
+pub mod Demand2
 pub mod Demand3
 pub mod Instance
