@@ -46,7 +46,6 @@ sentHere s sent call node p = cond (call .send) (some (messageOf (s .epsilon) (s
 -- an accepted call
 module _ (s : Setup) (w : World) (u : Published) (call : Call) (node : Node) (paired : Paired s w u) (legal : Legal s 0 w call node)
     (p : Process) (p-at : getElem? (u .processes) (call .node) ≡ some p) (twin : Twin s (w .past) (u .sent) (call .node) node p) where
-
   moved : doneOf node call .clock ≡ suc (node .clock)
   moved = done-clock s node call (called s 0 0 (settles-fresh s) w call node (paired .good) legal)
 
@@ -84,9 +83,11 @@ module _ (s : Setup) (w : World) (u : Published) (call : Call) (node : Node) (pa
   last-as =
       record {
         each = λ h.
-            let send : call .send ≡ true = and-right (isAccepted (outputOf node call)) (call .send) h in
-            (messageOf (s .epsilon) (suc (node .clock)) p (heardHere (u .sent) call) (call .payload),
-            ap (λ (b : Bool). cond b (some (messageOf (s .epsilon) (suc (node .clock)) p (heardHere (u .sent) call) (call .payload))) none) send, copies);
+            let send : call .send ≡ true = and-right (isAccepted (outputOf node call)) (call .send) h in (
+              messageOf (s .epsilon) (suc (node .clock)) p (heardHere (u .sent) call) (call .payload),
+              ap (λ (b : Bool). cond b (some (messageOf (s .epsilon) (suc (node .clock)) p (heardHere (u .sent) call) (call .payload))) none) send,
+              copies,
+            );
         only = λ m e.
             (and-intro (legal .accepted) (sent-is m e .0), subst (λ (x : Message). Copies s x (doneOf node call)) (sent-is m e .1) copies);
       }
@@ -105,11 +106,12 @@ module _ (s : Setup) (w : World) (u : Published) (call : Call) (node : Node) (pa
   Paired-at j a = (q : Process) × (getElem? (published′ .processes) j ≡ some q) × Twin s (world′ .past) (published′ .sent) j a q
 
   own-twin : Paired-at (call .node) (nodeAfter node (outputOf node call))
-  own-twin =
-      (advanced (s .epsilon) (s .delta) (suc (node .clock)) p (heardHere (u .sent) call),
-      getElem?-set-same (u .processes) (call .node) (advanced (s .epsilon) (s .delta) (suc (node .clock)) p (heardHere (u .sent) call))
-      (getElem?-lt (u .processes) (call .node) p-at),
-      twin-moves s w (u .sent) call node p (paired .good) legal (paired .sent-as) (paired .ranked) twin (sentHere s (u .sent) call node p) sent-event)
+  own-twin = (
+    advanced (s .epsilon) (s .delta) (suc (node .clock)) p (heardHere (u .sent) call),
+    getElem?-set-same (u .processes) (call .node) (advanced (s .epsilon) (s .delta) (suc (node .clock)) p (heardHere (u .sent) call))
+        (getElem?-lt (u .processes) (call .node) p-at),
+    twin-moves s w (u .sent) call node p (paired .good) legal (paired .sent-as) (paired .ranked) twin (sentHere s (u .sent) call node p) sent-event,
+  )
 
   quiet : (j : ℕ) → (call .node ≡ j → ⊥) → (k : ℕ) → heardIn j k (doneOf node call) ≡ false
   unfolding heardIn doneOf
@@ -117,10 +119,12 @@ module _ (s : Setup) (w : World) (u : Published) (call : Call) (node : Node) (pa
 
   other-twin : (j : ℕ) (a : Node) → (call .node ≡ j → ⊥) → getElem? (w .nodes) j ≡ some a → Paired-at j a
   other-twin j a ne at =
-      let (q, q-at, t) = paired .twins j a at in
-      (q, getElem?-set-other (u .processes) (call .node) j (advanced (s .epsilon) (s .delta) (suc (node .clock)) p (heardHere (u .sent) call)) ne ∙ q-at,
-      twin-stays s (w .past) (u .sent) j a q (doneOf node call) (sentHere s (u .sent) call node p) (paired .sent-as .same-length) (paired .good .heard-before j)
-      (quiet j ne) (λ m e. unfold doneOf in ne) t)
+      let (q, q-at, t) = paired .twins j a at in (
+        q,
+        getElem?-set-other (u .processes) (call .node) j (advanced (s .epsilon) (s .delta) (suc (node .clock)) p (heardHere (u .sent) call)) ne ∙ q-at,
+        twin-stays s (w .past) (u .sent) j a q (doneOf node call) (sentHere s (u .sent) call node p) (paired .sent-as .same-length) (paired .good .heard-before j)
+            (quiet j ne) (λ m e. unfold doneOf in ne) t,
+      )
 
   all-twins : (j : ℕ) (a : Node) → getElem? (world′ .nodes) j ≡ some a → Paired-at j a
   all-twins j a at =
@@ -163,7 +167,6 @@ leaves-node node call h = go (firstNo (callQuestions (inputOf node call))) h
 -- and sends nothing
 module _ (s : Setup) (w : World) (u : Published) (call : Call) (node : Node) (paired : Paired s w u) (at : getElem? (w .nodes) (call .node) ≡ some node)
     (refused : isAccepted (outputOf node call) ≡ false) where
-
   none-sent : (m : Message) → _≡_ {A = Option Message} none (some m) → ⊥
   none-sent m e = let z : _≡_ {A = ℕ} 0 1 = cc in omega arith
 
@@ -195,10 +198,12 @@ module _ (s : Setup) (w : World) (u : Published) (call : Call) (node : Node) (pa
             ranked-snoc s (w .past) (u .sent) (doneOf node call) none (paired .sent-as .same-length) (paired .ranked)
             (λ k m m′ d e. absurd (none-sent m′ e));
         twins = λ j a a-at.
-            let (q, q-at, t) = paired .twins j a (same-node j a a-at) in
-            (q, q-at,
-            twin-stays s (w .past) (u .sent) j a q (doneOf node call) none (paired .sent-as .same-length) (paired .good .heard-before j)
-            (λ k. unfold heardIn doneOf in (rw refused refl)) (λ m e. absurd (none-sent m e)) t);
+            let (q, q-at, t) = paired .twins j a (same-node j a a-at) in (
+              q,
+              q-at,
+              twin-stays s (w .past) (u .sent) j a q (doneOf node call) none (paired .sent-as .same-length) (paired .good .heard-before j)
+                  (λ k. unfold heardIn doneOf in (rw refused refl)) (λ m e. absurd (none-sent m e)) t,
+            );
       }))
 
 -- without older frames nothing is left out
@@ -288,9 +293,10 @@ one-matched s x start w call paired matched ok fresh = go (allowed-fact s x (sta
         → (isAccepted (doneOf node call .output) ≡ true → Matched s u (doneOf node call))
         → Paired s (act w call) (publishAll s start (act w call .past)) × AllMatched s start (act w call .past)
     grown node at more last =
-        let past-is : act w call .past ≡ w .past ++ (doneOf node call ∷ []) = ap (λ (y : World). y .past) (acts w call node at) in
-        (subst (Paired s (act w call)) (sym (ap (publishAll s start) past-is ∙ publish-snoc s (w .past) start (doneOf node call))) more,
-        subst (AllMatched s start) (sym past-is) (matched-snoc s start (w .past) (doneOf node call) matched last))
+        let past-is : act w call .past ≡ w .past ++ (doneOf node call ∷ []) = ap (λ (y : World). y .past) (acts w call node at) in (
+          subst (Paired s (act w call)) (sym (ap (publishAll s start) past-is ∙ publish-snoc s (w .past) start (doneOf node call))) more,
+          subst (AllMatched s start) (sym past-is) (matched-snoc s start (w .past) (doneOf node call) matched last),
+        )
 
     go :
         (node : Node) × (getElem? (w .nodes) (call .node) ≡ some node)

@@ -6,7 +6,7 @@ use mathlib.Core.Path.{_≡_, refl, subst}
 use mathlib.Core.Bool.{Bool, true, false}
 use mathlib.Core.List.{List, [], _∷_, _++_, map}
 use mathlib.Core.Option.{Option, none, some, Option·some-injective}
-use lib.ListN.{length, replicate, getElem?}
+use lib.ListN.{length, take, replicate, getElem?}
 use Rattle.laws.specs.Lists.{largest, select, sameList, joined}
 use Rattle.model.specs.Setup.{Setup}
 use Rattle.model.specs.Timestamp.{Timestamp, fresh, widened}
@@ -16,7 +16,10 @@ use Rattle.model.specs.Tick.{holdbackSize}
 use Rattle.model.specs.Run.{Node, Origin, sentBy, stale, Call, Done, World, inputOf, isAccepted, movedClock, nodeAfter, outputOf, doneOf, act, atStart, runFrom, sends, messageBytes}
 use Rattle.model.proofs.Computing.{computing}
 use Rattle.theory.specs.Premises.{withOwn, sameSetup, together, distinct, goodStart, largestClock, staleUntil, entriesAllowed, acceptedWell, allowed, keeps, noneStale, isSent, Fresh}
-use Rattle.theory.specs.Demand3.{coveredFrom, coveredFrame}
+use Rattle.theory.specs.Demand2.{publishAll, publishedStart, Matched}
+use Rattle.theory.specs.Demand3.{coveredFrom, coveredFrame, Promised}
+use Rattle.theory.proofs.Demand2.{demand2-fresh}
+use Rattle.theory.proofs.Demand3.{demand3}
 
 -- every definition of the runs and the premises, opened at once
 unfoldable running : Unit {0}
@@ -180,6 +183,10 @@ pub damaged-delivers :
 unfolding running
 damaged-delivers = refl
 
+-- so demand 3 holds of this list
+pub damaged-promised : Promised group (largestClock damagedNodes) (runFrom (atStart damagedNodes) damagedCalls .past)
+damaged-promised = demand3 group damagedNodes damagedCalls damaged-start damaged-keeps
+
 -- the same stations, fresh
 abbrev freshNode : ℕ → Node
 freshNode own =
@@ -234,3 +241,9 @@ pub fresh-figures :
     ∷ (0 ∷ 0 ∷ 0 ∷ 2 ∷ []) ∷ (0 ∷ 0 ∷ 0 ∷ 1 ∷ []) ∷ []
 unfolding running
 fresh-figures = refl
+
+-- so demand 2 holds of this list
+pub fresh-matched :
+    (j : ℕ) (d : Done) → getElem? (runFrom (atStart freshNodes) freshCalls .past) j ≡ some d → isAccepted (d .output) ≡ true
+    → Matched group (publishAll group (publishedStart group freshNodes) (take j (runFrom (atStart freshNodes) freshCalls .past))) d
+fresh-matched = demand2-fresh group freshNodes freshCalls fresh-start fresh-nodes fresh-keeps fresh-none-stale

@@ -75,7 +75,6 @@ seen-same sent heard heard′ seen same is =
 module _ (s : Setup) (w : World) (sent : List (Option Message)) (call : Call) (node : Node) (p : Process)
     (good : Good s 0 0 w) (legal : Legal s 0 w call node) (sent-as : SentAs s (w .past) sent) (ranked : Ranked s (w .past) sent)
     (twin : Twin s (w .past) sent (call .node) node p) where
-
   due-call : Due-call s node call
   due-call = called s 0 0 (settles-fresh s) w call node good legal
 

@@ -98,7 +98,6 @@ module _ (s : Setup) (v : ℕ) (queue : List Frame) (buffer : List Message)
     (reads : (m : Message) → List·Memᴰ m buffer → ReadsTrue (s .epsilon) (s .modulus) v (m .event .r))
     (single : apart sameMessage buffer ≡ true)
     (ranked : (m m′ : Message) → List·Memᴰ m buffer → List·Memᴰ m′ buffer → rank (s .epsilon) m ≡ rank (s .epsilon) m′ → sameMessage m m′ ≡ true) where
-
   due-messages : List Message
   due-messages = select (deliverable (s .epsilon) (s .delta) v) buffer
 

@@ -111,9 +111,10 @@ copied-sender s m d c = unfold reducedFrame eventFrame frameOf in (ap (λ (f : F
 
 same-parts : (m m′ : Message) → sameMessage m m′ ≡ true → (m .sender ≡ m′ .sender) × (m .event .r ≡ m′ .event .r)
 unfolding sameMessage
-same-parts m m′ h =
-    (eqb-true (m .sender) (m′ .sender) (and-left (eqb (m .sender) (m′ .sender)) (eqb (m .event .r) (m′ .event .r)) h),
-    eqb-true (m .event .r) (m′ .event .r) (and-right (eqb (m .sender) (m′ .sender)) (eqb (m .event .r) (m′ .event .r)) h))
+same-parts m m′ h = (
+  eqb-true (m .sender) (m′ .sender) (and-left (eqb (m .sender) (m′ .sender)) (eqb (m .event .r) (m′ .event .r)) h),
+  eqb-true (m .event .r) (m′ .event .r) (and-right (eqb (m .sender) (m′ .sender)) (eqb (m .event .r) (m′ .event .r)) h),
+)
 
 module _ (s : Setup) (w : World) (sent : List (Option Message)) (good : Good s 0 0 w) (sent-as : SentAs s (w .past) sent) where
   pub told : Told sent
@@ -225,9 +226,11 @@ sent-as-snoc s past sent d x is last =
           elim (getElem?-snoc-cases past d k at) [
             | inl q ↦ let (m, m-at, c) = is .each k d′ q sends-d in (m, grown-at sent x k m-at, c)
             | inr q ↦
-                let (m, x-is, c) = last .each (subst (λ (y : Done). sends y ≡ true) (q .1) sends-d) in
-                (m, ap (λ (n : ℕ). getElem? (sent ++ (x ∷ [])) n) (q .0 ∙ sym (is .same-length)) ∙ (getElem?-last sent x ∙ ap some x-is),
-                subst (λ (y : Done). Copies s m y) (sym (q .1)) c)
+                let (m, x-is, c) = last .each (subst (λ (y : Done). sends y ≡ true) (q .1) sends-d) in (
+                  m,
+                  ap (λ (n : ℕ). getElem? (sent ++ (x ∷ [])) n) (q .0 ∙ sym (is .same-length)) ∙ (getElem?-last sent x ∙ ap some x-is),
+                  subst (λ (y : Done). Copies s m y) (sym (q .1)) c,
+                )
           ];
       only = λ k m at.
           elim (getElem?-snoc-cases sent x k at) [

@@ -48,7 +48,6 @@ reached-own epsilon nodes i node at =
 -- one fresh node
 module _ (s : Setup) (node : Node) (limits : Limits (withOwn s (node .own)))
     (tables : node .tables ≡ widened (fresh (s .epsilon) (node .clock % s .modulus))) (holdback : node .holdback ≡ encodeHoldback (holdbackSize s) []) where
-
   fresh-wide : length (fresh (s .epsilon) (node .clock % s .modulus) .kn) ≡ width (s .epsilon)
   unfolding withOwn
   fresh-wide = fresh-sound (s .n) (s .epsilon) (node .clock % s .modulus) (limits .n-pos) (limits .epsilon-pos) .wide
@@ -188,7 +187,9 @@ module _ (s : Setup) (nodes : List Node) (start : goodStart s nodes ≡ true) (a
               only = λ k m e. absurd (nothing k (some m) e);
             };
         ranked = λ k l m m′ d d′ h e. absurd (nothing k (some m) e);
-        twins = λ i node at.
-            (started (s .epsilon) (node .own) (node .clock),
-            getElem?-map (λ (x : Node). started (s .epsilon) (x .own) (x .clock)) nodes i at, twin-fresh i node at);
+        twins = λ i node at. (
+          started (s .epsilon) (node .own) (node .clock),
+          getElem?-map (λ (x : Node). started (s .epsilon) (x .own) (x .clock)) nodes i at,
+          twin-fresh i node at,
+        );
       }
