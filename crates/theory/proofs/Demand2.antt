@@ -1,43 +1,35 @@
 -- Demand 2 from fresh stations: every accepted call does what the published program does, reduced modulo B.
 -- Assumes nothing.
-use Prim.Native.Nat.{ℕ, zero, suc, _+_, _*_, _%_, _≤_, _<_}
+use Prim.Native.Nat.{ℕ, zero, suc, _+_, _<_}
 use native.Mathlib.Omega.{arith}
 use mathlib.Core.Path.{_≡_, refl, sym, ap, subst, _∙_}
 use mathlib.Core.Logic.{_⊎_, inl, inr}
 use mathlib.Core.Bool.{Bool, true, false, _&&_, _||_, not, cond}
 use mathlib.Core.List.{List, [], _∷_, _++_}
 use mathlib.Core.Option.{Option, none, some}
-use lib.Dec.{eqb, eqb·suc-zero}
+use lib.Dec.{eqb·suc-zero}
 use lib.ListN.{length, take, set, getElem?}
 use lib.Seq.{take-append-le, take-append-seam}
 use borrow.Author.Tests.{ne-eqb}
 use Rattle.laws.specs.Lists.{every}
-use Rattle.laws.proofs.Numbers.{eq-or-ne, clash, and-intro, and-left, and-right, true-or-false, or-cases, false-of-not}
+use Rattle.laws.proofs.Numbers.{eq-or-ne, clash, and-intro, and-left, and-right, or-cases, false-of-not}
 use Rattle.laws.proofs.Lists.{every-mem, every-append-left, every-append-right, getElem?-mem, getElem?-lt, getElem?-set-same, getElem?-set-other, getElem?-snoc-cases}
 use Rattle.model.specs.Setup.{Setup}
 use Rattle.model.specs.Question.{firstNo}
-use Rattle.model.specs.Tick.{Input, callQuestions, refusal, acceptance, tickBy, tick}
-use Rattle.model.specs.Published.{Event, Message, Process, advanced, eventOf, nextEvent, messageOf}
+use Rattle.model.specs.Tick.{callQuestions, refusal, acceptance, tickBy, tick}
+use Rattle.model.specs.Published.{Message, Process, advanced, eventOf, nextEvent, messageOf}
 use Rattle.model.specs.Run.{Node, Origin, sentBy, stale, Call, Done, World, inputOf, isAccepted, outputOf, doneOf, nodeAfter, movedClock, act, actOn, runFrom, atStart, sends}
-use Rattle.theory.specs.Premises.{goodStart, largestClock, staleUntil, allowed, keeps, Fresh, isSent, noneStale}
-use Rattle.theory.specs.Demand2.{Published, outcomeOf, publishOn, publish, publishAll, publishedStart, Matched, Demand2Fresh}
+use Rattle.theory.specs.Premises.{largestClock, staleUntil, allowed, keeps, isSent, noneStale}
+use Rattle.theory.specs.Demand2.{Published, outcomeOf, publish, publishAll, publishedStart, Matched, Demand2Fresh}
 use Rattle.theory.specs.Demand3.{heardIn}
-use Rattle.lemmas.proofs.OneTick.{no-question-fails}
 use Rattle.theory.proofs.World.{Good, Legal, EntryOk}
 use Rattle.theory.proofs.Event.{done-clock}
 use Rattle.theory.proofs.HearLoop.{some-inj}
-use Rattle.theory.proofs.Stabilize.{sends-accepted, called, step-good, refused-good}
+use Rattle.theory.proofs.Stabilize.{sends-accepted, called, step-good, refused-good, act-is, refused-node}
 use Rattle.theory.proofs.Start.{allowed-fact}
-use Rattle.theory.proofs.PublishedRun.{Copies, SentAs, Twin, Paired, LastAs, settles-fresh, sent-as-snoc, ranked-snoc, twin-stays}
+use Rattle.theory.proofs.PublishedRun.{Copies, Twin, Paired, LastAs, settles-fresh, sent-as-snoc, ranked-snoc, twin-stays}
 use Rattle.theory.proofs.PublishedCall.{heardHere, frame-is, same-as, ranked-last, twin-moves}
 use Rattle.theory.proofs.PublishedStart.{paired-fresh}
-
--- what a call of a node does to the nodes
-acts :
-    (w : World) (call : Call) (node : Node) → getElem? (w .nodes) (call .node) ≡ some node
-    → act w call ≡ record { nodes = set (w .nodes) (call .node) (nodeAfter node (outputOf node call)); past = w .past ++ (doneOf node call ∷ []) }
-unfolding act
-acts w call node at = ap (λ (o : Option Node). actOn o w call) at
 
 -- what the call sends in the published program
 abbrev sentHere : Setup → List (Option Message) → Call → Node → Process → Option Message
@@ -138,10 +130,10 @@ module _ (s : Setup) (w : World) (u : Published) (call : Call) (node : Node) (pa
 
   pub paired-accepted : Paired s (act w call) (publish s u (doneOf node call))
   paired-accepted =
-      subst (λ (y : World). Paired s y (publish s u (doneOf node call))) (sym (acts w call node (legal .at)))
+      subst (λ (y : World). Paired s y (publish s u (doneOf node call))) (sym (act-is w call node (legal .at)))
       (subst (Paired s world′) (sym published)
       (record {
-        good = subst (Good s 0 0) (acts w call node (legal .at)) (step-good s 0 0 (settles-fresh s) w call node (paired .good) legal);
+        good = subst (Good s 0 0) (act-is w call node (legal .at)) (step-good s 0 0 (settles-fresh s) w call node (paired .good) legal);
         sent-as = sent-as-snoc s (w .past) (u .sent) (doneOf node call) (sentHere s (u .sent) call node p) (paired .sent-as) last-as;
         ranked =
             ranked-snoc s (w .past) (u .sent) (doneOf node call) (sentHere s (u .sent) call node p) (paired .sent-as .same-length) (paired .ranked)
@@ -154,15 +146,6 @@ module _ (s : Setup) (w : World) (u : Published) (call : Call) (node : Node) (pa
   matched-here : Matched s u (doneOf node call)
   unfolding doneOf
   matched-here = (p, p-at, same-as s w (u .sent) call node p (paired .good) legal (paired .sent-as) (paired .ranked) twin)
-
--- a refused call leaves its node
-leaves-node : (node : Node) (call : Call) → isAccepted (outputOf node call) ≡ false → nodeAfter node (outputOf node call) ≡ node
-unfolding nodeAfter movedClock outputOf tick isAccepted refusal acceptance inputOf
-leaves-node node call h = go (firstNo (callQuestions (inputOf node call))) h
-  where
-    go : (k : ℕ) → isAccepted (tickBy k (inputOf node call)) ≡ false → nodeAfter node (tickBy k (inputOf node call)) ≡ node
-    go zero e = absurd (clash refl e)
-    go (suc k) e = rw (eqb·suc-zero k) refl
 
 -- and sends nothing
 module _ (s : Setup) (w : World) (u : Published) (call : Call) (node : Node) (paired : Paired s w u) (at : getElem? (w .nodes) (call .node) ≡ some node)
@@ -181,16 +164,16 @@ module _ (s : Setup) (w : World) (u : Published) (call : Call) (node : Node) (pa
             let a-is : nodeAfter node (outputOf node call) ≡ a =
             some-inj (sym (getElem?-set-same (w .nodes) (call .node) (nodeAfter node (outputOf node call)) (getElem?-lt (w .nodes) (call .node) at))
             ∙ (ap (getElem? (set (w .nodes) (call .node) (nodeAfter node (outputOf node call)))) e ∙ a-at)) in
-            ap (getElem? (w .nodes)) (sym e) ∙ (at ∙ ap some (sym (leaves-node node call refused) ∙ a-is))
+            ap (getElem? (w .nodes)) (sym e) ∙ (at ∙ ap some (sym (refused-node node call refused) ∙ a-is))
         | inr e ↦ sym (getElem?-set-other (w .nodes) (call .node) j (nodeAfter node (outputOf node call)) e) ∙ a-at
       ]
 
   pub paired-refused : Paired s (act w call) (publish s u (doneOf node call))
   paired-refused =
-      subst (λ (y : World). Paired s y (publish s u (doneOf node call))) (sym (acts w call node at))
+      subst (λ (y : World). Paired s y (publish s u (doneOf node call))) (sym (act-is w call node at))
       (subst (Paired s (record { nodes = set (w .nodes) (call .node) (nodeAfter node (outputOf node call)); past = w .past ++ (doneOf node call ∷ []) })) (sym not-published)
       (record {
-        good = subst (Good s 0 0) (acts w call node at) (refused-good s 0 0 (settles-fresh s) w call node (paired .good) at refused);
+        good = subst (Good s 0 0) (act-is w call node at) (refused-good s 0 0 (settles-fresh s) w call node (paired .good) at refused);
         sent-as =
             sent-as-snoc s (w .past) (u .sent) (doneOf node call) none (paired .sent-as)
             (record { each = λ h. absurd (clash (sends-accepted (doneOf node call) h) (unfold doneOf in refused)); only = λ m e. absurd (none-sent m e) });
@@ -264,7 +247,7 @@ none-stale-before (call ∷ calls) w h = go (getElem? (w .nodes) (call .node)) r
     go (some node) e k =
         unfold noneStale in
         (every-append-left (λ d. not (isAccepted (d .output)) || every isSent (d .call .origins)) (w .past) (doneOf node call ∷ [])
-        (subst (λ (y : World). noneStale (y .past) ≡ true) (acts w call node e) k))
+        (subst (λ (y : World). noneStale (y .past) ≡ true) (act-is w call node e) k))
 
 -- the entries of the last call
 last-sent : (w : World) (call : Call) (node : Node) → getElem? (w .nodes) (call .node) ≡ some node → isAccepted (outputOf node call) ≡ true → noneStale (act w call .past) ≡ true → every isSent (call .origins) ≡ true
@@ -272,7 +255,7 @@ unfolding noneStale every doneOf
 last-sent w call node at acc h =
     let test : ((not (isAccepted (outputOf node call)) || every isSent (call .origins)) && true) ≡ true =
     every-append-right (λ d. not (isAccepted (d .output)) || every isSent (d .call .origins)) (w .past) (doneOf node call ∷ [])
-    (subst (λ (y : World). noneStale (y .past) ≡ true) (acts w call node at) h) in
+    (subst (λ (y : World). noneStale (y .past) ≡ true) (act-is w call node at) h) in
     elim (or-cases (not (isAccepted (outputOf node call))) (every isSent (call .origins)) (and-left (not (isAccepted (outputOf node call)) || every isSent (call .origins)) true test)) [
       | inl q ↦ absurd (clash acc (false-of-not (isAccepted (outputOf node call)) q))
       | inr q ↦ q
@@ -293,7 +276,7 @@ one-matched s x start w call paired matched ok fresh = go (allowed-fact s x (sta
         → (isAccepted (doneOf node call .output) ≡ true → Matched s u (doneOf node call))
         → Paired s (act w call) (publishAll s start (act w call .past)) × AllMatched s start (act w call .past)
     grown node at more last =
-        let past-is : act w call .past ≡ w .past ++ (doneOf node call ∷ []) = ap (λ (y : World). y .past) (acts w call node at) in (
+        let past-is : act w call .past ≡ w .past ++ (doneOf node call ∷ []) = ap (λ (y : World). y .past) (act-is w call node at) in (
           subst (Paired s (act w call)) (sym (ap (publishAll s start) past-is ∙ publish-snoc s (w .past) start (doneOf node call))) more,
           subst (AllMatched s start) (sym past-is) (matched-snoc s start (w .past) (doneOf node call) matched last),
         )

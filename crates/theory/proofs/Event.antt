@@ -15,16 +15,16 @@ use Rattle.laws.proofs.Lists.{tab-getD}
 use Rattle.model.specs.Setup.{Setup, width, leastModulus, inLimits}
 use Rattle.model.specs.Timestamp.{Timestamp, trimmed, widened, step, countOwn, soundTables, replaced}
 use Rattle.model.specs.Frame.{Frame, encode, decode}
-use Rattle.model.specs.Codec.{frameOf, write, writeBy, writeQuestions, askPayload}
-use Rattle.model.specs.Question.{firstNo, askSetup, askRange, askStamp}
-use Rattle.model.specs.Tick.{openingStamp, openingQueue, tablesSound, queueSound, ownStamp, newStamp, sentBytes, keptOf, acceptance, tick}
+use Rattle.model.specs.Codec.{frameOf, writeBy}
+use Rattle.model.specs.Tick.{openingStamp, openingQueue, tablesSound, queueSound, ownStamp, newStamp, sentBytes, keptOf, tick}
 use Rattle.model.specs.Run.{Node, Call, inputOf, isAccepted, outputOf, doneOf, nodeAfter, movedClock, sends, messageBytes, messageFrame}
 use Rattle.theory.specs.Premises.{withOwn}
 use Rattle.theory.specs.Demand3.{newTimestamp, written}
 use Rattle.lemmas.proofs.Bounds.{Limits, Sound, Opened, FrameOk}
-use Rattle.lemmas.proofs.Counts.{sound-to, trimmed-widened, opened-step, opened-replaced, trimmed-wide}
+use Rattle.lemmas.proofs.Counts.{trimmed-widened, opened-step, opened-replaced, trimmed-wide}
 use Rattle.lemmas.proofs.RoundTrip.{decode-encode, length-encode}
-use Rattle.lemmas.proofs.OneTick.{Accepted, accepted-call, new-sound, next-stamp, next-queue, sent-bytes}
+use Rattle.theory.proofs.Readers.{written-to}
+use Rattle.lemmas.proofs.OneTick.{Accepted, accepted-call, tables-are, sent-is, outgoing-is, new-sound, next-stamp, next-queue, sent-bytes}
 use Rattle.theory.proofs.World.{nextInput, nextStamp, nextQueue, eventFrame, Event}
 
 pub accepted-input : (node : Node) (call : Call) → isAccepted (outputOf node call) ≡ true → Accepted (inputOf node call)
@@ -80,8 +80,8 @@ sound-at s node call c =
 
 -- the answer's tables
 pub tables-made : (s : Setup) (node : Node) (call : Call) → Due-call s node call → outputOf node call .answer .tables ≡ widened (newStamp (inputOf node call))
-unfolding outputOf acceptance
-tables-made s node call c = ap (λ o. o .answer .tables) (accepted-input node call (c .accepted) .accepted)
+unfolding outputOf
+tables-made s node call c = tables-are (inputOf node call) (accepted-input node call (c .accepted))
 
 stamp-r : (s : Setup) (node : Node) (call : Call) → Due-call s node call → newStamp (inputOf node call) .r ≡ suc (node .clock) % s .modulus
 unfolding newStamp countOwn
@@ -220,37 +220,29 @@ limits-to s l =
     (and-intro (le-leb _ _ (l .delta-most))
     (and-intro (and-intro (le-leb _ _ (l .modulus-least)) (le-leb _ _ (l .modulus-most))) (lt-ltb _ _ (l .own-below)))))
 
-writes : (s : Setup) (f : Frame) (buffer : List ℕ) → Limits s → FrameOk s f → 39 + 2 * s .epsilon ≤ length buffer → firstNo (writeQuestions s f buffer) ≡ 0
-unfolding writeQuestions firstNo askSetup askPayload askRange askStamp width
-writes s f buffer l ok room =
-    rw (
-      limits-to s l,
-      le-leb (length (f .payload)) 32 (ok .short),
-      lt-ltb (f .station) (s .n) (ok .station-below),
-      lt-ltb (f .stamp .r) (s .modulus) (ok .r-below),
-      sound-to (s .n) (s .epsilon) (f .stamp) (ok .sound),
-      le-leb (length (encode f)) (length buffer) fits,
-    ) refl
-  where
-    fits : length (encode f) ≤ length buffer
-    fits = omega (arith, length-encode f, ok .short, ok .sound .wide, room)
-
 written-is :
     (s : Setup) (node : Node) (call : Call) → Due-call s node call
     → written s (doneOf node call) ≡ writeBy 0 (eventFrame s (doneOf node call)) (call .outgoing)
-unfolding written write eventFrame doneOf withOwn
+unfolding written eventFrame doneOf width
 written-is s node call c =
-    rw (writes (withOwn s (node .own)) (eventFrame s (doneOf node call)) (call .outgoing) (limits-at s node call c) (frame-own s (node .own) (eventFrame s (doneOf node call)) (event-ok s node call c)) (outgoing-room-at s node call c)) refl
+    written-to (withOwn s (node .own)) (eventFrame s (doneOf node call)) (call .outgoing)
+    (record {
+      setup = limits-to (withOwn s (node .own)) (limits-at s node call c);
+      frame = frame-own s (node .own) (eventFrame s (doneOf node call)) ok;
+      fits = omega (arith, length-encode (eventFrame s (doneOf node call)), ok .short, ok .sound .wide, outgoing-room-at s node call c);
+    })
+  where
+    ok : FrameOk s (eventFrame s (doneOf node call))
+    ok = event-ok s node call c
 
 sent-length : (s : Setup) (node : Node) (call : Call) → Due-call s node call → call .send ≡ true → doneOf node call .output .answer .sent ≡ length (encode (eventFrame s (doneOf node call)))
-unfolding acceptance outputOf
-sent-length s node call c e =
-    unfold doneOf in (ap (λ o. o .answer .sent) (accepted-input node call (c .accepted) .accepted) ∙ ap length (sent-frame s node call c e))
+unfolding outputOf doneOf
+sent-length s node call c e = sent-is (inputOf node call) (accepted-input node call (c .accepted)) ∙ ap length (sent-frame s node call c e)
 
 sent-outgoing : (s : Setup) (node : Node) (call : Call) → Due-call s node call → call .send ≡ true → doneOf node call .output .outgoing ≡ overlay (encode (eventFrame s (doneOf node call))) (call .outgoing)
-unfolding acceptance outputOf
+unfolding outputOf doneOf inputOf
 sent-outgoing s node call c e =
-    unfold doneOf inputOf in (ap (λ o. o .outgoing) (accepted-input node call (c .accepted) .accepted) ∙ ap (λ (l : List ℕ). overlay l (call .outgoing)) (sent-frame s node call c e))
+    outgoing-is (inputOf node call) (accepted-input node call (c .accepted)) ∙ ap (λ (l : List ℕ). overlay l (call .outgoing)) (sent-frame s node call c e)
 
 pub writer-made :
     (s : Setup) (node : Node) (call : Call) → Due-call s node call → sends (doneOf node call) ≡ true

@@ -77,7 +77,7 @@ hear-taken :
 unfolding hearOne judge
 hear-taken s v h bytes e = rw e (refl, refl)
 
-hear-refused :
+pub hear-refused :
     (s : Setup) (v : ℕ) (h : Heard) (bytes : List ℕ) (k : ℕ) → firstNo (judgeQuestions s v (h .queue) bytes) ≡ suc k
     → (hearOne s v h bytes .stamp ≡ h .stamp) × (hearOne s v h bytes .queue ≡ h .queue)
 unfolding hearOne judge

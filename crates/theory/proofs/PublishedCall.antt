@@ -1,23 +1,23 @@
 -- One accepted call: what the tick makes of its node is what the published program makes of its process.
 -- Assumes nothing.
-use Prim.Native.Nat.{ℕ, zero, suc, _+_, _-_, _*_, _%_, _≤_, _<_}
+use Prim.Native.Nat.{ℕ, suc, _+_, _%_, _<_}
 use native.Mathlib.Omega.{arith}
 use native.Mathlib.Numerals.{add-one}
 use native.Mathlib.Nat.{zero-add}
 use mathlib.Core.Path.{_≡_, refl, sym, ap, ap₂, subst, _∙_}
 use mathlib.Core.Logic.{_⊎_, inl, inr}
-use mathlib.Core.Bool.{Bool, true, false, _&&_, _||_, not, cond}
+use mathlib.Core.Bool.{Bool, true, _||_, not, cond, or-false}
 use mathlib.Core.List.{List, [], _∷_, _++_, map}
 use mathlib.Core.List.{List·Memᴰ, List·Memᴰ·append-cases, Memᴰ·append-left, Memᴰ·append-right}
-use mathlib.Core.Option.{Option, none, some}
+use mathlib.Core.Option.{Option, some}
 use lib.Dec.{eqb}
-use lib.ListN.{length, take, getElem?, length-append, length-map}
-use borrow.Author.Tests.{eqb-true, eqb-false, eq-eqb}
-use Rattle.laws.specs.Lists.{any, every, select, apart, overlay, chained}
-use Rattle.laws.proofs.Numbers.{lt-or-ge, eq-or-ne, clash, and-intro, and-left, and-right, true-or-false, or-left, or-right, or-cases, or-false-left, false-of-no, false-of-not, mod-add-left}
-use Rattle.laws.proofs.Lists.{any-append, getElem?-lt, getElem?-append, getElem?-last, getElem?-snoc-cases, mem-of-map, mem-of-select}
+use lib.ListN.{length, getElem?, length-map}
+use borrow.Author.Tests.{eqb-false, eq-eqb}
+use Rattle.laws.specs.Lists.{any, select, apart, overlay, chained}
+use Rattle.laws.proofs.Numbers.{lt-or-ge, clash, true-or-false, or-left, or-right, or-cases, false-of-no, false-of-not, mod-add-left}
+use Rattle.laws.proofs.Lists.{getElem?-lt, getElem?-append, getElem?-snoc-cases, mem-of-map, mem-of-select}
 use Rattle.laws.proofs.Sorted.{lessBy, Sorted, sorted-of-chained, apart-append, apart-select}
-use Rattle.model.specs.Setup.{Setup, width}
+use Rattle.model.specs.Setup.{Setup}
 use Rattle.model.specs.Timestamp.{Timestamp, step, countOwn, trimmed, widened}
 use Rattle.model.specs.Frame.{Frame, encode}
 use Rattle.model.specs.Order.{keyNear, compareFrames, before}
@@ -25,23 +25,22 @@ use Rattle.model.specs.Codec.{frameOf}
 use Rattle.model.specs.Batch.{batchEntries}
 use Rattle.model.specs.Holdback.{encodeFrames}
 use Rattle.model.specs.Judge.{Heard, hear}
-use Rattle.model.specs.Tick.{Input, Output, ownStamp, tablesSound, queueSound, openingStamp, openingQueue, repairOf, heardOf, newStamp, sentBytes, dueNow, deliveredOf, keptOf, takenCount, acceptance, tick}
+use Rattle.model.specs.Tick.{Output, ownStamp, tablesSound, queueSound, repairOf, heardOf, newStamp, sentBytes, dueNow, deliveredOf, keptOf, takenCount, acceptance, tick}
 use Rattle.model.specs.Published.{Event, Message, Process, known, rank, sameMessage, newOnes, nextEvent, eventOf, deliverable, buffered, deliveredAt, advanced, messageOf}
-use Rattle.model.specs.Run.{Node, Origin, Call, Done, World, inputOf, isAccepted, outputOf, doneOf, nodeAfter, movedClock, sends}
+use Rattle.model.specs.Run.{Node, Call, Done, World, inputOf, outputOf, doneOf, nodeAfter}
 use Rattle.theory.specs.Premises.{withOwn}
 use Rattle.theory.specs.Demand2.{reduced, reducedFrame, messagesHeard, Outcome, outcomeOf, SameAs}
 use Rattle.theory.specs.Demand3.{isFrom, heardIn}
-use Rattle.lemmas.proofs.Bounds.{Limits, Sound, FrameOk, QueueOk}
-use Rattle.lemmas.proofs.OneTick.{Accepted, hearing-end, tables-are, delivery-is, outgoing-is, sent-is, next-repair}
+use Rattle.lemmas.proofs.Bounds.{Limits, Sound}
+use Rattle.lemmas.proofs.OneTick.{hearing-end, tables-are, delivery-is, outgoing-is, sent-is, next-repair}
 use Rattle.theory.proofs.World.{nextInput, nextStamp, nextQueue, eventFrame, heardAt, Good, Legal}
 use Rattle.theory.proofs.Event.{Due-call, accepted-input, setup-at, clock-at, done-clock, after-clock, sound-at, opens-stamp, opens-queue, leaves-stamp, leaves-queue, trimmed-same}
 use Rattle.theory.proofs.Event as event
-use Rattle.theory.proofs.HearLoop.{some-inj}
 use Rattle.theory.proofs.Stabilize.{heardTo, stateAt, called, around, entry-at, loop-at}
 use Rattle.theory.proofs.PublishedEvent.{ReadsTrue, absorbAll, event-stamp, event-wide, Knows, knows-refl, knows-trans, next-knows, next-more}
 use Rattle.theory.proofs.PublishedQueue.{SameMembers, delivered-same, kept-same, rank-before}
-use Rattle.theory.proofs.PublishedHear.{Incoming, Told, SeenIs, News, same-self, news-stamp, news-queue, news-taken, news-from, news-all, news-sent, news-apart}
-use Rattle.theory.proofs.PublishedRun.{Copies, SentAs, Ranked, Waits, Twin, LastAs, or-false, heard-snoc, grown-at, settles-fresh, waits-reads, told, one-rank, copied-ok, news-of}
+use Rattle.theory.proofs.PublishedHear.{SeenIs, News, same-self, news-stamp, news-queue, news-taken, news-from, news-all, news-sent, news-apart}
+use Rattle.theory.proofs.PublishedRun.{SentAs, Ranked, Waits, Twin, heard-snoc, grown-at, settles-fresh, waits-reads, told, one-rank, copied-ok, news-of}
 
 -- the messages heard in a call, and the new ones among them
 abbrev pub heardHere : List (Option Message) → Call → List Message
@@ -64,7 +63,7 @@ heard-all :
 unfolding heardOf
 heard-all s node call c = rw (opens-stamp s node call c, opens-queue s node call c, setup-at s node call c, clock-at s node call c, batch-at node call) refl
 
--- what follows from no repair
+-- the calls heard, said another way
 seen-same : (sent : List (Option Message)) (heard heard′ : ℕ → Bool) (seen : List Message) → ((k : ℕ) → heard′ k ≡ heard k) → SeenIs sent heard seen → SeenIs sent heard′ seen
 seen-same sent heard heard′ seen same is =
     record {

@@ -1,20 +1,20 @@
 -- Hearing a batch: the tick takes the messages that are new to the process, and no others.
 -- Assumes nothing.
-use Prim.Native.Nat.{ℕ, zero, suc, _+_, _-_, _%_, _≤_, _<_}
+use Prim.Native.Nat.{ℕ, suc, _+_, _%_, _≤_, _<_}
 use native.Mathlib.Omega.{arith}
 use native.Mathlib.Nat.{add-zero}
 use mathlib.Core.Path.{_≡_, refl, sym, ap, subst, _∙_}
-use mathlib.Core.Logic.{_⊎_, inl, inr}
-use mathlib.Core.Bool.{Bool, true, false, _&&_, _||_, not, cond}
+use mathlib.Core.Logic.{inl, inr}
+use mathlib.Core.Bool.{Bool, true, false, _||_}
 use mathlib.Core.List.{List, [], _∷_, _++_, map, append-assoc, append-nil}
 use mathlib.Core.List.{List·Memᴰ, List·Memᴰ·head, List·Memᴰ·tail, List·Memᴰ·not-nil, List·Memᴰ·cases-cons, List·Memᴰ·append-cases, List·Memᴰ·eq-of-singleton, Memᴰ·append-left, Memᴰ·append-right}
-use mathlib.Core.Option.{Option, none, some}
+use mathlib.Core.Option.{Option, some}
 use lib.Dec.{eqb}
 use lib.ListN.{length, getElem?, length-append}
-use borrow.Author.Tests.{eqb-true, eqb-false, eq-eqb, ne-eqb}
+use borrow.Author.Tests.{eqb-true, eq-eqb, ne-eqb}
 use Rattle.laws.specs.Lists.{any, select, insertAt, apart}
-use Rattle.laws.proofs.Numbers.{true-or-false, clash, and-intro, and-left, and-right, or-left, or-right, or-cases, or-false-left, or-false-right, or-false-intro, false-of-no, eq-or-ne}
-use Rattle.laws.proofs.Lists.{any-of-mem, any-mem, any-of-false, getElem?-lt, select-append, mem-insertAt-new, mem-insertAt-old, mem-of-insertAt}
+use Rattle.laws.proofs.Numbers.{true-or-false, clash, and-intro, or-left, or-right, or-cases, or-false-left, or-false-right, or-false-intro, false-of-no, eq-or-ne}
+use Rattle.laws.proofs.Lists.{any-of-mem, any-of-false, getElem?-lt, select-append, mem-insertAt-new, mem-insertAt-old, mem-of-insertAt}
 use Rattle.laws.proofs.Sorted.{apart-cons}
 use Rattle.model.specs.Setup.{Setup}
 use Rattle.model.specs.Timestamp.{Timestamp, near, absorb}
@@ -22,15 +22,15 @@ use Rattle.model.specs.Frame.{Frame, encode, decode}
 use Rattle.model.specs.Question.{firstNo}
 use Rattle.model.specs.Judge.{Heard, hear, hearOne, judge, judgeQuestions, placeFor, readingOf}
 use Rattle.model.specs.Tick.{takenCount}
-use Rattle.model.specs.Published.{Event, Message, sameMessage, newOnes}
-use Rattle.model.specs.Run.{Origin, sentBy, stale}
-use Rattle.theory.specs.Demand2.{reduced, reducedFrame, messagesFrom, messagesHeard}
+use Rattle.model.specs.Published.{Message, sameMessage, newOnes}
+use Rattle.model.specs.Run.{Origin, sentBy}
+use Rattle.theory.specs.Demand2.{reduced, reducedFrame, messagesHeard}
 use Rattle.theory.specs.Demand3.{isFrom}
 use Rattle.lemmas.proofs.Bounds.{FrameOk}
 use Rattle.lemmas.proofs.RoundTrip.{decode-encode}
 use Rattle.lemmas.proofs.OneTick.{hear-one-verdict}
-use Rattle.theory.proofs.HearLoop.{some-inj}
-use Rattle.theory.proofs.PublishedEvent.{ReadsTrue, absorbAll}
+use Rattle.theory.proofs.HearLoop.{some-inj, hear-refused}
+use Rattle.theory.proofs.PublishedEvent.{absorbAll}
 use Rattle.theory.proofs.PublishedQueue.{SameMembers}
 
 pub same-self : (m : Message) → sameMessage m m ≡ true
@@ -84,12 +84,6 @@ take-message :
 unfolding hearOne judge readingOf reducedFrame reduced
 take-message s v h bytes m f e = rw (e, f) (refl, refl)
 
-skip-message :
-    (s : Setup) (v : ℕ) (h : Heard) (bytes : List ℕ) (k : ℕ) → firstNo (judgeQuestions s v (h .queue) bytes) ≡ suc k
-    → (hearOne s v h bytes .stamp ≡ h .stamp) × (hearOne s v h bytes .queue ≡ h .queue)
-unfolding hearOne judge
-skip-message s v h bytes k e = rw e (refl, refl)
-
 -- one message more in buffer and queue
 members-insert :
     (B i : ℕ) (m : Message) (queue : List Frame) (buffer : List Message) → SameMembers B queue buffer
@@ -130,7 +124,7 @@ module _ (s : Setup) (v : ℕ) (sent : List (Option Message)) where
   news-stamp none-left = refl
   news-stamp (again {h} {bytes} {fresh} k m a old e rest) =
       news-stamp rest
-      ∙ ap (λ (t : Timestamp). absorbAll (s .epsilon) (s .modulus) (v % s .modulus) t (map (λ (x : Message). x .event) fresh)) (skip-message s (v % s .modulus) h bytes 15 e .0)
+      ∙ ap (λ (t : Timestamp). absorbAll (s .epsilon) (s .modulus) (v % s .modulus) t (map (λ (x : Message). x .event) fresh)) (hear-refused s (v % s .modulus) h bytes 15 e .0)
   news-stamp (new {h} {bytes} {fresh} k m a old e rest) =
       news-stamp rest
       ∙ ap (λ (t : Timestamp). absorbAll (s .epsilon) (s .modulus) (v % s .modulus) t (map (λ (x : Message). x .event) fresh))
@@ -144,7 +138,7 @@ module _ (s : Setup) (v : ℕ) (sent : List (Option Message)) where
   unfolding hear
   news-queue buffer none-left same = rw (append-nil buffer) same
   news-queue buffer (again {h} {bytes} {fresh} k m a old e rest) same =
-      news-queue buffer rest (subst (λ (q : List Frame). SameMembers (s .modulus) q buffer) (sym (skip-message s (v % s .modulus) h bytes 15 e .1)) same)
+      news-queue buffer rest (subst (λ (q : List Frame). SameMembers (s .modulus) q buffer) (sym (hear-refused s (v % s .modulus) h bytes 15 e .1)) same)
   news-queue buffer (new {h} {bytes} {entries} {fresh} k m a old e rest) same =
       subst (λ (l : List Message). SameMembers (s .modulus) (hear s (v % s .modulus) (hearOne s (v % s .modulus) h bytes) entries .queue) l) (append-assoc buffer (m ∷ []) fresh)
       (news-queue (buffer ++ (m ∷ [])) rest

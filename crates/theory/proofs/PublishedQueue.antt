@@ -4,21 +4,20 @@ use Prim.Native.Nat.{ℕ, suc, _+_, _-_, _%_, _≤_, _<_, Ordering·lt}
 use native.Mathlib.Omega.{arith}
 use mathlib.Core.Path.{_≡_, refl, sym, ap, _∙_}
 use mathlib.Core.Logic.{_⊎_, inl, inr}
-use mathlib.Core.Bool.{Bool, true, false, not}
+use mathlib.Core.Bool.{Bool, true, not}
 use mathlib.Core.List.{List, [], _∷_, _++_, map, append-assoc, List·Memᴰ}
-use lib.Dec.{eqb}
 use lib.ListN.{length, getD, length-append}
 use lib.Seq.{getD-append-seam}
 use borrow.Author.Tests.{eq-eqb, ne-eqb}
 use Rattle.laws.specs.Lists.{tab, select, sortBy, apart}
-use Rattle.laws.specs.Lex.{lexCompare, isLess}
+use Rattle.laws.specs.Lex.{lexCompare}
 use Rattle.laws.proofs.Numbers.{lt-or-ge, eq-or-ne}
 use Rattle.laws.proofs.Lists.{length-tab, mem-select, mem-of-select, mem-map, mem-of-map}
 use Rattle.laws.proofs.Lex.{isLess-lt, lt-isLess, lex-head-lt, lex-head-eq, lex-lt-cases, lex-append}
-use Rattle.laws.proofs.Sorted.{pairwise, pairwise-mono, lessBy, Sorted, sorted-select, sorted-map, sorted-unique, apart-select}
+use Rattle.laws.proofs.Sorted.{pairwise-mono, lessBy, Sorted, sorted-select, sorted-map, sorted-unique, apart-select}
 use Rattle.laws.proofs.InsertionSort.{mem-sortBy, mem-of-sortBy, sorted-sortBy}
 use Rattle.model.specs.Setup.{Setup}
-use Rattle.model.specs.Timestamp.{Timestamp, sum, near}
+use Rattle.model.specs.Timestamp.{sum, near}
 use Rattle.model.specs.Frame.{Frame}
 use Rattle.model.specs.Order.{key, keyNear, countsDown, due, dueNear}
 use Rattle.model.specs.Tick.{dueNow}

@@ -1,49 +1,41 @@
--- One accepted call does what the published program does, given that all did so before it.
+-- All nodes and all processes of the published program side by side, what they have sent, and how that grows by one call.
 -- Assumes nothing.
-use Prim.Native.Nat.{ℕ, zero, suc, _+_, _-_, _*_, _%_, _≤_, _<_}
+use Prim.Native.Nat.{ℕ, suc, _+_, _%_, _≤_, _<_}
 use native.Mathlib.Omega.{arith}
-use native.Mathlib.Nat.{mod-lt}
-use mathlib.Core.Path.{_≡_, refl, sym, ap, ap₂, subst, _∙_}
-use mathlib.Core.Logic.{_⊎_, inl, inr}
-use mathlib.Core.Bool.{Bool, true, false, _&&_, _||_, not, cond}
-use mathlib.Core.List.{List, [], _∷_, _++_, map}
-use mathlib.Core.List.{List·Memᴰ, List·Memᴰ·append-cases, Memᴰ·append-left, Memᴰ·append-right}
-use mathlib.Core.Option.{Option, none, some}
+use mathlib.Core.Path.{_≡_, refl, sym, ap, subst, _∙_}
+use mathlib.Core.Logic.{inl, inr}
+use mathlib.Core.Bool.{Bool, true, false, _||_, not, cond, or-false}
+use mathlib.Core.List.{List, [], _∷_, _++_}
+use mathlib.Core.List.{List·Memᴰ}
+use mathlib.Core.Option.{Option, some}
 use lib.Dec.{eqb}
-use lib.ListN.{length, take, getElem?, length-append}
+use lib.ListN.{length, getElem?, length-append}
 use borrow.Author.Tests.{eqb-true, le-leb}
-use Rattle.laws.specs.Lists.{any, every, select, apart, overlay}
-use Rattle.laws.proofs.Numbers.{lt-or-ge, lt-or-gt, eq-or-ne, clash, and-intro, and-left, and-right, true-or-false}
+use Rattle.laws.specs.Lists.{any, apart}
+use Rattle.laws.proofs.Numbers.{lt-or-gt, eq-or-ne, and-intro, and-left, and-right, true-or-false}
 use Rattle.laws.proofs.Lists.{any-append, getElem?-lt, getElem?-append, getElem?-last, getElem?-snoc-cases}
-use Rattle.laws.proofs.Sorted.{lessBy, less-not-same-key, apart-append}
+use Rattle.laws.proofs.Sorted.{lessBy, less-not-same-key}
 use Rattle.model.specs.Setup.{Setup, width}
-use Rattle.model.specs.Timestamp.{Timestamp, near, step, countOwn, trimmed, widened}
-use Rattle.model.specs.Frame.{Frame, encode, decode}
+use Rattle.model.specs.Timestamp.{Timestamp, step}
+use Rattle.model.specs.Frame.{Frame, encode}
 use Rattle.model.specs.Codec.{frameOf}
-use Rattle.model.specs.Batch.{batchEntries}
 use Rattle.model.specs.Question.{firstNo}
-use Rattle.model.specs.Judge.{Heard, hear, hearOne, judgeQuestions}
-use Rattle.model.specs.Tick.{Input, ownStamp, tablesSound, queueSound, openingStamp, openingQueue, repairOf, heardOf, newStamp, sentBytes, deliveredOf, keptOf, tick}
-use Rattle.model.specs.Published.{Event, Message, Process, known, rank, sameMessage, newOnes, nextEvent, eventOf, buffered, deliveredAt, advanced, messageOf}
-use Rattle.model.specs.Run.{Node, Origin, sentBy, stale, Call, Done, World, inputOf, isAccepted, outputOf, doneOf, nodeAfter, act, sends, messageBytes}
+use Rattle.model.specs.Judge.{Heard, hearOne, judgeQuestions}
+use Rattle.model.specs.Tick.{repairOf}
+use Rattle.model.specs.Published.{Message, Process, rank, sameMessage, newOnes, buffered}
+use Rattle.model.specs.Run.{Node, Origin, sentBy, stale, Done, World, sends, messageBytes}
 use Rattle.theory.specs.Premises.{withOwn}
-use Rattle.theory.specs.Demand2.{reduced, reducedFrame, messagesHeard, Published, Outcome, outcomeOf, publish, SameAs, Matched}
+use Rattle.theory.specs.Demand2.{reduced, reducedFrame, messagesHeard, Published}
 use Rattle.theory.specs.Demand3.{isFrom, heardIn}
-use Rattle.lemmas.proofs.Bounds.{Limits, Sound, FrameOk, QueueOk}
+use Rattle.lemmas.proofs.Bounds.{Limits, FrameOk}
 use Rattle.lemmas.proofs.Reading.{near-true}
-use Rattle.lemmas.proofs.Counts.{trimmed-widened}
-use Rattle.lemmas.proofs.OneTick.{Accepted, hearing-end}
-use Rattle.theory.proofs.World.{nextInput, nextStamp, nextQueue, eventFrame, heardAt, followed, Settled, Good, Legal}
-use Rattle.theory.proofs.Event.{Due-call, accepted-input, setup-at, clock-at, frame-own, opens-stamp, opens-queue}
+use Rattle.theory.proofs.World.{nextInput, nextStamp, nextQueue, eventFrame, heardAt, followed, Good}
+use Rattle.theory.proofs.Event.{frame-own}
 use Rattle.theory.proofs.HearLoop.{Settles, Arrival, Entry, Around, Loop, some-inj, loop-verdict, loop-one}
-use Rattle.theory.proofs.Stabilize.{heardTo, stateAt, sends-accepted, called, around, entry-at, loop-at}
-use Rattle.theory.proofs.PublishedEvent.{ReadsTrue, absorbAll, event-stamp, event-wide, Knows, knows-trans, next-knows, next-more}
-use Rattle.theory.proofs.PublishedQueue.{SameMembers, delivered-same, kept-same, rank-before, rank-sender}
-use Rattle.theory.proofs.PublishedHear.{Incoming, Told, SeenIs, also, News, none-left, again, new, same-self, news-stamp, news-queue, news-taken, news-from, news-all, news-apart, seen-any, seen-again, seen-new, heard-cons, new-ones-again, new-ones-new}
-
-pub or-false : (b : Bool) → (b || false) ≡ b
-or-false true = refl
-or-false false = refl
+use Rattle.theory.proofs.Stabilize.{sends-accepted}
+use Rattle.theory.proofs.PublishedEvent.{ReadsTrue, Knows}
+use Rattle.theory.proofs.PublishedQueue.{SameMembers, rank-sender}
+use Rattle.theory.proofs.PublishedHear.{Incoming, Told, SeenIs, also, News, none-left, again, new, seen-any, seen-again, seen-new, heard-cons, new-ones-again, new-ones-new}
 
 -- the message m of the published program is the frame of the call d
 pub record Copies (s : Setup) (m : Message) (d : Done) : Type 0 where

@@ -1,39 +1,37 @@
 -- Fresh stations: the invariant holds with no clock left out, and each station is its process.
 -- Assumes nothing.
-use Prim.Native.Nat.{ℕ, zero, suc, _+_, _*_, _%_, _≤_, _<_}
+use Prim.Native.Nat.{ℕ, suc, _+_, _%_, _≤_}
 use native.Mathlib.Omega.{arith}
 use native.Mathlib.Numerals.{add-one}
 use native.Mathlib.Nat.{mod-lt}
 use mathlib.Core.Path.{_≡_, refl, sym, ap, subst, _∙_}
-use mathlib.Core.Logic.{_⊎_, inl, inr}
-use mathlib.Core.Bool.{Bool, true, false, _||_, cond}
-use mathlib.Core.List.{List, [], _∷_, map, List·Memᴰ, List·Memᴰ·not-nil}
-use mathlib.Core.Option.{Option, none, some}
+use mathlib.Core.Logic.{inl, inr}
+use mathlib.Core.Bool.{true}
+use mathlib.Core.List.{List, [], List·Memᴰ, List·Memᴰ·not-nil}
+use mathlib.Core.Option.{Option, some}
 use lib.Dec.{leb}
 use lib.ListN.{length, getElem?}
 use borrow.Author.Tests.{le-leb}
-use Rattle.laws.specs.Lists.{any, select, apart}
+use Rattle.laws.specs.Lists.{any, apart}
 use Rattle.laws.proofs.Numbers.{eq-or-ne, clash}
 use Rattle.laws.proofs.Lists.{countOf, index-of-mem, mem-select, getElem?-mem, getElem?-lt, getElem?-map}
 use Rattle.model.specs.Setup.{Setup, width}
 use Rattle.model.specs.Timestamp.{Timestamp, countAt, step, trimmed, widened, fresh, replaced, countOwn, soundTables}
 use Rattle.model.specs.Frame.{Frame}
 use Rattle.model.specs.Holdback.{held, soundHoldback, encodeHoldback}
-use Rattle.model.specs.Tick.{Input, holdbackSize, ownStamp, tablesSound, queueSound, openingStamp, openingQueue, repairOf}
-use Rattle.model.specs.Published.{Event, Message, Process, initial, started, sameMessage}
-use Rattle.model.specs.Run.{Node, Done, World, atStart}
+use Rattle.model.specs.Tick.{holdbackSize, ownStamp, tablesSound, queueSound, openingStamp, openingQueue, repairOf}
+use Rattle.model.specs.Published.{initial, started}
+use Rattle.model.specs.Run.{Node, atStart}
 use Rattle.theory.specs.Premises.{withOwn, goodStart, Fresh}
-use Rattle.theory.specs.Demand2.{reduced, Published, publishedStart}
-use Rattle.lemmas.proofs.Bounds.{Limits, QueueOk}
+use Rattle.theory.specs.Demand2.{publishedStart}
+use Rattle.lemmas.proofs.Bounds.{Limits}
 use Rattle.lemmas.proofs.Counts.{trimmed-widened, opened-replaced, fresh-own, fresh-sound, fresh-tables, replaced-count, own-count, own-count-here}
 use Rattle.lemmas.proofs.RoundTrip.{held-holdback}
 use Rattle.lemmas.proofs.Queue.{queue-none, queue-sound}
-use Rattle.theory.proofs.World.{nextInput, nextStamp, nextQueue, reached, Bounded, heardAt, Group, NodeOk, Good}
+use Rattle.theory.proofs.World.{nextInput, nextStamp, nextQueue, reached, Bounded, heardAt, Group, Good}
 use Rattle.theory.proofs.Stamps.{step-bounded}
 use Rattle.theory.proofs.Start.{group-start}
 use Rattle.theory.proofs.PublishedEvent.{initial-stamp, initial-wide}
-use Rattle.theory.proofs.PublishedQueue.{SameMembers}
-use Rattle.theory.proofs.PublishedHear.{SeenIs}
 use Rattle.theory.proofs.PublishedRun.{Twin, Paired}
 
 -- a node has reached its own clock

@@ -6,7 +6,7 @@ use native.Mathlib.Numerals.{add-one}
 use native.Mathlib.Nat.{zero-add, add-zero, suc-add}
 use mathlib.Core.Path.{_≡_, refl, sym, ap, ap₂, subst, _∙_}
 use mathlib.Core.Logic.{_⊎_, inl, inr}
-use mathlib.Core.Bool.{Bool, true, false, _&&_, _||_, not, cond}
+use mathlib.Core.Bool.{Bool, true, false, _&&_, _||_, not, cond, or-false}
 use mathlib.Core.List.{List, [], _∷_, _++_, map, List·Memᴰ}
 use mathlib.Core.Option.{Option, some}
 use lib.Dec.{eqb, eqb·suc-zero}
@@ -53,10 +53,6 @@ or-assoc true b c = refl
 or-assoc false true c = refl
 or-assoc false false true = refl
 or-assoc false false false = refl
-
-or-false : (a : Bool) → (a || false) ≡ a
-or-false true = refl
-or-false false = refl
 
 -- what has been heard before entry e of the call
 abbrev pub heardTo : List Done → Call → ℕ → ℕ → Bool
@@ -124,13 +120,13 @@ pub sends-accepted : (m : Done) → sends m ≡ true → isAccepted (m .output) 
 unfolding sends
 sends-accepted m e = and-left (isAccepted (m .output)) (m .call .send) e
 
-act-is : (w : World) (call : Call) (node : Node) → getElem? (w .nodes) (call .node) ≡ some node
+pub act-is : (w : World) (call : Call) (node : Node) → getElem? (w .nodes) (call .node) ≡ some node
     → act w call ≡ record { nodes = set (w .nodes) (call .node) (nodeAfter node (outputOf node call)); past = w .past ++ (doneOf node call ∷ []) }
 unfolding act
 act-is w call node at = ap (λ (o : Option Node). actOn o w call) at
 
 -- a refused call leaves its node
-refused-node : (node : Node) (call : Call) → isAccepted (outputOf node call) ≡ false → nodeAfter node (outputOf node call) ≡ node
+pub refused-node : (node : Node) (call : Call) → isAccepted (outputOf node call) ≡ false → nodeAfter node (outputOf node call) ≡ node
 unfolding nodeAfter movedClock outputOf tick isAccepted refusal acceptance inputOf
 refused-node node call h = go (firstNo (callQuestions (inputOf node call))) h
   where

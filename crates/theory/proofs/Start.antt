@@ -1,81 +1,30 @@
 -- The tests of the premises as facts: the nodes at the start, and each call that is allowed.
 -- Assumes nothing.
-use Prim.Native.Nat.{ℕ, zero, suc, _+_, _*_, _%_, _≤_, _<_}
+use Prim.Native.Nat.{ℕ, zero, suc, _+_, _%_, _≤_, _<_}
 use native.Mathlib.Omega.{arith}
 use mathlib.Core.Path.{_≡_, refl, sym, ap, subst, _∙_}
 use mathlib.Core.Logic.{_⊎_, inl, inr}
 use mathlib.Core.Bool.{Bool, true, false, _&&_, _||_, not}
 use mathlib.Core.List.{List, [], _∷_}
 use mathlib.Core.Option.{Option, none, some}
-use lib.Dec.{leb, ltb, eqb}
+use lib.Dec.{leb, eqb}
 use lib.ListN.{length, getD, getElem?}
-use borrow.Author.Tests.{leb-true, ltb-true, eqb-true, eq-eqb}
-use Rattle.laws.specs.Lists.{every, within, any, sameList}
+use borrow.Author.Tests.{leb-true, eqb-true, eq-eqb}
+use Rattle.laws.specs.Lists.{every, any, sameList}
 use Rattle.laws.proofs.Numbers.{eq-or-ne, lt-or-gt, clash, and-left, and-right}
 use Rattle.laws.proofs.Lists.{every-mem, getElem?-mem, getElem?-lt, getElem?-getD, mem-getElem?, largest-map-mem, sameList-true}
 use Rattle.laws.proofs.Sorted.{pairwise-of-apart, apart-index, pigeonhole}
-use Rattle.model.specs.Setup.{Setup, inLimits, leastModulus}
+use Rattle.model.specs.Setup.{Setup, inLimits}
 use Rattle.model.specs.Batch.{batchEntries}
 use Rattle.model.specs.Tick.{holdbackSize}
 use Rattle.model.specs.Run.{Node, Origin, sentBy, stale, Call, Done, World, isAccepted, outputOf, doneOf, movedClock, act, atStart, sends, messageBytes}
-use Rattle.theory.specs.Premises.{withOwn, sameSetup, together, distinct, goodStart, largestClock, staleUntil, clockAt, soundlySent, entryAllowed, entriesAllowed, acceptedWell, allowedFor, allowed}
+use Rattle.theory.specs.Premises.{withOwn, sameSetup, together, distinct, goodStart, largestClock, staleUntil, soundlySent, entryAllowed, entriesAllowed, acceptedWell, allowedFor, allowed}
+use Rattle.lemmas.proofs.Questions.{limits-from}
 use Rattle.lemmas.proofs.Bounds.{Limits}
 use Rattle.lemmas.proofs.Reading.{near-high}
 use Rattle.theory.proofs.Event.{next-opened}
 use Rattle.theory.proofs.Stamps.{early-bounded}
 use Rattle.theory.proofs.World.{nextStamp, heardAt, Group, Good, SentEntry, EntryOk, Legal}
-
-within-low : (lo hi x : ℕ) → within lo hi x ≡ true → lo ≤ x
-unfolding within
-within-low lo hi x h = leb-true lo x (and-left (leb lo x) (leb x hi) h)
-
-within-high : (lo hi x : ℕ) → within lo hi x ≡ true → x ≤ hi
-unfolding within
-within-high lo hi x h = leb-true x hi (and-right (leb lo x) (leb x hi) h)
-
-pub limits-from : (s : Setup) → inLimits s ≡ true → Limits s
-unfolding inLimits leastModulus
-limits-from s h =
-    record {
-      n-pos = within-low 1 16 (s .n) n-test;
-      n-most = within-high 1 16 (s .n) n-test;
-      epsilon-pos = within-low 1 16 (s .epsilon) e-test;
-      epsilon-most = within-high 1 16 (s .epsilon) e-test;
-      delta-most = leb-true (s .delta) 64 d-test;
-      modulus-least = within-low (6 * s .epsilon + s .delta + 1) 65535 (s .modulus) b-test;
-      modulus-most = within-high (6 * s .epsilon + s .delta + 1) 65535 (s .modulus) b-test;
-      own-below = ltb-true (s .own) (s .n) o-test;
-    }
-  where
-    B : Bool
-    B = within (6 * s .epsilon + s .delta + 1) 65535 (s .modulus)
-
-    O : Bool
-    O = ltb (s .own) (s .n)
-
-    n-test : within 1 16 (s .n) ≡ true
-    n-test = and-left (within 1 16 (s .n)) (within 1 16 (s .epsilon) && (leb (s .delta) 64 && (B && O))) h
-
-    h1 : (within 1 16 (s .epsilon) && (leb (s .delta) 64 && (B && O))) ≡ true
-    h1 = and-right (within 1 16 (s .n)) (within 1 16 (s .epsilon) && (leb (s .delta) 64 && (B && O))) h
-
-    e-test : within 1 16 (s .epsilon) ≡ true
-    e-test = and-left (within 1 16 (s .epsilon)) (leb (s .delta) 64 && (B && O)) h1
-
-    h2 : (leb (s .delta) 64 && (B && O)) ≡ true
-    h2 = and-right (within 1 16 (s .epsilon)) (leb (s .delta) 64 && (B && O)) h1
-
-    d-test : leb (s .delta) 64 ≡ true
-    d-test = and-left (leb (s .delta) 64) (B && O) h2
-
-    h3 : (B && O) ≡ true
-    h3 = and-right (leb (s .delta) 64) (B && O) h2
-
-    b-test : B ≡ true
-    b-test = and-left B O h3
-
-    o-test : O ≡ true
-    o-test = and-right B O h3
 
 -- the nodes, by the tests
 pub together-fact : (epsilon : ℕ) (nodes : List Node) → together epsilon nodes ≡ true → (i j : ℕ) (a b : Node) → getElem? nodes i ≡ some a → getElem? nodes j ≡ some b → a .clock ≤ b .clock + epsilon
@@ -175,15 +124,11 @@ setup-eq s t a b c d e =
 same-setup : (s t : Setup) → sameSetup s t ≡ true → s ≡ t
 unfolding sameSetup
 same-setup s t h =
-    let a : s .n ≡ t .n = eqb-true (s .n) (t .n) (and-left (eqb (s .n) (t .n)) (eqb (s .epsilon) (t .epsilon) && (eqb (s .delta) (t .delta) && (eqb (s .modulus) (t .modulus) && eqb (s .own) (t .own)))) h) in
-    let h1 = and-right (eqb (s .n) (t .n)) (eqb (s .epsilon) (t .epsilon) && (eqb (s .delta) (t .delta) && (eqb (s .modulus) (t .modulus) && eqb (s .own) (t .own)))) h in
-    let b : s .epsilon ≡ t .epsilon = eqb-true (s .epsilon) (t .epsilon) (and-left (eqb (s .epsilon) (t .epsilon)) (eqb (s .delta) (t .delta) && (eqb (s .modulus) (t .modulus) && eqb (s .own) (t .own))) h1) in
-    let h2 = and-right (eqb (s .epsilon) (t .epsilon)) (eqb (s .delta) (t .delta) && (eqb (s .modulus) (t .modulus) && eqb (s .own) (t .own))) h1 in
-    let c : s .delta ≡ t .delta = eqb-true (s .delta) (t .delta) (and-left (eqb (s .delta) (t .delta)) (eqb (s .modulus) (t .modulus) && eqb (s .own) (t .own)) h2) in
-    let h3 = and-right (eqb (s .delta) (t .delta)) (eqb (s .modulus) (t .modulus) && eqb (s .own) (t .own)) h2 in
-    let d : s .modulus ≡ t .modulus = eqb-true (s .modulus) (t .modulus) (and-left (eqb (s .modulus) (t .modulus)) (eqb (s .own) (t .own)) h3) in
-    let e : s .own ≡ t .own = eqb-true (s .own) (t .own) (and-right (eqb (s .modulus) (t .modulus)) (eqb (s .own) (t .own)) h3) in
-    setup-eq s t a b c d e
+    let h1 = and-right (eqb (s .n) (t .n)) _ h in
+    let h2 = and-right (eqb (s .epsilon) (t .epsilon)) _ h1 in
+    let h3 = and-right (eqb (s .delta) (t .delta)) _ h2 in
+    setup-eq s t (eqb-true _ _ (and-left (eqb (s .n) (t .n)) _ h)) (eqb-true _ _ (and-left (eqb (s .epsilon) (t .epsilon)) _ h1)) (eqb-true _ _ (and-left (eqb (s .delta) (t .delta)) _ h2))
+    (eqb-true _ _ (and-left (eqb (s .modulus) (t .modulus)) _ h3)) (eqb-true _ _ (and-right (eqb (s .modulus) (t .modulus)) _ h3))
 
 -- the entries, one by one
 entries-lengths : (s : Setup) (x : ℕ) (past : List Done) (nodes : List Node) (v : ℕ) (es : List (List ℕ)) (os : List Origin) → entriesAllowed s x past nodes v es os ≡ true → length es ≡ length os
@@ -218,13 +163,13 @@ entry-fact s x floor past nodes v bytes (sentBy k) early h = go (getElem? past k
     go : (d : Option Done) → getElem? past k ≡ d → soundlySent s nodes bytes d ≡ true → SentEntry s past nodes bytes k
     go none e t = absurd (clash t refl)
     go (some m) e t =
-        let a = and-right (sends m) (sameList bytes (messageBytes m) && leb (clockAt (getElem? nodes (m .node))) (m .clock + s .delta)) t in
+        let a = and-right (sends m) _ t in
         record {
           message = m;
           at = e;
-          sent = and-left (sends m) (sameList bytes (messageBytes m) && leb (clockAt (getElem? nodes (m .node))) (m .clock + s .delta)) t;
-          bytes = sameList-true bytes (messageBytes m) (and-left (sameList bytes (messageBytes m)) (leb (clockAt (getElem? nodes (m .node))) (m .clock + s .delta)) a);
-          near-by = leb-true (clockAt (getElem? nodes (m .node))) (m .clock + s .delta) (and-right (sameList bytes (messageBytes m)) (leb (clockAt (getElem? nodes (m .node))) (m .clock + s .delta)) a);
+          sent = and-left (sends m) _ t;
+          bytes = sameList-true bytes (messageBytes m) (and-left (sameList bytes (messageBytes m)) _ a);
+          near-by = leb-true _ _ (and-right (sameList bytes (messageBytes m)) _ a);
         }
 
 moved : (node : Node) (call : Call) → isAccepted (outputOf node call) ≡ true → doneOf node call .clock ≡ suc (node .clock)
