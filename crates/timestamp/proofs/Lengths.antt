@@ -52,6 +52,7 @@ getD-widened t i = getD-padded widest (t .kn) i
 -- a reading near v is less than two rounds of the clock
 pub near-most : (epsilon modulus v r : ℕ) → v < modulus → near epsilon modulus v r < 2 * modulus
 near-most epsilon modulus v r below =
-    elim (lt-or-ge (epsilon - 1) ((r + (modulus - v)) % modulus))
-    [ inl h ↦ omega (arith, near-behind epsilon modulus v r below h, ahead-below modulus v r below)
-    | inr h ↦ omega (arith, near-ahead epsilon modulus v r h, ahead-below modulus v r below) ]
+    elim (lt-or-ge (epsilon - 1) ((r + (modulus - v)) % modulus)) [
+      | inl h ↦ omega (arith, near-behind epsilon modulus v r below h, ahead-below modulus v r below)
+      | inr h ↦ omega (arith, near-ahead epsilon modulus v r h, ahead-below modulus v r below)
+    ]
