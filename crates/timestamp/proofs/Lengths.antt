@@ -2,15 +2,13 @@
 -- Assumes nothing.
 use Prim.Native.Nat.{ℕ, _+_, _-_, _*_, _%_, _≤_, _<_}
 use native.Mathlib.Omega.{arith}
-use mathlib.Core.Path.{_≡_, refl, _∙_}
-use mathlib.Core.List.{List}
-use lib.ListN.{length, getD, set, replicate, length-append, length-drop, length-set, length-replicate}
-use borrow.Author.Tests.{le-leb, lt-leb}
+use mathlib.Core.Path.{_≡_, _∙_}
+use lib.ListN.{length, getD, length-append, length-drop, length-set, length-replicate}
 use Rattle.laws.proofs.Lists.{length-tab, getD-padded}
 use Rattle.laws.proofs.Numbers.{lt-or-ge}
 use mathlib.Core.Logic.{inl, inr}
 use Rattle.model.specs.Setup.{width, widest}
-use Rattle.model.specs.Timestamp.{Timestamp, countAt, trimmed, widened, fresh, replaced, shift, step, absorb, countOwn, near, ahead}
+use Rattle.model.specs.Timestamp.{Timestamp, trimmed, widened, fresh, replaced, shift, step, absorb, countOwn, near}
 use Rattle.timestamp.proofs.Readings.{ahead-below, near-ahead, near-behind}
 
 pub width-most : (epsilon : ℕ) → epsilon ≤ 16 → width epsilon ≤ widest

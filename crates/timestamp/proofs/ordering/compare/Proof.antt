@@ -1,6 +1,6 @@
 -- `timestamp::ordering::compare` meets its contract: places past the 2ε counts are not looked at.
 -- Assumes nothing.
-use mathlib.Core.Path.{_≡_, refl}
+use mathlib.Core.Path.{_≡_}
 use native.Mathlib.Omega.{arith}
 use lib.ListN.{length}
 use Rattle.timestamp.specs.Views.{stampOf}
