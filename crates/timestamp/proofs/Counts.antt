@@ -1,0 +1,107 @@
+-- Lists of counts: by place, padded with zeros, and the 2ε of a timestamp alone.
+-- Assumes nothing.
+use Prim.Native.Nat.{ℕ, zero, suc, _+_, _-_, _≤_, _<_}
+use native.Mathlib.Nat.{not-suc-le-zero, le-of-suc-le-suc}
+use native.Mathlib.Numerals.{add-one}
+use native.Mathlib.Omega.{arith}
+use mathlib.Core.Path.{_≡_, refl, sym, ap, _∙_}
+use mathlib.Core.List.{List, [], _∷_, _++_, append-assoc}
+use lib.ListN.{length, take, drop, getD, set, replicate, length-append, length-set, length-replicate, length-take, length-drop, drop-of-length-le, List·getD-append, replicate-append-replicate}
+use mathlib.Core.Bool.{true, false, _&&_}
+use borrow.Author.Tests.{le-leb, lt-leb}
+use lib.Dec.{leb}
+use lib.Seq.{drop-cons, set-append-seam, set-append-left, take-append-seam, length-take-le, take-nil, take-suc, getD-drop, slice, slice-cons}
+use Rattle.laws.specs.Lists.{tab, every, padded}
+use Rattle.laws.proofs.Lists.{length-tab, tab-suc, tab-take, take-padded, length-padded}
+use Rattle.model.specs.Setup.{width, widest}
+use Rattle.model.specs.Timestamp.{Timestamp, atMost, trimmed, widened}
+
+-- a number less what it has of another, and one more
+sub-next : (w n : ℕ) → n < w → w - n ≡ suc (w - suc n)
+sub-next w n h = omega arith
+
+-- the first of the zeros is written
+pub padded-next : (w : ℕ) (l : List ℕ) (i x : ℕ) → length l ≡ i → i < w → set (padded w l) i x ≡ padded w (l ++ (x ∷ []))
+unfolding padded
+padded-next w l i x e h =
+    let short : length l < w = omega arith in
+    rw (
+      ← e,
+      sub-next w (length l) short,
+      set-append-seam,
+      length-append,
+      append-assoc,
+      add-one (length l),
+    )
+
+-- a count is written
+pub set-padded : (w : ℕ) (l : List ℕ) (i x : ℕ) → i < length l → set (padded w l) i x ≡ padded w (set l i x)
+unfolding padded
+set-padded w l i x h = rw (set-append-left, length-set)
+
+-- zeros after zeros
+pub padded-zeros : (w n : ℕ) → n ≤ w → replicate w 0 ≡ padded w (replicate n 0)
+unfolding padded
+padded-zeros w n h =
+    let e : n + (w - n) ≡ w = omega arith in
+    rw (length-replicate, replicate-append-replicate, e)
+
+-- zeros at the end change nothing
+pub padded-more : (w : ℕ) (l : List ℕ) (k : ℕ) → length l + k ≤ w → padded w (l ++ replicate k 0) ≡ padded w l
+unfolding padded
+padded-more w l k h =
+    let e : k + (w - (length l + k)) ≡ w - length l = omega arith in
+    rw (length-append, length-replicate, append-assoc, replicate-append-replicate, e)
+
+-- the counts but the first
+pub drop-one-take : (w : ℕ) (l : List ℕ) → drop 1 (take w l) ≡ take (w - 1) (drop 1 l)
+drop-one-take zero l = refl
+drop-one-take (suc w) [] = sym (take-nil (suc w - 1))
+drop-one-take (suc w) (x ∷ l) = let e : suc w - 1 ≡ w = omega arith in rw e
+
+-- a timestamp's 2ε counts are the first 2ε of its places
+pub trimmed-take : (epsilon : ℕ) (t : Timestamp) → width epsilon ≤ length (t .kn)
+    → trimmed epsilon t ≡ record { r = t .r; c = t .c; kn = take (width epsilon) (t .kn) }
+unfolding trimmed
+trimmed-take epsilon t h = rw (tab-take (width epsilon) (t .kn) 0 h)
+
+-- what was widened is had back
+pub trimmed-widened : (epsilon : ℕ) (t : Timestamp) → length (t .kn) ≡ width epsilon → width epsilon ≤ widest
+    → trimmed epsilon (widened t) ≡ t
+unfolding widened
+trimmed-widened epsilon t e h =
+    let long : width epsilon ≤ length (padded widest (t .kn)) = omega (arith, length-padded widest (t .kn) (omega arith)) in
+    rw (trimmed-take epsilon (widened t) long, ← e, take-padded)
+
+-- what a loop that copies a part of s has made after one turn more
+pub copied-next : (w : ℕ) (s kn : List ℕ) (from count i : ℕ) → from + count ≤ length s → count ≤ w → i < count
+    → kn ≡ padded w (take i (drop from s)) → set kn i (getD s (from + i) 0) ≡ padded w (take (i + 1) (drop from s))
+copied-next w s kn from count i fits h k e =
+    let short : i < w = omega arith in
+    let inside : i < length (drop from s) = omega (arith, length-drop from s) in
+    let passed : length (take i (drop from s)) ≡ i = length-take-le i (drop from s) (omega arith) in
+    rw (e, ← getD-drop from s i 0, padded-next w (take i (drop from s)) i _ passed short, add-one i, take-suc (drop from s) i 0 inside)
+
+-- the same for counts that are computed
+pub tabbed-next : (w : ℕ) (f : ℕ → ℕ) (kn : List ℕ) (i x : ℕ) → kn ≡ padded w (tab i f) → i < w → f i ≡ x
+    → set kn i x ≡ padded w (tab (i + 1) f)
+tabbed-next w f kn i x e h ex = rw (e, padded-next w (tab i f) i x (length-tab i f) h, add-one i, tab-suc i f, ex)
+
+-- the test of the counts from a place on: the first of them, then the others
+at-most-cons : (bound i to : ℕ) (l : List ℕ) → i < to → to ≤ length l
+    → atMost bound (slice i to l) ≡ (leb (getD l i 0) bound && atMost bound (slice (i + 1) to l))
+unfolding atMost every
+at-most-cons bound i to l h k = rw (slice-cons i to l 0 h k, add-one i)
+
+pub at-most-stop : (bound i to : ℕ) (l : List ℕ) → i < to → to ≤ length l → bound < getD l i 0 → atMost bound (slice i to l) ≡ false
+at-most-stop bound i to l h k t = rw (at-most-cons bound i to l h k, lt-leb (getD l i 0) bound t)
+
+pub at-most-next : (bound i to : ℕ) (l : List ℕ) → i < to → to ≤ length l → getD l i 0 ≤ bound
+    → atMost bound (slice i to l) ≡ atMost bound (slice (i + 1) to l)
+at-most-next bound i to l h k t = rw (at-most-cons bound i to l h k, le-leb (getD l i 0) bound t)
+
+pub at-most-none : (bound i to : ℕ) (l : List ℕ) → to ≤ i → to ≤ length l → atMost bound (slice i to l) ≡ true
+unfolding atMost every
+at-most-none bound i to l h k =
+    let e : length (take to l) ≤ i = omega (arith, length-take-le to l k) in
+    rw (drop-of-length-le (take to l) e)

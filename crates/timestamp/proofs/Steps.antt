@@ -1,0 +1,77 @@
+-- Each step of a tick on a timestamp with all its places, from what the code's copies of the counts hold.
+-- Assumes nothing.
+use Prim.Native.Nat.{ℕ, suc, _+_, _-_, _*_, _≤_, _<_, max}
+use native.Mathlib.Omega.{arith}
+use mathlib.Core.Path.{_≡_, refl, sym, ap, _∙_}
+use mathlib.Core.List.{List, [], _∷_, _++_}
+use lib.ListN.{length, take, drop, getD, set, replicate, length-set, length-replicate, length-take}
+use lib.Seq.{getD-take}
+use Rattle.laws.specs.Lists.{tab, padded}
+use Rattle.laws.proofs.Lists.{getD-padded}
+use Rattle.model.specs.Setup.{width, widest}
+use Rattle.model.specs.Timestamp.{Timestamp, sum, countAt, trimmed, widened, fresh, replaced, shift, step, absorb, countOwn}
+use Rattle.timestamp.specs.Views.{largerAt}
+use Rattle.timestamp.proofs.Counts.{set-padded, padded-zeros, padded-more, drop-one-take, trimmed-take}
+
+-- a list of counts with its timestamp's other fields
+abbrev pub stamp : ℕ → ℕ → List ℕ → Timestamp
+stamp r c kn = record { r = r; c = c; kn = kn }
+
+pub fresh-widened : (epsilon clock : ℕ) → 1 ≤ epsilon → epsilon ≤ 16
+    → stamp clock 0 (set (replicate 32 0) epsilon 1) ≡ widened (fresh epsilon clock)
+unfolding widened fresh width
+fresh-widened epsilon clock h k =
+    let fits : 2 * epsilon ≤ 32 = omega arith in
+    let inside : epsilon < length {A = ℕ} (replicate (2 * epsilon) 0) = omega (arith, length-replicate {A = ℕ} (2 * epsilon) 0) in
+    ap (stamp clock 0)
+    (ap (λ (l : List ℕ). set l epsilon 1) (padded-zeros 32 (2 * epsilon) fits)
+    ∙ set-padded 32 (replicate (2 * epsilon) 0) epsilon 1 inside)
+
+pub replaced-widened : (epsilon clock : ℕ) → epsilon ≤ 16 → stamp clock 0 (replicate 32 0) ≡ widened (replaced epsilon clock)
+unfolding widened replaced width
+replaced-widened epsilon clock k = let fits : 2 * epsilon ≤ 32 = omega arith in rw (padded-zeros 32 (2 * epsilon) fits)
+
+module _ (epsilon : ℕ) (t : Timestamp) (small : epsilon ≤ 16) (long : length (t .kn) ≡ 32) where
+  pub trimmed-all : trimmed epsilon t ≡ stamp (t .r) (t .c) (take (2 * epsilon) (t .kn))
+  unfolding width
+  trimmed-all = trimmed-take epsilon t (omega arith)
+
+  pub trim-widened : (kn : List ℕ) → kn ≡ padded 32 (take (2 * epsilon) (t .kn)) → stamp (t .r) (t .c) kn ≡ widened (trimmed epsilon t)
+  unfolding widened
+  trim-widened kn e = rw (trimmed-all, e)
+
+  pub step-widened : (v c : ℕ) (kn : List ℕ) → 1 ≤ epsilon → c ≡ t .c - 1 → kn ≡ padded 32 (take (2 * epsilon - 1) (drop 1 (t .kn)))
+      → stamp v c kn ≡ widened (step v (trimmed epsilon t))
+  unfolding widened step shift
+  step-widened v c kn h ec e =
+      let moved : drop 1 (take (2 * epsilon) (t .kn)) ≡ take (2 * epsilon - 1) (drop 1 (t .kn)) = drop-one-take (2 * epsilon) (t .kn) in
+      let fits : length (take (2 * epsilon - 1) (drop 1 (t .kn))) + 1 ≤ 32 =
+      omega (arith, length-take (2 * epsilon - 1) (drop 1 (t .kn))) in
+      rw (trimmed-all, moved, padded-more 32 (take (2 * epsilon - 1) (drop 1 (t .kn))) 1 fits, ec, e)
+
+  -- the own count, before it rises
+  pub own-count : (kn : List ℕ) → 1 ≤ epsilon → kn ≡ padded 32 (take (2 * epsilon) (t .kn)) → getD kn epsilon 0 ≡ getD (t .kn) epsilon 0
+  own-count kn h e =
+      let inside : epsilon < 2 * epsilon = omega arith in
+      rw (e, getD-padded 32 (take (2 * epsilon) (t .kn)) epsilon, getD-take (2 * epsilon) (t .kn) epsilon 0 inside)
+
+  pub count-own-widened : (v : ℕ) (kn : List ℕ) → 1 ≤ epsilon → kn ≡ padded 32 (take (2 * epsilon) (t .kn))
+      → stamp v (t .c) (set kn epsilon (getD kn epsilon 0 + 1)) ≡ widened (countOwn epsilon v (trimmed epsilon t))
+  unfolding widened countOwn
+  count-own-widened v kn h e =
+      let inside : epsilon < length (take (2 * epsilon) (t .kn)) = omega (arith, length-take (2 * epsilon) (t .kn)) in
+      rw (
+        trimmed-all,
+        e,
+        getD-padded 32 (take (2 * epsilon) (t .kn)) epsilon,
+        set-padded 32 (take (2 * epsilon) (t .kn)) epsilon (getD (take (2 * epsilon) (t .kn)) epsilon 0 + 1) inside,
+      )
+
+  pub absorb-widened : (modulus reading c : ℕ) (f : Timestamp) (kn : List ℕ) → length (f .kn) ≡ 32
+      → c ≡ max (t .c) (reading + f .c - modulus)
+      → kn ≡ padded 32 (tab (2 * epsilon) (largerAt modulus reading (take (2 * epsilon) (t .kn)) (take (2 * epsilon) (f .kn))))
+      → stamp (t .r) c kn ≡ widened (absorb epsilon modulus (trimmed epsilon t) reading (trimmed epsilon f))
+  unfolding widened absorb sum width
+  absorb-widened modulus reading c f kn long-f ec e =
+      let trimmed-f : trimmed epsilon f ≡ stamp (f .r) (f .c) (take (2 * epsilon) (f .kn)) = trimmed-take epsilon f (omega arith) in
+      rw (trimmed-all, trimmed-f, ec, e)

@@ -1,0 +1,35 @@
+-- The order of two timestamps in the code's terms.
+-- Assumes nothing.
+use Prim.Native.Nat.{ℕ, _*_, _≤_, _<_, _^_, Ordering, Ordering·lt, Ordering·eq, Ordering·gt}
+use mathlib.Core.List.{List, []}
+use lib.ListN.{length}
+use Rattle.model.specs.Timestamp.{Timestamp}
+use Rattle.model.specs.Frame.{Frame}
+use Rattle.model.specs.Order.{countsDown}
+use Rattle.timestamp.specs.declared.ordering.Order.{Order}
+use Rattle.timestamp.specs.declared.ordering.Order.the-variants.{First, Same, After}
+use Rattle.timestamp.specs.declared.ordering.Rank.{Rank}
+
+-- 01: "first difference decides": the code's answer
+abbrev pub orderOf : Ordering → Order
+orderOf Ordering·lt = First
+orderOf Ordering·eq = Same
+orderOf Ordering·gt = After
+
+-- the ε counts from offset c down, of a list of counts
+abbrev pub countsFrom : ℕ → ℕ → List ℕ → List ℕ
+countsFrom epsilon c kn = countsDown epsilon (record { r = 0; c = c; kn = kn })
+
+-- a frame with that station and timestamp. The order does not look at the payload
+abbrev pub frameOf : ℕ → Timestamp → Frame
+frameOf station t = record { station = station; stamp = t; payload = [] }
+
+-- a frame with that rank and those counts. The order looks at the reading in the place of r
+abbrev pub rankedFrame : Rank → List ℕ → Frame
+rankedFrame f kn = frameOf (f .station) (record { r = 0; c = f .c; kn = kn })
+
+-- what a comparison asks of a frame: its lead is sound, its reading small, and 2ε counts are there
+pub record Ranked (epsilon : ℕ) (f : Rank) (kn : List ℕ) : Type 0 where
+  pub lead : f .c < epsilon
+  pub small : f .reading ≤ 2 ^ 17
+  pub long : 2 * epsilon ≤ length kn

@@ -1,0 +1,22 @@
+-- What the code's values say in the model's terms.
+-- Assumes nothing.
+use Prim.Native.Nat.{ℕ, _+_, max}
+use mathlib.Core.List.{List}
+use lib.ListN.{getD}
+use Rattle.model.specs.Timestamp.{countAt}
+use Rattle.model.specs.Setup as setups
+use Rattle.model.specs.Timestamp as stamps
+use Rattle.timestamp.specs.declared.limits.Setup.{Setup}
+use Rattle.timestamp.specs.declared.stamp.Timestamp.{Timestamp}
+
+-- 01: the setup
+abbrev pub setupOf : Setup → setups.Setup
+setupOf s = record { n = s .n; epsilon = s .epsilon; delta = s .delta; modulus = s .modulus; own = s .own }
+
+-- 01: the stamp, with all its places
+abbrev pub stampOf : Timestamp → stamps.Timestamp
+stampOf t = record { r = t .r; c = t .c; kn = t .kn }
+
+-- 01, tick 3: "each count" becomes "the larger of own and frame's, both placed relative to v": the count at a place
+abbrev pub largerAt : ℕ → ℕ → List ℕ → List ℕ → ℕ → ℕ
+largerAt modulus reading own other i = max (getD own i 0) (countAt reading other (modulus + i))

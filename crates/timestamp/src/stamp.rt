@@ -1,0 +1,238 @@
+// 01: the stamp, its soundness, the steps of one tick that change it, and reading a clock near v.
+ghost use mathlib.Core.Path.{_≡_};
+ghost use mathlib.Core.List.{List, []};
+ghost use Prim.Native.Nat.{ℕ, _+_, _-_, _*_, _≤_, _<_, _^_, max};
+ghost use lib.ListN.{length, take, drop, getD};
+ghost use Rattle.laws.specs.Lists.{tab, padded};
+ghost use Rattle.model.specs.Setup.{widest};
+ghost use Rattle.model.specs.Timestamp.{countAt, atMost, soundTimestamp, soundTables, trimmed, widened};
+ghost use Rattle.model.specs.Timestamp as model;
+ghost use Rattle.timestamp.specs.Views.{stampOf, largerAt};
+
+// 01: the stamp.
+pub struct Timestamp {
+    // "the clock at the event"
+    pub r: usize,
+    // "how far the largest known clock lies ahead of r"
+    pub c: usize,
+    // 01: the counts, from offset −ε up; places past the 2ε counts are ignored
+    pub kn: [u8; Timestamp::WIDTH],
+}
+
+impl Timestamp {
+    // The counts of the widest timestamp: 2ε at ε 16.
+    pub const WIDTH: usize = 32;
+
+    // 01: "Fresh tables at a clock have that r, c 0, count 1 at offset 0, otherwise 0".
+    pub fn fresh(epsilon: usize, clock: usize) -> Self
+        requires { ⌜ (1 ≤ epsilon) × (epsilon ≤ 16) ⌝ }
+        ensures { λ s. ⌜ stampOf s ≡ widened (model.fresh epsilon clock) ⌝ }
+    {
+        let mut kn = [0u8; Timestamp::WIDTH];
+        kn[epsilon] = 1;
+        Timestamp { r: clock, c: 0, kn }
+    }
+
+    // 01, tick 1: "Unsound tables are replaced by c 0 and no counts at all".
+    pub fn replaced(clock: usize) -> Self
+        ensures { λ s. ⌜ ((epsilon : ℕ) → epsilon ≤ 16 → stampOf s ≡ widened (model.replaced epsilon clock)) ⌝ }
+    {
+        let kn = [0u8; Timestamp::WIDTH];
+        Timestamp { r: clock, c: 0, kn }
+    }
+
+    // 01: places past the 2ε counts "come back 0".
+    pub fn trim(self, epsilon: usize) -> Self
+        requires { ⌜ epsilon ≤ 16 ⌝ }
+        ensures { λ s. ⌜ stampOf s ≡ widened (trimmed epsilon (stampOf self)) ⌝ }
+    {
+        let own = self.kn;
+        let kn = counts_of(&own, 0, 2 * epsilon);
+        Timestamp {
+            r: self.r,
+            c: self.c,
+            kn,
+        }
+    }
+
+    // 01, tick 2: "c drops by one, not below 0, and counts move one offset down".
+    pub fn step(self, epsilon: usize, v: usize) -> Self
+        requires { ⌜ (1 ≤ epsilon) × (epsilon ≤ 16) ⌝ }
+        ensures { λ s. ⌜ stampOf s ≡ widened (model.step v (trimmed epsilon (stampOf self))) ⌝ }
+    {
+        let own = self.kn;
+        let kn = counts_of(&own, 1, 2 * epsilon - 1);
+        Timestamp {
+            r: v,
+            c: one_less(self.c),
+            kn,
+        }
+    }
+
+    // 01, tick 3: "c and each count become the larger of own and frame's, both placed relative to v", which reads B.
+    pub fn absorb(self, epsilon: usize, modulus: usize, reading: usize, f: Timestamp) -> Self
+        requires { ⌜ (epsilon ≤ 16) × ((modulus ≤ 65535) × ((reading ≤ 2 ^ 17) × (f .c ≤ 2 ^ 16))) ⌝ }
+        ensures { λ s. ⌜ stampOf s
+            ≡ widened (model.absorb epsilon modulus (trimmed epsilon (stampOf self)) reading (trimmed epsilon (stampOf f))) ⌝ }
+    {
+        let own = self.kn;
+        let other = f.kn;
+        let kn = larger_counts(&own, &other, 2 * epsilon, modulus, reading);
+        Timestamp {
+            r: self.r,
+            c: larger_lead(self.c, reading + f.c, modulus),
+            kn,
+        }
+    }
+
+    // 01, tick 4: "The count at offset 0 rises by one; r is v".
+    pub fn count_own(self, epsilon: usize, v: usize) -> Self
+        requires { ⌜ (1 ≤ epsilon) × ((epsilon ≤ 16) × (getD (self .kn) epsilon 0 ≤ 254)) ⌝ }
+        ensures { λ s. ⌜ stampOf s ≡ widened (model.countOwn epsilon v (trimmed epsilon (stampOf self))) ⌝ }
+    {
+        let own = self.kn;
+        let mut kn = counts_of(&own, 0, 2 * epsilon);
+        kn[epsilon] = kn[epsilon] + 1;
+        Timestamp {
+            r: v,
+            c: self.c,
+            kn,
+        }
+    }
+
+    // 01: "A stamp is sound if c ≤ ε − 1, each count ≤ n, the count at offset c is at least 1, and all counts above offset c are 0".
+    pub fn is_sound(self, n: usize, epsilon: usize) -> bool
+        requires { ⌜ (1 ≤ epsilon) × (epsilon ≤ 16) ⌝ }
+        ensures { λ b. ⌜ b ≡ soundTimestamp n epsilon (trimmed epsilon (stampOf self)) ⌝ }
+    {
+        let kn = self.kn;
+        let c = self.c;
+        if epsilon <= c {
+            return false;
+        }
+        if !counts_at_most(&kn, 0, 2 * epsilon, n) {
+            return false;
+        }
+        if kn[epsilon + c] < 1 {
+            return false;
+        }
+        counts_at_most(&kn, epsilon + c + 1, 2 * epsilon, 0)
+    }
+
+    // 01: "sound for a new clock v if the stamp is sound, r is below B and one before v modulo B, and counts at offsets 1
+    // and up are at most n − 1".
+    pub fn is_sound_for(self, n: usize, epsilon: usize, modulus: usize, v: usize) -> bool
+        requires { ⌜ (1 ≤ n) × ((1 ≤ epsilon) × (epsilon ≤ 16)) ⌝ }
+        ensures { λ b. ⌜ b ≡ soundTables n epsilon modulus v (trimmed epsilon (stampOf self)) ⌝ }
+    {
+        let kn = self.kn;
+        let r = self.r;
+        if !self.is_sound(n, epsilon) {
+            return false;
+        }
+        if modulus <= r {
+            return false;
+        }
+        if (r + 1) % modulus != v {
+            return false;
+        }
+        counts_at_most(&kn, epsilon + 1, 2 * epsilon, n - 1)
+    }
+}
+
+// Every count from one place up to, not including, another is at most the bound.
+pub fn counts_at_most(kn: &[u8], from: usize, to: usize, bound: usize) -> bool
+    requires { ⌜ to ≤ length (now kn) ⌝ }
+    ensures { λ b. ⌜ b ≡ atMost bound (drop from (take to (now (kn .entry)))) ⌝ }
+{
+    let mut i = from;
+    while i < to {
+        if bound < kn[i] as usize {
+            return false;
+        }
+        i += 1;
+    }
+    true
+}
+
+// The counts that stand in a slice from a place on, by value, then zeros.
+pub fn counts_of(s: &[u8], from: usize, count: usize) -> [u8; Timestamp::WIDTH]
+    requires { ⌜ (from + count ≤ length (now s)) × (count ≤ 32) ⌝ }
+    ensures { λ kn. ⌜ kn ≡ padded widest (take count (drop from (now (s .entry)))) ⌝ }
+{
+    let mut kn = [0u8; Timestamp::WIDTH];
+    let mut i = 0;
+    while i < count {
+        kn[i] = s[from + i];
+        i += 1;
+    }
+    kn
+}
+
+// 01: the count for the clock named w, of a timestamp with that reading; "Outside those offsets a count reads as 0".
+fn count_at(kn: &[u8], width: usize, reading: usize, w: usize) -> u8
+    requires { ⌜ width ≤ length (now kn) ⌝ }
+    ensures { λ x. ⌜ x ≡ countAt reading (take width (now (kn .entry))) w ⌝ }
+{
+    if w < reading {
+        return 0;
+    }
+    if width <= w - reading {
+        return 0;
+    }
+    kn[w - reading]
+}
+
+// The larger of two counts.
+fn larger(a: u8, b: u8) -> u8
+    ensures { λ x. ⌜ x ≡ max a b ⌝ }
+{
+    if a < b { b } else { a }
+}
+
+// The larger of c and of how far a sum lies past B.
+fn larger_lead(c: usize, sum: usize, modulus: usize) -> usize
+    ensures { λ x. ⌜ x ≡ max c (sum - modulus) ⌝ }
+{
+    if sum <= modulus {
+        return c;
+    }
+    let lead = sum - modulus;
+    if c < lead { lead } else { c }
+}
+
+fn one_less(c: usize) -> usize
+    ensures { λ x. ⌜ x ≡ c - 1 ⌝ }
+{
+    if c == 0 { 0 } else { c - 1 }
+}
+
+// 01, tick 3: each count "the larger of own and frame's", the frame's placed by its reading.
+fn larger_counts(
+    own: &[u8],
+    other: &[u8],
+    width: usize,
+    modulus: usize,
+    reading: usize,
+) -> [u8; Timestamp::WIDTH]
+    requires { ⌜ (width ≤ 32) × ((width ≤ length (now own)) × ((width ≤ length (now other)) × (modulus ≤ 65535))) ⌝ }
+    ensures { λ kn. ⌜ kn
+        ≡ padded widest (tab width (largerAt modulus reading (take width (now (own .entry))) (take width (now (other .entry))))) ⌝ }
+{
+    let mut kn = [0u8; Timestamp::WIDTH];
+    let mut i = 0;
+    while i < width {
+        kn[i] = larger(own[i], count_at(other, width, reading, modulus + i));
+        i += 1;
+    }
+    kn
+}
+
+// 01: "u is (r − v) modulo B. If u ≤ ε − 1, r is u ahead. Otherwise it is B − u behind." v itself reads B.
+pub fn near(epsilon: usize, modulus: usize, v: usize, r: usize) -> usize
+    requires { ⌜ (1 ≤ epsilon) × ((modulus ≤ 65535) × ((v < modulus) × (r < modulus))) ⌝ }
+    ensures { λ x. ⌜ x ≡ model.near epsilon modulus v r ⌝ }
+{
+    let u = (r + (modulus - v)) % modulus;
+    if u <= epsilon - 1 { modulus + u } else { u }
+}
