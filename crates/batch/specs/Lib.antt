@@ -1,0 +1,2 @@
+-- `Walk` has the batch by positions.
+pub mod Walk

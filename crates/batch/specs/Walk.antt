@@ -1,0 +1,26 @@
+-- The batch (01: the bundle) by positions: the entry whose length stands at a position, and the position after it.
+-- `proofs/Walk.antt` shows that they give the entries of `model`. Assumes nothing.
+use Prim.Native.Nat.{ℕ, zero, suc, _+_, min}
+use mathlib.Core.List.{List, [], _∷_}
+use lib.ListN.{length, take, drop, getD}
+
+-- how many entries the batch says that it has
+unfoldable pub countOf : List ℕ → ℕ
+countOf s = getD s 0 0
+
+-- where the first entry's length stands
+abbrev pub firstAt : ℕ
+firstAt = 1
+
+-- the bytes of the entry at a position; none past the end
+unfoldable pub entryAt : List ℕ → ℕ → List ℕ
+entryAt s at = take (getD s at 0) (drop (at + 1) s)
+
+-- the position after it, not past the end
+unfoldable pub nextAt : List ℕ → ℕ → ℕ
+nextAt s at = min (at + 1 + getD s at 0) (length s)
+
+-- 01: "A walk over a bundle": k entries from a position on
+unfoldable pub walked : ℕ → List ℕ → ℕ → List (List ℕ)
+walked zero s at = []
+walked (suc k) s at = entryAt s at ∷ walked k s (nextAt s at)

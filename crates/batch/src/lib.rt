@@ -1,0 +1,71 @@
+// The batch (01 calls it the bundle): a one-byte count, then for each entry a one-byte length and its bytes.
+// Any bytes and any position get an answer.
+ghost use mathlib.Core.Path.{_≡_};
+ghost use Rattle.model.specs.Batch.{exactBatch};
+ghost use Rattle.batch.specs.Walk.{countOf, entryAt, nextAt};
+
+// Check 5: does the batch end exactly after its last entry?
+pub fn exact(batch: &[u8]) -> bool
+    ensures { λ r. ⌜ r ≡ exactBatch (now (batch .entry)) ⌝ }
+{
+    let n = batch.len();
+    if n == 0 {
+        return false;
+    }
+    let mut left = batch[0] as usize;
+    let mut at: usize = 1;
+    while 0 < left {
+        if n <= at {
+            return false;
+        }
+        let size = batch[at] as usize;
+        at += 1;
+        if n - at < size {
+            return false;
+        }
+        at += size;
+        left -= 1;
+    }
+    at == n
+}
+
+// How many entries the batch says that it has.
+pub fn count_of(batch: &[u8]) -> usize
+    ensures { λ r. ⌜ r ≡ countOf (now (batch .entry)) ⌝ }
+{
+    if batch.len() == 0 {
+        return 0;
+    }
+    batch[0] as usize
+}
+
+// The bytes of the entry whose length stands at a position: a part of the batch.
+pub fn entry_at(batch: &[u8], at: usize) -> &[u8]
+    ensures { λ r. ⌜ now r ≡ entryAt (now (batch .entry)) at ⌝ }
+{
+    let n = batch.len();
+    if n <= at {
+        return &batch[..0];
+    }
+    let size = batch[at] as usize;
+    let start = at + 1;
+    if n - start < size {
+        return &batch[start..];
+    }
+    &batch[start..start + size]
+}
+
+// The position after that entry; the batch's length where it would run past it.
+pub fn next_at(batch: &[u8], at: usize) -> usize
+    ensures { λ r. ⌜ r ≡ nextAt (now (batch .entry)) at ⌝ }
+{
+    let n = batch.len();
+    if n <= at {
+        return n;
+    }
+    let end = at + 1 + batch[at] as usize;
+    if n < end {
+        return n;
+    }
+    end
+}

@@ -1,0 +1,16 @@
+-- The answers of reader and writer in the model's terms. Assumes nothing.
+use Prim.Native.Nat.{ℕ}
+use mathlib.Core.List.{List}
+use Rattle.model.specs.Codec.{ReadAnswer, WriteAnswer}
+use Rattle.timestamp.specs.Views.{stampOf}
+use Rattle.frame.specs.declared.reader.Reading.{Reading}
+use Rattle.frame.specs.declared.writer.Written.{Written}
+
+-- the reader's answer, with the part of the frame that is the payload
+abbrev pub readAnswer : Reading → List ℕ → ReadAnswer
+readAnswer a payload =
+    record { number = a .number; station = a .station; stamp = stampOf (a .stamp); payload = payload }
+
+-- the writer's answer, with its buffer as it left it
+abbrev pub writeAnswer : Written → List ℕ → WriteAnswer
+writeAnswer a buffer = record { number = a .number; size = a .size; buffer = buffer }

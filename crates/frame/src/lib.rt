@@ -1,0 +1,21 @@
+// The frame: its form, the reader and the writer.
+mod form;
+mod reader;
+mod writer;
+
+pub use form::byte_at;
+pub use form::c_of;
+pub use form::check;
+pub use form::frame_end;
+pub use form::r_of;
+pub use form::stamp_of;
+pub use form::station_of;
+pub use form::two_at;
+pub use form::well_formed;
+pub use reader::Reading;
+pub use reader::check_read;
+pub use reader::payload_of;
+pub use reader::read;
+pub use writer::Written;
+pub use writer::lay;
+pub use writer::write;

@@ -1,0 +1,65 @@
+// The reader alone: any setup and any bytes get an answer.
+use crate::form::check;
+use crate::form::stamp_of;
+use crate::form::station_of;
+use timestamp::Setup;
+use timestamp::Timestamp;
+use timestamp::in_limits;
+ghost use mathlib.Core.Path.{_≡_};
+ghost use mathlib.Core.List.{[]};
+ghost use Rattle.model.specs.Question.{firstNo};
+ghost use Rattle.model.specs.Codec as codec;
+ghost use Rattle.timestamp.specs.Views.{setupOf};
+ghost use Rattle.frame.specs.Answers.{readAnswer};
+
+// What the reader answers, by value; the payload (01: the ticket) is payload_of's.
+pub struct Reading {
+    // 0, or the number of the first no
+    pub number: u8,
+    pub station: usize,
+    pub stamp: Timestamp,
+}
+
+// 01: "the reader asks 1, 10, 11, 12": the number of the first no, or 0.
+pub fn check_read(setup: Setup, frame: &[u8]) -> u8
+    ensures { λ r. ⌜ r ≡ firstNo (codec.readQuestions (setupOf setup) (now (frame .entry))) ⌝ }
+{
+    if !in_limits(setup) {
+        return 1;
+    }
+    check(setup, frame)
+}
+
+// The answer of the reader.
+pub fn read(setup: Setup, frame: &[u8]) -> Reading
+    ensures { λ r. ⌜ readAnswer r (codec.read (setupOf setup) (now (frame .entry)) .payload)
+        ≡ codec.read (setupOf setup) (now (frame .entry)) ⌝ }
+{
+    let number = check_read(setup, frame);
+    if number != 0 {
+        let kn = [0u8; Timestamp::WIDTH];
+        let stamp = Timestamp { r: 0, c: 0, kn };
+        return Reading {
+            number,
+            station: 0,
+            stamp,
+        };
+    }
+    let stamp = stamp_of(setup.epsilon as usize, frame);
+    Reading {
+        number: 0,
+        station: station_of(frame),
+        stamp,
+    }
+}
+
+// The payload: the very bytes of the frame. Of a refused frame an empty part.
+pub fn payload_of(setup: Setup, frame: &[u8]) -> &[u8]
+    ensures { λ r. ⌜ now r ≡ codec.read (setupOf setup) (now (frame .entry)) .payload ⌝ }
+{
+    if check_read(setup, frame) != 0 {
+        return &frame[..0];
+    }
+    let at = 7 + 2 * setup.epsilon as usize;
+    &frame[at..]
+}

@@ -1,0 +1,126 @@
+// The writer alone: any setup, numbers, payload and buffer get an answer; a refusal writes nothing.
+use timestamp::Setup;
+use timestamp::Timestamp;
+use timestamp::in_limits;
+ghost use mathlib.Core.Path.{_≡_};
+ghost use mathlib.Core.List.{_∷_};
+ghost use Prim.Native.Nat.{_+_, _*_, _≤_, _<_};
+ghost use lib.ListN.{length};
+ghost use Rattle.laws.specs.Lists.{overlay};
+ghost use Rattle.model.specs.Frame.{section, twoBytes};
+ghost use Rattle.model.specs.Timestamp.{trimmed};
+ghost use Rattle.model.specs.Question.{firstNo};
+ghost use Rattle.model.specs.Codec.{frameOf, writeQuestions};
+ghost use Rattle.model.specs.Codec as codec;
+ghost use Rattle.splice.specs.Bytes.{pasted};
+ghost use Rattle.timestamp.specs.Views.{setupOf, stampOf};
+ghost use Rattle.frame.specs.Lay.{Room, Laid};
+ghost use Rattle.frame.specs.Answers.{writeAnswer};
+
+// 01: the first section, "3 (station, r in two bytes)", laid down at the front.
+fn put_node(out: &mut [u8], station: usize, r: usize)
+    requires { ⌜ (4 ≤ length (now out)) × ((station < 256) × (r < 65536)) ⌝ }
+    ensures { λ _. ⌜ now (out .exit) ≡ overlay (section (station ∷ twoBytes r)) (now (out .entry)) ⌝ }
+{
+    out[0] = 3;
+    out[1] = station as u8;
+    splice::put_u16(out, 2, r);
+}
+
+// 01: the second section, "1 + 2ε (c, then counts from offset −ε up)", laid down after the first.
+fn put_stamp(out: &mut [u8], epsilon: usize, stamp: Timestamp)
+    requires { ⌜ (epsilon ≤ 16) × ((6 + 2 * epsilon ≤ length (now out)) × (stamp .c < 256)) ⌝ }
+    ensures { λ _. ⌜ now (out .exit) ≡ pasted (now (out .entry)) 4 (section (stamp .c ∷ trimmed epsilon (stampOf stamp) .kn)) ⌝ }
+{
+    let width = 2 * epsilon;
+    let kn = stamp.kn;
+    out[4] = (1 + width) as u8;
+    out[5] = stamp.c as u8;
+    splice::copy_into(out, 6, &kn[..width]);
+}
+
+// 01: the third section, "0 to 32 (ticket)", laid down at the front of what is left of the outgoing buffer.
+fn put_payload(rest: &mut [u8], payload: &[u8])
+    requires { ⌜ (1 + length (now payload) ≤ length (now rest)) × (length (now payload) < 256) ⌝ }
+    ensures { λ _. ⌜ now (rest .exit) ≡ overlay (section (now (payload .entry))) (now (rest .entry)) ⌝ }
+{
+    rest[0] = payload.len() as u8;
+    splice::copy_into(rest, 1, payload);
+}
+
+// The writer with no questions asked, for callers that have answered them: lays the frame down and says how long it is.
+pub fn lay(
+    epsilon: usize,
+    station: usize,
+    stamp: Timestamp,
+    payload: &[u8],
+    out: &mut [u8],
+) -> usize
+    requires { ⌜ Room epsilon station (stampOf stamp) (now payload) (now out) ⌝ }
+    ensures { λ r. ⌜ Laid r (now (out .exit)) (frameOf epsilon station (stampOf stamp) (now (payload .entry))) (now (out .entry)) ⌝ }
+{
+    put_node(out, station, stamp.r);
+    put_stamp(out, epsilon, stamp);
+    let at = 6 + 2 * epsilon;
+    put_payload(&mut out[at..], payload);
+    at + 1 + payload.len()
+}
+
+// What the writer answers.
+pub struct Written {
+    // 0, or the number of the first no
+    pub number: u8,
+    // how many bytes it wrote
+    pub size: usize,
+}
+
+// 01: "the writer asks 1, 4, 11, 12, then 6 if its buffer is shorter than this frame": the number of the first no, or 0.
+fn check_write(setup: Setup, station: usize, stamp: Timestamp, payload: &[u8], out: &[u8]) -> u8
+    ensures { λ r. ⌜ r ≡ firstNo (writeQuestions (setupOf setup)
+        (frameOf (setup .epsilon) station (stampOf stamp) (now (payload .entry)))
+        (now (out .entry))) ⌝ }
+{
+    if !in_limits(setup) {
+        return 1;
+    }
+    let n = setup.n as usize;
+    let epsilon = setup.epsilon as usize;
+    let modulus = setup.modulus as usize;
+    if 32 < payload.len() {
+        return 4;
+    }
+    if n <= station {
+        return 11;
+    }
+    if modulus <= stamp.r {
+        return 11;
+    }
+    if !stamp.is_sound(n, epsilon) {
+        return 12;
+    }
+    if out.len() < 7 + 2 * epsilon + payload.len() {
+        return 6;
+    }
+    0
+}
+
+// The writer.
+pub fn write(
+    setup: Setup,
+    station: usize,
+    stamp: Timestamp,
+    payload: &[u8],
+    out: &mut [u8],
+) -> Written
+    ensures { λ r. ⌜ writeAnswer r (now (out .exit))
+        ≡ codec.write (setupOf setup)
+        (frameOf (setup .epsilon) station (stampOf stamp) (now (payload .entry)))
+        (now (out .entry)) ⌝ }
+{
+    let number = check_write(setup, station, stamp, payload, out);
+    if number != 0 {
+        return Written { number, size: 0 };
+    }
+    let size = lay(setup.epsilon as usize, station, stamp, payload, out);
+    Written { number: 0, size }
+}
