@@ -1,0 +1,8 @@
+// One tick of a node: the call's questions, one frame judged, the hearing, sending and delivering.
+mod call;
+mod verdict;
+
+pub use call::check_call;
+pub use verdict::Verdict;
+pub use verdict::number_of;
+pub use verdict::place_of;
