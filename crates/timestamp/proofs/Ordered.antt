@@ -5,6 +5,7 @@ use native.Mathlib.Numerals.{add-one}
 use native.Mathlib.Omega.{arith}
 use mathlib.Core.Path.{_≡_, refl, sym, ap, _∙_}
 use mathlib.Core.List.{List, [], _∷_, _++_}
+use mathlib.Core.Logic.{_⊎_, inl, inr}
 use lib.ListN.{length, take, drop, getD, drop-of-length-le}
 use lib.Seq.{drop-cons, getD-take}
 use Rattle.laws.specs.Lists.{tab}
@@ -16,9 +17,11 @@ use Rattle.model.specs.Setup.{width}
 use Rattle.model.specs.Timestamp.{Timestamp, sum, trimmed}
 use Rattle.model.specs.Frame.{Frame}
 use Rattle.model.specs.Order.{countsDown, key}
+use Rattle.timestamp.proofs.Steps.{trimmed-all}
 use Rattle.timestamp.specs.declared.ordering.Order.{Order}
 use Rattle.timestamp.specs.declared.ordering.Order.the-variants.{First, Same, After}
-use Rattle.timestamp.specs.Ranks.{orderOf, countsFrom, frameOf}
+use Rattle.timestamp.specs.declared.ordering.Rank.{Rank}
+use Rattle.timestamp.specs.Ranks.{orderOf, countsFrom, frameOf, rankedFrame}
 
 -- the counts from place k of the order on: the first of them, then the others
 down-cons : (epsilon c k : ℕ) (kn : List ℕ) → k < epsilon
@@ -26,18 +29,20 @@ down-cons : (epsilon c k : ℕ) (kn : List ℕ) → k < epsilon
 unfolding countsDown
 down-cons epsilon c k kn h =
     let inside : k < length (tab epsilon (λ j. getD kn (epsilon + c - j) 0)) =
-        omega (arith, length-tab epsilon (λ j. getD kn (epsilon + c - j) 0)) in
-    rw
-    (drop-cons (tab epsilon (λ j. getD kn (epsilon + c - j) 0)) k 0 inside,
-      getD-tab epsilon (λ j. getD kn (epsilon + c - j) 0) k 0 h, add-one k)
+    omega (arith, length-tab epsilon (λ j. getD kn (epsilon + c - j) 0)) in
+    rw (
+      drop-cons (tab epsilon (λ j. getD kn (epsilon + c - j) 0)) k 0 inside,
+      getD-tab epsilon (λ j. getD kn (epsilon + c - j) 0) k 0 h,
+      add-one k,
+    )
 
-length-down : (epsilon c : ℕ) (kn : List ℕ) → length (countsFrom epsilon c kn) ≡ epsilon
+pub length-down : (epsilon : ℕ) (t : Timestamp) → length (countsDown epsilon t) ≡ epsilon
 unfolding countsDown
-length-down epsilon c kn = length-tab epsilon (λ j. getD kn (epsilon + c - j) 0)
+length-down epsilon t = length-tab epsilon (λ j. getD (t .kn) (epsilon + t .c - j) 0)
 
 down-none : (epsilon c k : ℕ) (kn : List ℕ) → epsilon ≤ k → drop k (countsFrom epsilon c kn) ≡ []
 down-none epsilon c k kn h =
-    let short : length (countsFrom epsilon c kn) ≤ k = omega (arith, length-down epsilon c kn) in
+    let short : length (countsFrom epsilon c kn) ≤ k = omega (arith, length-down epsilon (record { r = 0; c = c; kn = kn })) in
     drop-of-length-le (countsFrom epsilon c kn) short
 
 -- the order of the counts from place k on
@@ -60,3 +65,90 @@ module _ (epsilon ca cb : ℕ) (a b : List ℕ) where
   counts-next k h le ge =
       let same : getD a (epsilon + ca - k) 0 ≡ getD b (epsilon + cb - k) 0 = omega arith in
       rw (down-cons epsilon ca k a h, down-cons epsilon cb k b h, lex-head-eq _ _ _ _ same)
+
+or-else-same : (o : Ordering) → orElse o Ordering·eq ≡ o
+or-else-same Ordering·lt = refl
+or-else-same Ordering·eq = refl
+or-else-same Ordering·gt = refl
+
+-- 01: "sum; count at offset c; … ; station number; r": what decides, in turn
+pub key-order : (epsilon x y : ℕ) (f g : Frame)
+    → lexCompare (key epsilon x f) (key epsilon y g)
+    ≡ orElse (compare (x + f .stamp .c) (y + g .stamp .c))
+    (orElse (lexCompare (countsDown epsilon (f .stamp)) (countsDown epsilon (g .stamp)))
+    (orElse (compare (f .station) (g .station)) (compare x y)))
+unfolding key sum lexCompare
+key-order epsilon x y f g =
+    let even : length (countsDown epsilon (f .stamp)) ≡ length (countsDown epsilon (g .stamp)) =
+    length-down epsilon (f .stamp) ∙ sym (length-down epsilon (g .stamp)) in
+    rw (
+      lex-append (countsDown epsilon (f .stamp)) (countsDown epsilon (g .stamp)) (f .station ∷ x ∷ []) (g .station ∷ y ∷ []) even,
+      or-else-same (compare x y),
+    )
+
+-- the tags of the answers, by which a match tells them apart
+pub record Tags : Type 0 where
+  pub tag : Order → ℕ
+  pub at-first : tag First ≡ 0
+  pub at-same : tag Same ≡ 1
+  pub at-after : tag After ≡ 2
+
+module _ (tags : Tags) where
+  -- an answer that is not Same decides
+  decided : (o q : Ordering) (r : Order) → r ≡ orderOf o → (tags .tag r ≡ 0) ⊎ (tags .tag r ≡ 2) → r ≡ orderOf (orElse o q)
+  decided Ordering·lt q r e k = e
+  decided Ordering·eq q r e (inl k) = absurd (omega (arith, ap (tags .tag) e, tags .at-same))
+  decided Ordering·eq q r e (inr k) = absurd (omega (arith, ap (tags .tag) e, tags .at-same))
+  decided Ordering·gt q r e k = e
+
+  -- one that is Same does not
+  undecided : (o : Ordering) (r : Order) → r ≡ orderOf o → tags .tag r ≡ 1 → o ≡ Ordering·eq
+  undecided Ordering·lt r e k = absurd (omega (arith, ap (tags .tag) e, tags .at-first))
+  undecided Ordering·eq r e k = refl
+  undecided Ordering·gt r e k = absurd (omega (arith, ap (tags .tag) e, tags .at-after))
+
+  -- the order of two frames, from the answers about their sums, counts, stations and readings
+  module _ (epsilon : ℕ) (f g : Rank) (a b : List ℕ) where
+    abbrev sums : Ordering
+    sums = compare (f .reading + f .c) (g .reading + g .c)
+
+    abbrev counts : Ordering
+    counts = lexCompare (countsFrom epsilon (f .c) a) (countsFrom epsilon (g .c) b)
+
+    abbrev stations : Ordering
+    stations = compare (f .station) (g .station)
+
+    abbrev whole : Ordering
+    whole = lexCompare (key epsilon (f .reading) (rankedFrame f a)) (key epsilon (g .reading) (rankedFrame g b))
+
+    in-turn : whole ≡ orElse sums (orElse counts (orElse stations (compare (f .reading) (g .reading))))
+    in-turn = key-order epsilon (f .reading) (g .reading) (rankedFrame f a) (rankedFrame g b)
+
+    pub by-sums : (s : Order) → s ≡ orderOf sums → (tags .tag s ≡ 0) ⊎ (tags .tag s ≡ 2) → s ≡ orderOf whole
+    by-sums s es h = rw in-turn (decided sums (orElse counts (orElse stations (compare (f .reading) (g .reading)))) s es h)
+
+    module _ (s : Order) (es : s ≡ orderOf sums) (hs : tags .tag s ≡ 1) where
+      pub by-counts : (k : Order) → k ≡ orderOf counts → (tags .tag k ≡ 0) ⊎ (tags .tag k ≡ 2) → k ≡ orderOf whole
+      by-counts k ek h =
+          rw (in-turn, undecided sums s es hs) (decided counts (orElse stations (compare (f .reading) (g .reading))) k ek h)
+
+      module _ (k : Order) (ek : k ≡ orderOf counts) (hk : tags .tag k ≡ 1) where
+        pub by-stations : (t : Order) → t ≡ orderOf stations → (tags .tag t ≡ 0) ⊎ (tags .tag t ≡ 2) → t ≡ orderOf whole
+        by-stations t et h =
+            rw (in-turn, undecided sums s es hs, undecided counts k ek hk) (decided stations (compare (f .reading) (g .reading)) t et h)
+
+        pub by-readings : (t r : Order) → t ≡ orderOf stations → tags .tag t ≡ 1 → r ≡ orderOf (compare (f .reading) (g .reading))
+            → r ≡ orderOf whole
+        by-readings t r et ht er =
+            rw (in-turn, undecided sums s es hs, undecided counts k ek hk, undecided stations t et ht) er
+
+-- the order looks at no place past the 2ε counts
+pub key-trimmed : (epsilon x station : ℕ) (t : Timestamp) → epsilon ≤ 16 → length (t .kn) ≡ 32 → t .c < epsilon
+    → key epsilon x (frameOf station (record { r = 0; c = t .c; kn = t .kn })) ≡ key epsilon x (frameOf station (trimmed epsilon t))
+unfolding key countsDown
+key-trimmed epsilon x station t small long lead =
+    let same : tab epsilon (λ j. getD (t .kn) (epsilon + t .c - j) 0)
+    ≡ tab epsilon (λ j. getD (take (2 * epsilon) (t .kn)) (epsilon + t .c - j) 0) =
+    tab-ext epsilon (λ j. getD (t .kn) (epsilon + t .c - j) 0) (λ j. getD (take (2 * epsilon) (t .kn)) (epsilon + t .c - j) 0)
+    (λ j h. sym (getD-take (2 * epsilon) (t .kn) (epsilon + t .c - j) 0 (omega arith))) in
+    rw (trimmed-all epsilon t small long, same)

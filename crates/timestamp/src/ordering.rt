@@ -8,7 +8,6 @@ ghost use Rattle.model.specs.Timestamp.{trimmed};
 ghost use Rattle.model.specs.Order.{key};
 ghost use Rattle.timestamp.specs.Views.{stampOf};
 ghost use Rattle.timestamp.specs.Ranks.{orderOf, countsFrom, frameOf, rankedFrame, Ranked};
-
 use crate::stamp::Timestamp;
 
 // How the first of two stands to the second.
@@ -84,7 +83,15 @@ pub fn compare_ranked(epsilon: usize, f: Rank, kf: &[u8], g: Rank, kg: &[u8]) ->
 }
 
 // The order of two frames by their timestamps, each r at its reading; places past the 2ε counts are ignored.
-pub fn compare(epsilon: usize, at_f: usize, f: Timestamp, station_f: usize, at_g: usize, g: Timestamp, station_g: usize) -> Order
+pub fn compare(
+    epsilon: usize,
+    at_f: usize,
+    f: Timestamp,
+    station_f: usize,
+    at_g: usize,
+    g: Timestamp,
+    station_g: usize,
+) -> Order
     requires { ⌜ (epsilon ≤ 16) × ((f .c < epsilon) × (g .c < epsilon)) ⌝ }
     requires { ⌜ («at_f» ≤ 2 ^ 17) × («at_g» ≤ 2 ^ 17) ⌝ }
     ensures { λ o. ⌜ o ≡ orderOf (lexCompare (key epsilon «at_f» (frameOf «station_f» (trimmed epsilon (stampOf f)))) (key epsilon «at_g» (frameOf «station_g» (trimmed epsilon (stampOf g))))) ⌝ }

@@ -1,3 +1,5 @@
+-- `timestamp::ordering::compare_counts` meets its contract: the loop's invariant: the order of all the counts is that of those from place k on.
+-- Assumes nothing.
 use Prim.Native.Nat.{_-_, _≤_}
 use mathlib.Core.Path.{_≡_, refl, sym, ap, _∙_}
 use native.Mathlib.Omega.{arith}
@@ -7,8 +9,6 @@ use Rattle.timestamp.specs.Ranks.{orderOf, countsFrom}
 use Rattle.timestamp.proofs.Ordered.{counts-none, counts-first, counts-after, counts-next}
 use Rattle.timestamp.proofs.ordering.compare_counts.Statement.{statement}
 use Rattle.timestamp.proofs.ordering.compare_counts.Tie as tie
-use Rattle.timestamp.proofs.ordering.compare_counts.Reads as reads
-use Rattle.timestamp.proofs.ordering.compare_counts.Lts as lts
 
 abbrev Inv-loop : tie.InvT-loop
 Inv-loop epsilon a ca b cb k₀ k =
@@ -19,58 +19,46 @@ Inv-loop epsilon a ca b cb k₀ k =
 abbrev μ-loop : tie.MeasureT-loop
 μ-loop epsilon a ca b cb k₀ k = epsilon - k
 
--- src/ordering.rt:48:9
 loop-holds : tie.Need-loop-holds Inv-loop μ-loop
 loop-holds c = (omega arith, refl)
 
--- src/ordering.rt:52:19
 add-x : tie.Need-add-x Inv-loop μ-loop
 add-x c = omega arith
 
--- src/ordering.rt:52:19
 sub-x : tie.Need-sub-x Inv-loop μ-loop
 sub-x c = omega arith
 
--- src/ordering.rt:52:17
 shared-slice-read-x : tie.Need-shared-slice-read-x Inv-loop μ-loop
 shared-slice-read-x c = omega arith
 
--- src/ordering.rt:53:19
 add-y : tie.Need-add-y Inv-loop μ-loop
 add-y c = omega arith
 
--- src/ordering.rt:53:19
 sub-y : tie.Need-sub-y Inv-loop μ-loop
 sub-y c = omega arith
 
--- src/ordering.rt:53:17
 shared-slice-read-y : tie.Need-shared-slice-read-y Inv-loop μ-loop
 shared-slice-read-y c = omega arith
 
--- src/ordering.rt:60:9
 add-k : tie.Need-add-k Inv-loop μ-loop
 add-k c = omega arith
 
--- src/ordering.rt:48:9
 loop-less : tie.Need-loop-less Inv-loop μ-loop
 loop-less c = omega arith
 
--- src/ordering.rt:48:9
 loop-again : tie.Need-loop-again Inv-loop μ-loop
-loop-again c =
-    (omega arith,
-      c .before .before .before .before .before .loop .inv .1
-      ∙ counts-next _ _ _ _ _ _ (c .before .before .before .before .if1 .left) (c .before .if2 .left) (c .if3 .left))
+loop-again c = (
+  omega arith,
+  c .before .before .before .before .before .loop .inv .1
+      ∙ counts-next _ _ _ _ _ _ (c .before .before .before .before .if1 .left) (c .before .if2 .left) (c .if3 .left),
+)
 
--- src/ordering.rt:43:1
 returns : tie.Need-returns Inv-loop μ-loop
 returns c = ap orderOf (sym (c .before .loop .inv .1 ∙ counts-none _ _ _ _ _ _ (c .if1 .taken)))
 
--- src/ordering.rt:43:1
 returns-2 : tie.Need-returns-2 Inv-loop μ-loop
 returns-2 c = ap orderOf (sym (c .before .before .before .before .loop .inv .1 ∙ counts-first _ _ _ _ _ _ (c .before .before .before .if1 .left) (c .if2 .taken)))
 
--- src/ordering.rt:43:1
 returns-3 : tie.Need-returns-3 Inv-loop μ-loop
 returns-3 c = ap orderOf (sym (c .before .before .before .before .before .loop .inv .1 ∙ counts-after _ _ _ _ _ _ (c .before .before .before .before .if1 .left) (c .if3 .taken)))
 

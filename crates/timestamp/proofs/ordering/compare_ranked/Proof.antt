@@ -1,59 +1,73 @@
+-- `timestamp::ordering::compare_ranked` meets its contract: each answer that is not Same decides, and the one that stands last.
+-- Assumes nothing.
+use Prim.Native.Nat.{ℕ}
+use mathlib.Core.Path.{refl}
+use denote.Enum.Declared
+use Rattle.timestamp.proofs.Ordered.{Tags, by-sums, by-counts, by-stations, by-readings}
 use borrow.Author.Needs.{needs}
 use Rattle.timestamp.proofs.ordering.compare_ranked.Statement.{statement}
 use Rattle.timestamp.proofs.ordering.compare_ranked.Tie as tie
-use Rattle.timestamp.proofs.ordering.compare_ranked.Reads as reads
-use Rattle.timestamp.proofs.ordering.compare_ranked.Lts as lts
-use Rattle.timestamp.proofs.ordering.compare_counts.Reads as compare-counts-reads
-use Rattle.timestamp.proofs.ordering.compare_numbers.Reads as compare-numbers-reads
 
--- src/ordering.rt:71:32
+abbrev tags : Tags
+tags =
+    record {
+      tag = Declared.tagOf Rattle.timestamp.proofs.ordering.Order.the-type;
+      at-first = refl;
+      at-same = refl;
+      at-after = refl;
+    }
+
 add-compare-numbers : tie.Need-add-compare-numbers
 add-compare-numbers c = search needs
 
--- src/ordering.rt:71:49
 add-compare-numbers-2 : tie.Need-add-compare-numbers-2
 add-compare-numbers-2 c = search needs
 
--- src/ordering.rt:71:9
 compare-numbers-requires : tie.Need-compare-numbers-requires
 compare-numbers-requires c κs = search needs
 
 enum-told : tie.Need-enum-told
 enum-told c = search needs
 
--- src/ordering.rt:73:9
 returns : tie.Need-returns
-returns c = ?
+returns c =
+    by-sums tags (c .before .before .before .before .before .before .args .epsilon) (c .before .before .before .before .before .before .args .f) (c .before .before .before .before .before .before .args .g) (c .before .before .before .before .before .before .args .kf .now) (c .before .before .before .before .before .before .args .kg .now)
+    _ (c .before .compare-numbers .ensures) (c .match .keys2)
 
--- src/ordering.rt:75:9
 compare-counts-requires : tie.Need-compare-counts-requires
 compare-counts-requires c κs = search needs
 
 enum-told-2 : tie.Need-enum-told-2
 enum-told-2 c = search needs
 
--- src/ordering.rt:77:9
 returns-2 : tie.Need-returns-2
-returns-2 c = ?
+returns-2 c =
+    by-counts tags (c .before .before .before .before .before .before .before .before .before .args .epsilon) (c .before .before .before .before .before .before .before .before .before .args .f) (c .before .before .before .before .before .before .before .before .before .args .g) (c .before .before .before .before .before .before .before .before .before .args .kf .now) (c .before .before .before .before .before .before .before .before .before .args .kg .now)
+    _ (c .before .before .before .before .compare-numbers .ensures) (c .before .before .before .match .keys1)
+    _ (c .before .compare-counts .ensures) (c .match2 .keys2)
 
--- src/ordering.rt:79:9
 compare-numbers-requires-2 : tie.Need-compare-numbers-requires-2
 compare-numbers-requires-2 c κs = search needs
 
 enum-told-3 : tie.Need-enum-told-3
 enum-told-3 c = search needs
 
--- src/ordering.rt:81:9
 returns-3 : tie.Need-returns-3
-returns-3 c = ?
+returns-3 c =
+    by-stations tags (c .before .before .before .before .before .before .before .before .before .before .before .before .args .epsilon) (c .before .before .before .before .before .before .before .before .before .before .before .before .args .f) (c .before .before .before .before .before .before .before .before .before .before .before .before .args .g) (c .before .before .before .before .before .before .before .before .before .before .before .before .args .kf .now) (c .before .before .before .before .before .before .before .before .before .before .before .before .args .kg .now)
+    _ (c .before .before .before .before .before .before .before .compare-numbers .ensures) (c .before .before .before .before .before .before .match .keys1)
+    _ (c .before .before .before .before .compare-counts .ensures) (c .before .before .before .match2 .keys1)
+    _ (c .before .compare-numbers2 .ensures) (c .match3 .keys2)
 
--- src/ordering.rt:83:5
 compare-numbers-requires-3 : tie.Need-compare-numbers-requires-3
 compare-numbers-requires-3 c κs = search needs
 
--- src/ordering.rt:66:1
 returns-4 : tie.Need-returns-4
-returns-4 c = ?
+returns-4 c =
+    by-readings tags (c .before .before .before .before .before .before .before .before .before .before .before .before .before .before .args .epsilon) (c .before .before .before .before .before .before .before .before .before .before .before .before .before .before .args .f) (c .before .before .before .before .before .before .before .before .before .before .before .before .before .before .args .g) (c .before .before .before .before .before .before .before .before .before .before .before .before .before .before .args .kf .now) (c .before .before .before .before .before .before .before .before .before .before .before .before .before .before .args .kg .now)
+    _ (c .before .before .before .before .before .before .before .before .before .compare-numbers .ensures) (c .before .before .before .before .before .before .before .before .match .keys1)
+    _ (c .before .before .before .before .before .before .compare-counts .ensures) (c .before .before .before .before .before .match2 .keys1)
+    _ _ (c .before .before .before .compare-numbers2 .ensures) (c .before .before .match3 .keys1) (c .compare-numbers3 .ensures)
 
 pub compare-ranked-spec : {M : Type 1} → statement M
 compare-ranked-spec =
