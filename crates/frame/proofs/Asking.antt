@@ -7,14 +7,18 @@ use native.Mathlib.Omega.{arith}
 use lib.Dec.{leb, ltb}
 use lib.ListN.{length, take, drop, length-drop}
 use lib.Seq.{length-take-le, take-all}
-use borrow.Author.Tests.{lt-ltb, le-ltb, ltb-true, leb-true}
+use borrow.Author.Tests.{lt-ltb, le-ltb, lt-leb, le-leb, ltb-true, leb-true}
+use Rattle.laws.specs.Lists.{overlay}
 use Rattle.laws.proofs.Numbers.{and-left, and-right}
 use Rattle.model.specs.Setup.{Setup, inLimits, width}
 use Rattle.model.specs.Timestamp.{Timestamp, soundTimestamp, trimmed, widened}
-use Rattle.model.specs.Frame.{Frame, wellFormed, decode, payloadCountAt}
+use Rattle.model.specs.Frame.{Frame, wellFormed, decode, encode, payloadCountAt}
 use Rattle.model.specs.Question.{Question, ask, firstNo, askSetup, askForm, askRange, askStamp, frameQuestions}
-use Rattle.model.specs.Codec.{readQuestions, ReadAnswer, noTimestamp, readBy, read}
+use Rattle.model.specs.Codec.{readQuestions, ReadAnswer, noTimestamp, readBy, read, frameOf, askPayload, writeQuestions, WriteAnswer, writeBy, write}
 use Rattle.timestamp.proofs.Counts.{trimmed-widened}
+use Rattle.timestamp.proofs.InLimits.{Limits, limits-of}
+use Rattle.frame.specs.Lay.{Room}
+use Rattle.frame.proofs.Laying.{length-frame}
 use Rattle.frame.proofs.Shape.{Formed, formed}
 
 -- ---- one question
@@ -118,3 +122,76 @@ unfolding decode payloadCountAt width
 payload-part epsilon s =
     let e : 6 + 2 * epsilon + 1 ≡ 7 + 2 * epsilon = omega arith in
     rw e (take-all (length s - (7 + 2 * epsilon)) (drop (7 + 2 * epsilon) s) (simp length-drop (omega arith)))
+
+-- ---- the writer: its questions from each on
+
+module _ (s : Setup) (f : Frame) (buffer : List ℕ) where
+  abbrev pub fromRoom : List Question
+  fromRoom = ask (leb (length (encode f)) (length buffer)) 6 ∷ []
+
+  abbrev pub fromStamp : List Question
+  fromStamp = askStamp s f ∷ fromRoom
+
+  abbrev pub fromRange : List Question
+  fromRange = askRange s f ∷ fromStamp
+
+  pub limits-no : inLimits s ≡ false → firstNo (writeQuestions s f buffer) ≡ 1
+  unfolding writeQuestions
+  limits-no h = setup-no s (askPayload (f .payload) ∷ fromRange) h
+
+  module _ (h : inLimits s ≡ true) where
+    pub payload-no : 32 < length (f .payload) → firstNo (writeQuestions s f buffer) ≡ 4
+    unfolding writeQuestions askPayload
+    payload-no k = setup-right s (askPayload (f .payload) ∷ fromRange) h ∙ fails 4 fromRange (lt-leb (length (f .payload)) 32 k)
+
+    pub payload-right : length (f .payload) ≤ 32 → firstNo (writeQuestions s f buffer) ≡ firstNo fromRange
+    unfolding writeQuestions askPayload
+    payload-right k = setup-right s (askPayload (f .payload) ∷ fromRange) h ∙ passes 4 fromRange (le-leb (length (f .payload)) 32 k)
+
+  pub room-no : length buffer < length (encode f) → firstNo fromRoom ≡ 6
+  room-no k = fails 6 [] (lt-leb (length (encode f)) (length buffer) k)
+
+  pub room-right : length (encode f) ≤ length buffer → firstNo fromRoom ≡ 0
+  unfolding firstNo
+  room-right k = passes 6 [] (le-leb (length (encode f)) (length buffer) k)
+
+  -- its answers
+  module _ (number : ℕ) (e : number ≡ firstNo (writeQuestions s f buffer)) where
+    pub write-accepted : number ≡ 0
+        → write s f buffer ≡ record { number = 0; size = length (encode f); buffer = overlay (encode f) buffer }
+    unfolding write
+    write-accepted z = rw (← e, z)
+
+    pub write-refused : (number ≡ 0 → ⊥) → write s f buffer ≡ record { number = number; size = 0; buffer = buffer }
+    unfolding write
+    write-refused z = rw (← e) (go number z)
+      where
+        go : (k : ℕ) → (k ≡ 0 → ⊥) → writeBy k f buffer ≡ record { number = k; size = 0; buffer = buffer }
+        go zero h = absurd (h refl)
+        go (suc k) h = refl
+
+-- what an accepted writer can lay down
+pub room-of : (s : Setup) (station : ℕ) (t : Timestamp) (payload buffer : List ℕ)
+    → firstNo (writeQuestions s (frameOf (s .epsilon) station t payload) buffer) ≡ 0 → Room (s .epsilon) station t payload buffer
+unfolding writeQuestions askSetup askPayload askRange askStamp frameOf trimmed soundTimestamp
+room-of s station t payload buffer e =
+    let f = frameOf (s .epsilon) station t payload in
+    let p1 = passed (inLimits s) 0 (askPayload payload ∷ fromRange s f buffer) e in
+    let p4 = passed (leb (length payload) 32) 3 (fromRange s f buffer) (p1 .1) in
+    let p11 = passed (ltb station (s .n) && ltb (t .r) (s .modulus)) 10 (fromStamp s f buffer) (p4 .1) in
+    let p12 = passed (soundTimestamp (s .n) (s .epsilon) (f .stamp)) 11 (fromRoom s f buffer) (p11 .1) in
+    let p6 = passed (leb (length (encode f)) (length buffer)) 5 [] (p12 .1) in
+    let l : Limits s = limits-of s (p1 .0) in
+    let h4 : length payload ≤ 32 = leb-true (length payload) 32 (p4 .0) in
+    let hs : station < s .n = ltb-true station (s .n) (and-left (ltb station (s .n)) (ltb (t .r) (s .modulus)) (p11 .0)) in
+    let hr : t .r < s .modulus = ltb-true (t .r) (s .modulus) (and-right (ltb station (s .n)) (ltb (t .r) (s .modulus)) (p11 .0)) in
+    let hc : t .c ≤ s .epsilon - 1 = leb-true (t .c) (s .epsilon - 1) (and-left (leb (t .c) (s .epsilon - 1)) _ (p12 .0)) in
+    let h6 : length (encode f) ≤ length buffer = leb-true (length (encode f)) (length buffer) (p6 .0) in
+    record {
+      narrow = l .epsilon-most;
+      station-fits = omega arith;
+      r-fits = omega arith;
+      c-fits = omega arith;
+      payload-fits = omega arith;
+      room = omega (arith, length-frame (s .epsilon) station t payload);
+    }

@@ -74,30 +74,17 @@ three-laid l n s p l1 l2 ys i at a b h e1 e2 e3 =
     ∙ ap (λ (k : List ℕ). overlay k l) (append-assoc n s p)
 
 -- the three sections
-module _ (l : List ℕ) (epsilon station : ℕ) (t : Timestamp) (payload : List ℕ) where
-  pub length-frame : length (encode (frameOf epsilon station t payload)) ≡ 7 + 2 * epsilon + length payload
-  unfolding encode frameOf trimmed section twoBytes width
-  length-frame = simp (length-append, length-tab) (omega arith)
+pub length-frame : (epsilon station : ℕ) (t : Timestamp) (payload : List ℕ)
+    → length (encode (frameOf epsilon station t payload)) ≡ 7 + 2 * epsilon + length payload
+unfolding encode frameOf trimmed section twoBytes width
+length-frame epsilon station t payload = simp (length-append, length-tab) (omega arith)
 
-  pub frame-laid : (l1 l2 ys : List ℕ) → 6 + 2 * epsilon ≤ length l
-      → l1 ≡ overlay (section (station ∷ twoBytes (t .r))) l
-      → l2 ≡ pasted l1 4 (section (t .c ∷ trimmed epsilon t .kn))
-      → ys ≡ overlay (section payload) (midOf (6 + 2 * epsilon) (length l2 - (6 + 2 * epsilon)) l2)
-      → putMid (6 + 2 * epsilon) (length l2 - (6 + 2 * epsilon)) l2 ys ≡ overlay (encode (frameOf epsilon station t payload)) l
-  unfolding encode frameOf trimmed section twoBytes width
-  frame-laid l1 l2 ys h e1 e2 e3 =
-      three-laid l
-      (section (station ∷ twoBytes (t .r)))
-      (section (t .c ∷ trimmed epsilon t .kn))
-      (section payload)
-      l1
-      l2
-      ys
-      4
-      (6 + 2 * epsilon)
-      refl
-      (omega (arith, length-tab (2 * epsilon) (λ i. getD (t .kn) i 0)))
-      h
-      e1
-      e2
-      e3
+pub frame-laid : (l : List ℕ) (epsilon station : ℕ) (t : Timestamp) (payload l1 l2 ys : List ℕ) → 6 + 2 * epsilon ≤ length l
+    → l1 ≡ overlay (section (station ∷ twoBytes (t .r))) l
+    → l2 ≡ pasted l1 4 (section (t .c ∷ trimmed epsilon t .kn))
+    → ys ≡ overlay (section payload) (midOf (6 + 2 * epsilon) (length l2 - (6 + 2 * epsilon)) l2)
+    → putMid (6 + 2 * epsilon) (length l2 - (6 + 2 * epsilon)) l2 ys ≡ overlay (encode (frameOf epsilon station t payload)) l
+unfolding encode frameOf trimmed section twoBytes width
+frame-laid l epsilon station t payload l1 l2 ys h e1 e2 e3 =
+    three-laid l (section (station ∷ twoBytes (t .r))) (section (t .c ∷ trimmed epsilon t .kn)) (section payload) l1 l2 ys 4 (6 + 2 * epsilon) refl
+    (omega (arith, length-tab (2 * epsilon) (λ i. getD (t .kn) i 0))) h e1 e2 e3

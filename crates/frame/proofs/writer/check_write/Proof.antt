@@ -1,70 +1,104 @@
+-- `frame::writer::check_write` meets its contract. Assumes nothing.
+use Prim.Native.Nat.{ℕ, _+_, _*_}
+use mathlib.Core.List.{List}
+use mathlib.Core.Bool.{true}
+use mathlib.Core.Path.{_≡_, _∙_, sym}
+use native.Mathlib.Omega.{arith}
+use lib.ListN.{length}
+use borrow.Author.Tests.{not-true, not-false}
 use borrow.Author.Needs.{needs}
+use Rattle.frame.proofs.Laying.{length-frame}
+use Rattle.frame.proofs.Asking.{station-no, r-no, in-range, stamp-no, stamp-sound, fromRange, fromStamp, fromRoom, limits-no, payload-no, payload-right, room-no, room-right}
+use Rattle.timestamp.proofs.InLimits.{Limits, limits-of}
+use Rattle.timestamp.specs.Views.{setupOf, stampOf}
+use Rattle.model.specs.Codec.{frameOf, writeQuestions}
+use Rattle.model.specs.Question.{firstNo}
+use Rattle.model.specs.Frame.{Frame, encode}
+use Rattle.model.specs.Timestamp.{trimmed}
+use Rattle.model.specs.Setup.{Setup, inLimits}
 use Rattle.frame.proofs.writer.check_write.Statement.{statement}
 use Rattle.frame.proofs.writer.check_write.Tie as tie
-use Rattle.frame.proofs.writer.check_write.Reads as reads
-use Rattle.frame.proofs.writer.check_write.Lts as lts
-use Rattle.timestamp.proofs.in_limits.Reads as in-limits-reads
-use Rattle.timestamp.proofs.stamp.Timestamp.is_sound.Reads as is-sound-reads
 
--- src/writer.rt:85:9
+-- the setup and the frame of the arguments
+abbrev setup : tie.Start → Setup
+setup c = setupOf (c .args .setup)
+
+abbrev frame : tie.Start → Frame
+frame c = frameOf (c .args .setup .epsilon) (c .args .station) (stampOf (c .args .stamp)) (c .args .payload .now)
+
+abbrev room : tie.Start → List ℕ
+room c = c .args .out .now
+
+-- what is left to ask after each test
+limited : (c : tie.Else1) → inLimits (setup (c .before .before .before .before)) ≡ true
+limited c = sym (c .before .in-limits .ensures) ∙ not-false (c .before .in-limits .result) (c .if1 .left)
+
+limits : (c : tie.Else1) → Limits (setup (c .before .before .before .before))
+limits c = limits-of (setup (c .before .before .before .before)) (limited c)
+
+asked-range : (c : tie.Else2) → firstNo (writeQuestions (setup (c .before .before .before .before .before .before .before .before)) (frame (c .before .before .before .before .before .before .before .before)) (room (c .before .before .before .before .before .before .before .before))) ≡ firstNo (fromRange (setup (c .before .before .before .before .before .before .before .before)) (frame (c .before .before .before .before .before .before .before .before)) (room (c .before .before .before .before .before .before .before .before)))
+unfolding frameOf
+asked-range c = payload-right (setup (c .before .before .before .before .before .before .before .before)) (frame (c .before .before .before .before .before .before .before .before)) (room (c .before .before .before .before .before .before .before .before)) (limited (c .before .before .before .before)) (c .if2 .left)
+
+asked-stamp : (c : tie.Else4) → firstNo (writeQuestions (setup (c .before .before .before .before .before .before .before .before .before .before .before)) (frame (c .before .before .before .before .before .before .before .before .before .before .before)) (room (c .before .before .before .before .before .before .before .before .before .before .before))) ≡ firstNo (fromStamp (setup (c .before .before .before .before .before .before .before .before .before .before .before)) (frame (c .before .before .before .before .before .before .before .before .before .before .before)) (room (c .before .before .before .before .before .before .before .before .before .before .before)))
+unfolding frameOf trimmed
+asked-stamp c = asked-range (c .before .before .before) ∙ in-range (setup (c .before .before .before .before .before .before .before .before .before .before .before)) (frame (c .before .before .before .before .before .before .before .before .before .before .before)) (fromStamp (setup (c .before .before .before .before .before .before .before .before .before .before .before)) (frame (c .before .before .before .before .before .before .before .before .before .before .before)) (room (c .before .before .before .before .before .before .before .before .before .before .before))) (c .before .before .if3 .left) (c .if4 .left)
+
+asked-room : (c : tie.Else5) → firstNo (writeQuestions (setup (c .before .before .before .before .before .before .before .before .before .before .before .before .before)) (frame (c .before .before .before .before .before .before .before .before .before .before .before .before .before)) (room (c .before .before .before .before .before .before .before .before .before .before .before .before .before))) ≡ firstNo (fromRoom (setup (c .before .before .before .before .before .before .before .before .before .before .before .before .before)) (frame (c .before .before .before .before .before .before .before .before .before .before .before .before .before)) (room (c .before .before .before .before .before .before .before .before .before .before .before .before .before)))
+unfolding frameOf
+asked-room c = asked-stamp (c .before .before) ∙ stamp-sound (setup (c .before .before .before .before .before .before .before .before .before .before .before .before .before)) (frame (c .before .before .before .before .before .before .before .before .before .before .before .before .before)) (fromRoom (setup (c .before .before .before .before .before .before .before .before .before .before .before .before .before)) (frame (c .before .before .before .before .before .before .before .before .before .before .before .before .before)) (room (c .before .before .before .before .before .before .before .before .before .before .before .before .before))) (sym (c .before .is-sound .ensures) ∙ not-false (c .before .is-sound .result) (c .if5 .left))
+
+long : (c : tie.Start) → length (encode (frame c)) ≡ 7 + 2 * c .args .setup .epsilon + length (c .args .payload .now)
+long c = length-frame (c .args .setup .epsilon) (c .args .station) (stampOf (c .args .stamp)) (c .args .payload .now)
+
 in-limits-requires : tie.Need-in-limits-requires
 in-limits-requires c κs = search needs
 
--- src/writer.rt:86:9
 returns : tie.Need-returns
-returns c = ?
+returns c = sym (limits-no (setup (c .before .before .before .before)) (frame (c .before .before .before .before)) (room (c .before .before .before .before)) (sym (c .before .in-limits .ensures) ∙ not-true (c .before .in-limits .result) (c .if1 .taken)))
 
--- src/writer.rt:88:13
 cast-n : tie.Need-cast-n
 cast-n c = search needs
 
--- src/writer.rt:89:19
 cast-epsilon : tie.Need-cast-epsilon
 cast-epsilon c = search needs
 
--- src/writer.rt:90:19
 cast-modulus : tie.Need-cast-modulus
 cast-modulus c = search needs
 
--- src/writer.rt:92:9
 returns-2 : tie.Need-returns-2
-returns-2 c = ?
+unfolding frameOf
+returns-2 c = sym (payload-no (setup (c .before .before .before .before .before .before .before .before)) (frame (c .before .before .before .before .before .before .before .before)) (room (c .before .before .before .before .before .before .before .before)) (limited (c .before .before .before .before)) (c .if2 .taken))
 
--- src/writer.rt:95:9
 returns-3 : tie.Need-returns-3
-returns-3 c = ?
+unfolding frameOf
+returns-3 c = sym (asked-range (c .before) ∙ station-no (setup (c .before .before .before .before .before .before .before .before .before)) (frame (c .before .before .before .before .before .before .before .before .before)) (fromStamp (setup (c .before .before .before .before .before .before .before .before .before)) (frame (c .before .before .before .before .before .before .before .before .before)) (room (c .before .before .before .before .before .before .before .before .before))) (c .if3 .taken))
 
--- src/writer.rt:98:9
 returns-4 : tie.Need-returns-4
-returns-4 c = ?
+unfolding frameOf trimmed
+returns-4 c = sym (asked-range (c .before .before .before) ∙ r-no (setup (c .before .before .before .before .before .before .before .before .before .before .before)) (frame (c .before .before .before .before .before .before .before .before .before .before .before)) (fromStamp (setup (c .before .before .before .before .before .before .before .before .before .before .before)) (frame (c .before .before .before .before .before .before .before .before .before .before .before)) (room (c .before .before .before .before .before .before .before .before .before .before .before))) (c .before .before .if3 .left) (c .if4 .taken))
 
--- src/writer.rt:100:9
 is-sound-requires : tie.Need-is-sound-requires
-is-sound-requires c κs = ?
+is-sound-requires c κs = (limits (c .before .before .before .before .before .before .before) .epsilon-least, limits (c .before .before .before .before .before .before .before) .epsilon-most)
 
--- src/writer.rt:101:9
 returns-5 : tie.Need-returns-5
-returns-5 c = ?
+unfolding frameOf
+returns-5 c = sym (asked-stamp (c .before .before) ∙ stamp-no (setup (c .before .before .before .before .before .before .before .before .before .before .before .before .before)) (frame (c .before .before .before .before .before .before .before .before .before .before .before .before .before)) (fromRoom (setup (c .before .before .before .before .before .before .before .before .before .before .before .before .before)) (frame (c .before .before .before .before .before .before .before .before .before .before .before .before .before)) (room (c .before .before .before .before .before .before .before .before .before .before .before .before .before))) (sym (c .before .is-sound .ensures) ∙ not-true (c .before .is-sound .result) (c .if5 .taken)))
 
--- src/writer.rt:103:24
 mul-if6 : tie.Need-mul-if6
 mul-if6 c = search needs
 
--- src/writer.rt:103:20
 add-if6 : tie.Need-add-if6
 add-if6 c = search needs
 
--- src/writer.rt:103:20
 add-if6-2 : tie.Need-add-if6-2
 add-if6-2 c = search needs
 
--- src/writer.rt:104:9
 returns-6 : tie.Need-returns-6
-returns-6 c = ?
+returns-6 c = sym (asked-room (c .before) ∙ room-no (setup (c .before .before .before .before .before .before .before .before .before .before .before .before .before .before)) (frame (c .before .before .before .before .before .before .before .before .before .before .before .before .before .before)) (room (c .before .before .before .before .before .before .before .before .before .before .before .before .before .before)) (omega (arith, long (c .before .before .before .before .before .before .before .before .before .before .before .before .before .before))))
 
--- src/writer.rt:78:1
 returns-7 : tie.Need-returns-7
-returns-7 c = ?
+returns-7 c = sym (asked-room (c .before) ∙ room-right (setup (c .before .before .before .before .before .before .before .before .before .before .before .before .before .before)) (frame (c .before .before .before .before .before .before .before .before .before .before .before .before .before .before)) (room (c .before .before .before .before .before .before .before .before .before .before .before .before .before .before)) (omega (arith, long (c .before .before .before .before .before .before .before .before .before .before .before .before .before .before))))
 
 pub check-write-spec : {M : Type 1} → statement M
 check-write-spec =

@@ -54,7 +54,7 @@ returns c =
     let b : putMid (6 + 2 * a .epsilon) (length (c .before .before .before .before .before .before .put-stamp .last .0) - (6 + 2 * a .epsilon)) (c .before .before .before .before .before .before .put-stamp .last .0) (c .before .before .put-payload .last .0) ≡ overlay (encode (frameOf (a .epsilon) (a .station) t payload)) (a .out .now) =
     frame-laid (a .out .now) (a .epsilon) (a .station) t payload (c .before .before .before .before .before .before .before .before .before .before .put-node .last .0) (c .before .before .before .before .before .before .put-stamp .last .0) (c .before .before .put-payload .last .0)
     (omega (arith, c .before .before .before .before .before .before .before .before .before .before .before .before .before .before .pre .room)) (c .before .before .before .before .before .before .before .before .before .before .put-node .ensures) (c .before .before .before .before .before .before .put-stamp .ensures) (c .before .before .put-payload .ensures) in
-    record { long = omega (arith, length-frame (a .out .now) (a .epsilon) (a .station) t payload); bytes = b }
+    record { long = omega (arith, length-frame (a .epsilon) (a .station) t payload); bytes = b }
 
 pub lay-spec : {M : Type 1} → statement M
 lay-spec =
