@@ -58,7 +58,7 @@ turning-start s v t batch buffer table verdicts l q =
 
 -- one verdict more
 taken-more : (done : List ℕ) → takenCount (done ++ (0 ∷ [])) ≡ takenCount done + 1
-unfolding takenCount
+unfolding takenCount select
 taken-more done = rw (select-append (λ x. eqb x 0) done (0 ∷ [])) (length-append (select (λ x. eqb x 0) done) (0 ∷ []))
 
 refused-more : (done : List ℕ) (x : ℕ) → (x ≡ 0 → ⊥) → takenCount (done ++ (x ∷ [])) ≡ takenCount done

@@ -41,7 +41,7 @@ first-answers (q ∷ qs) rs k e = go (q .holds) (firstNo qs) (firstNo (qs ++ rs)
     go false x y h f = h
 
 -- no number is 0
-unfoldable numbered : List Question → Bool
+unfoldable pub numbered : List Question → Bool
 numbered qs = every (λ q. leb 1 (q .number)) qs
 
 -- with no no in the first list the others are asked

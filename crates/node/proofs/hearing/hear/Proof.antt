@@ -1,7 +1,8 @@
 -- `node::hearing::hear` meets its contract. Assumes nothing.
 use Prim.Native.Nat.{ℕ, _+_, _-_, _≤_, _<_}
 use native.Mathlib.Omega.{arith}
-use mathlib.Core.Path.{_≡_, sym, _∙_, ap}
+use mathlib.Core.Path.{_≡_, refl, sym, _∙_, ap}
+use denote.Enum.Declared
 use mathlib.Core.List.{List}
 use lib.ListN.{length, length-set}
 use borrow.Author.Needs.{needs}
@@ -11,17 +12,20 @@ use Rattle.lemmas.proofs.Questions.{limits-from}
 use Rattle.batch.specs.Walk.{countOf, entryAt}
 use Rattle.timestamp.specs.Views.{setupOf, stampOf}
 use Rattle.node.specs.Views.{verdictOf}
-use Rattle.node.proofs.Verdicts.{table-long, is-refused}
+use Rattle.node.proofs.Verdicts.{Tags, table-long, is-refused}
 use Rattle.node.proofs.Turns.{Turning, turning-start, turn-refused, turn-taken, turning-end}
 use Rattle.node.proofs.hearing.hear.Statement.{statement}
 use Rattle.node.proofs.hearing.hear.Tie as tie
 
+abbrev tags : Tags
+tags = record { tag = Declared.tagOf Rattle.node.proofs.verdict.Verdict.the-type; at-taken = λ place. refl; at-refused = λ number. refl }
+
 abbrev Inv-loop : tie.InvT-loop
-Inv-loop setup clock batch holdback₀ seen₀ verdicts₀ count own₀ taken₀ at₀ i₀ holdback seen verdicts own taken at i =
-    Turning (setupOf setup) clock (stampOf own₀) batch holdback₀ verdicts₀ (stampOf own) taken at i holdback seen verdicts
+Inv-loop setup clock batch holdback₀ seen₀ verdicts₀ count own₀ taken₀ at₀ i₀ holdback seen verdicts own took at i =
+    Turning (setupOf setup) clock (stampOf own₀) batch holdback₀ verdicts₀ (stampOf own) took at i holdback seen verdicts
 
 abbrev μ-loop : tie.MeasureT-loop
-μ-loop setup clock batch holdback₀ seen₀ verdicts₀ count own₀ taken₀ at₀ i₀ holdback seen verdicts own taken at i = count - i
+μ-loop setup clock batch holdback₀ seen₀ verdicts₀ count own₀ taken₀ at₀ i₀ holdback seen verdicts own took at i = count - i
 
 count-of-requires : tie.Need-count-of-requires Inv-loop μ-loop
 count-of-requires c κs = search needs
@@ -48,7 +52,7 @@ judge-requires : tie.Need-judge-requires Inv-loop μ-loop
 judge-requires c κs = (c .before .before .before .before .before .before .before .before .before .before .before .pre .0, c .before .before .before .before .before .loop .inv .queued)
 
 judged : (c : tie.After-judge Inv-loop μ-loop) → judge (setupOf (c .before .before .before .before .before .before .before .before .before .before .before .before .args .setup)) (c .before .before .before .before .before .before .before .before .before .before .before .before .args .clock) (held (c .before .before .before .before .before .before .before .before .before .before .before .before .args .setup .epsilon) (c .before .before .before .before .before .before .loop .holdback)) (entryAt (c .before .before .before .before .before .before .before .before .before .before .before .before .args .batch .now) (c .before .before .before .before .before .before .loop .at)) ≡ verdictOf (c .judge .result)
-judged c = ?
+judged c = sym (c .judge .ensures ∙ ap (judge (setupOf (c .before .before .before .before .before .before .before .before .before .before .before .before .args .setup)) (c .before .before .before .before .before .before .before .before .before .before .before .before .args .clock) (held (c .before .before .before .before .before .before .before .before .before .before .before .before .args .setup .epsilon) (c .before .before .before .before .before .before .loop .holdback))) (c .before .before .before .before .entry-at .ensures))
 
 enum-known-verdict : tie.Need-enum-known-verdict Inv-loop μ-loop
 enum-known-verdict c = search needs
@@ -69,10 +73,19 @@ loop-less : tie.Need-loop-less Inv-loop μ-loop
 loop-less c = omega arith
 
 loop-again : tie.Need-loop-again Inv-loop μ-loop
-loop-again c = ?
+loop-again c =
+    rw (c .before .before .before .before .before .before .next-at .ensures)
+    (turn-refused (setupOf (c .before .before .before .before .before .before .before .before .before .before .before .before .before .before .before .args .setup)) (c .before .before .before .before .before .before .before .before .before .before .before .before .before .before .before .args .clock) (stampOf (c .before .before .before .before .before .before .before .before .before .before .before .before .before .before .before .args .stamp)) (c .before .before .before .before .before .before .before .before .before .before .before .before .before .before .before .args .batch .now) (c .before .before .before .before .before .before .before .before .before .before .before .before .before .before .before .args .holdback .now) (c .before .before .before .before .before .before .before .before .before .before .before .before .before .before .before .args .verdicts .now) (stampOf (c .before .before .before .before .before .before .before .before .before .loop .own)) (c .before .before .before .before .before .before .before .before .before .loop .taken) (c .before .before .before .before .before .before .before .before .before .loop .at) (c .before .before .before .before .before .before .before .before .before .loop .i) (c .before .before .before .before .before .before .before .before .before .loop .holdback) (c .before .before .before .before .before .before .before .before .before .loop .seen) (c .before .before .before .before .before .before .before .before .before .loop .verdicts) (c .before .before .before .before .before .before .before .before .before .loop .inv) (more (c .before .before .before .before .before .before .before .before)) (few (c .before .before .before .before .before .before .before .before .before .before) .1) (verdictNumber (verdictOf (c .before .before .before .judge .result))) (c .number-of .result) (judged (c .before .before .before) ∙ is-refused tags (c .before .before .before .judge .result) (c .before .before .match .keys2)) (c .number-of .ensures))
 
 take-requires : tie.Need-take-requires Inv-loop μ-loop
-take-requires c κs = ?
+take-requires c κs =
+    ( record {
+        timed = c .before .before .before .before .before .before .before .before .before .before .before .before .before .before .before .before .before .pre .0;
+        size = c .before .before .before .before .before .before .before .before .before .before .before .loop .inv .queued .size;
+        sound = c .before .before .before .before .before .before .before .before .before .before .before .loop .inv .queued .sound;
+        judged = sym (c .before .before .before .before .before .judge .ensures) ∙ ap verdictOf (c .before .before .before .verdict .given .1);
+      },
+      c .before .before .before .before .before .before .before .before .before .before .before .loop .inv .queued)
 
 slice-write-verdicts-2 : tie.Need-slice-write-verdicts-2 Inv-loop μ-loop
 slice-write-verdicts-2 c = omega (arith, few (c .before .before .before .before .before .before .before .before .before .before .before .before .before .before .before .before .before), more (c .before .before .before .before .before .before .before .before .before .before .before .before .before .before .before), c .before .before .before .before .before .before .before .before .before .before .before .before .before .before .before .before .loop .inv .long)
@@ -87,19 +100,24 @@ loop-less-2 : tie.Need-loop-less-2 Inv-loop μ-loop
 loop-less-2 c = omega (arith, c .before .before .before .before .before .before .before .before .before .before .before .before .before .before .before .loop-test .taken)
 
 loop-again-2 : tie.Need-loop-again-2 Inv-loop μ-loop
-loop-again-2 c = ?
+loop-again-2 c =
+    rw (c .before .before .before .before .before .before .before .before .before .before .before .before .before .next-at .ensures)
+    (turn-taken (setupOf (c .before .before .before .before .before .before .before .before .before .before .before .before .before .before .before .before .before .before .before .before .before .before .args .setup)) (c .before .before .before .before .before .before .before .before .before .before .before .before .before .before .before .before .before .before .before .before .before .before .args .clock) (stampOf (c .before .before .before .before .before .before .before .before .before .before .before .before .before .before .before .before .before .before .before .before .before .before .args .stamp)) (c .before .before .before .before .before .before .before .before .before .before .before .before .before .before .before .before .before .before .before .before .before .before .args .batch .now) (c .before .before .before .before .before .before .before .before .before .before .before .before .before .before .before .before .before .before .before .before .before .before .args .holdback .now) (c .before .before .before .before .before .before .before .before .before .before .before .before .before .before .before .before .before .before .before .before .before .before .args .verdicts .now) (stampOf (c .before .before .before .before .before .before .before .before .before .before .before .before .before .before .before .before .loop .own)) (c .before .before .before .before .before .before .before .before .before .before .before .before .before .before .before .before .loop .taken) (c .before .before .before .before .before .before .before .before .before .before .before .before .before .before .before .before .loop .at) (c .before .before .before .before .before .before .before .before .before .before .before .before .before .before .before .before .loop .i) (c .before .before .before .before .before .before .before .before .before .before .before .before .before .before .before .before .loop .holdback) (c .before .before .before .before .before .before .before .before .before .before .before .before .before .before .before .before .loop .seen) (c .before .before .before .before .before .before .before .before .before .before .before .before .before .before .before .before .loop .verdicts) (c .before .before .before .before .before .before .before .before .before .before .before .before .before .before .before .before .loop .inv) (more (c .before .before .before .before .before .before .before .before .before .before .before .before .before .before .before)) (few (c .before .before .before .before .before .before .before .before .before .before .before .before .before .before .before .before .before) .1) (c .before .before .before .before .before .before .before .before .verdict .given .0 .0) (stampOf (c .before .before .before .before .take .result)) _ _ (limits-from (setupOf (c .before .before .before .before .before .before .before .before .before .before .before .before .before .before .before .before .before .before .before .before .before .before .args .setup)) (c .before .before .before .before .before .before .before .before .before .before .before .before .before .before .before .before .before .before .before .before .before .before .pre .0 .limits) .epsilon-most) (judged (c .before .before .before .before .before .before .before .before .before .before) ∙ ap verdictOf (c .before .before .before .before .before .before .before .before .verdict .given .1)) (rw (c .before .before .before .before .before .before .before .before .before .before .before .before .before .before .entry-at .ensures) at (c .before .before .before .before .take .ensures)))
 
 same-length : tie.Need-same-length Inv-loop μ-loop
-same-length c = ?
+same-length c = c .before .loop .inv .queued .size ∙ sym (c .before .before .before .before .before .before .before .pre .1 .0 .size)
 
 same-length-2 : tie.Need-same-length-2 Inv-loop μ-loop
-same-length-2 c = ?
+same-length-2 c =
+    (ap length (c .before .loop .inv .queued .table-is) ∙ table-long (setupOf (c .before .before .before .before .before .before .before .args .setup)) (c .before .before .before .before .before .before .before .args .clock) (held (c .before .before .before .before .before .before .before .args .setup .epsilon) (c .before .loop .holdback)))
+    ∙ sym (ap length (c .before .before .before .before .before .before .before .pre .1 .0 .table-is) ∙ table-long (setupOf (c .before .before .before .before .before .before .before .args .setup)) (c .before .before .before .before .before .before .before .args .clock) (held (c .before .before .before .before .before .before .before .args .setup .epsilon) (c .before .before .before .before .before .before .before .args .holdback .now)))
 
 same-length-3 : tie.Need-same-length-3 Inv-loop μ-loop
-same-length-3 c = ?
+same-length-3 c = c .before .loop .inv .long
 
 returns : tie.Need-returns Inv-loop μ-loop
-returns c = ?
+returns c =
+    turning-end (setupOf (c .before .before .before .before .before .before .before .args .setup)) (c .before .before .before .before .before .before .before .args .clock) (stampOf (c .before .before .before .before .before .before .before .args .stamp)) (c .before .before .before .before .before .before .before .args .batch .now) (c .before .before .before .before .before .before .before .args .holdback .now) (c .before .before .before .before .before .before .before .args .verdicts .now) (stampOf (c .before .loop .own)) (c .before .loop .taken) (c .before .loop .at) (c .before .loop .i) (c .before .loop .holdback) (c .before .loop .seen) (c .before .loop .verdicts) (c .before .loop .inv) (omega (arith, c .before .before .count-of .ensures)) (few (c .before .before) .1)
 
 pub hear-spec : {M : Type 1} → statement M
 hear-spec =

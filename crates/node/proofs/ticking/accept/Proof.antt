@@ -42,16 +42,16 @@ deliver-requires : tie.Need-deliver-requires
 deliver-requires c κs = call-closing (input (c .before .before .before .before .before .before .before .before .before .before .before .before .before .before .before .before .before .before .before .before .before .before)) (stampOf (c .before .before .before .before .before .before .before .before .before .before .before .before .before .listen .result .stamp)) (c .before .before .before .before .before .before .before .before .before .before .before .before .before .listen .result .repair) (c .before .before .before .before .before .before .before .before .before .before .before .before .before .listen .result .taken) _ _ (call (c .before .before .before .before .before .before .before .before .before .before .before .before .before .before .before .before .before .before .before .before .before .before)) (c .before .before .before .before .before .before .before .before .before .before .before .before .before .listen .ensures)
 
 same-length : tie.Need-same-length
-same-length c = ?
+same-length c = c .before .before .before .before .deliver .kept .1 .1 .0 ∙ c .before .before .before .before .before .before .before .before .before .before .before .before .before .before .before .before .before .before .listen .kept .1 .1 .1 .1 .0
 
 same-length-2 : tie.Need-same-length-2
-same-length-2 c = ?
+same-length-2 c = c .before .before .before .before .before .before .before .before .before .send-frame .kept .1 .1 .1 .1 .0
 
 same-length-3 : tie.Need-same-length-3
-same-length-3 c = ?
+same-length-3 c = c .before .before .before .before .before .before .before .before .before .before .before .before .before .before .before .before .before .before .listen .kept .1 .1 .1 .1 .1 .0
 
 same-length-4 : tie.Need-same-length-4
-same-length-4 c = ?
+same-length-4 c = c .before .before .before .before .deliver .kept .1 .1 .1 .0
 
 returns : tie.Need-returns
 returns c =
