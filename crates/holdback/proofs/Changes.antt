@@ -17,7 +17,7 @@ use Rattle.model.specs.Holdback.{heldBytes, held, encodeFrames, encodeHoldback}
 use Rattle.holdback.specs.Queue.{frameStart, bytesAt, frameAt, Figures}
 use Rattle.holdback.proofs.RoundTrip.{Bytes, encode-decode}
 use Rattle.holdback.proofs.Frames.{heldBytes-tab, held-tab, FormedUpTo, take-start, start-within}
-use Rattle.holdback.proofs.Sound.{every-tab-at}
+use Rattle.holdback.proofs.Judging.{every-tab-at}
 
 pub formed-frames : (epsilon : ℕ) (s : List ℕ) → every (wellFormed epsilon) (heldBytes epsilon s) ≡ true → FormedUpTo epsilon s (twoAt s 0)
 formed-frames epsilon s h = every-tab-at (wellFormed epsilon) (twoAt s 0) (bytesAt epsilon s) (rw (heldBytes-tab epsilon s) at h)
@@ -177,14 +177,16 @@ module _ (epsilon : ℕ) (s : List ℕ) (k : ℕ) (p : Pieces epsilon s k) where
 zeros-from : (n : ℕ) → 2 ≤ n → zeros n ≡ 0 ∷ 0 ∷ zeros (n - 2)
 zeros-from n h = let e : n ≡ suc (suc (n - 2)) = omega arith in ap zeros e
 
-pub emptied : (s : List ℕ) → 2 ≤ length s → cleared s 0 (length s) ≡ encodeHoldback (length s) []
-unfolding encodeHoldback encodeFrames padded twoBytes joined
-emptied s h =
+pub all-cleared : (s : List ℕ) → cleared s 0 (length s) ≡ zeros (length s)
+all-cleared s =
     let long : length s ≤ length (zeros (length s - 0)) = omega (arith, length-replicate {A = ℕ} (length s - 0) 0) in
     pasted-front s (zeros (length s - 0))
     ∙ ap₂ _++_ (ap zeros (sub-zero (length s))) (drop-of-length-le s long)
     ∙ append-nil (zeros (length s))
-    ∙ zeros-from (length s) h
+
+pub emptied : (s : List ℕ) → 2 ≤ length s → cleared s 0 (length s) ≡ encodeHoldback (length s) []
+unfolding encodeHoldback encodeFrames padded twoBytes joined
+emptied s h = all-cleared s ∙ zeros-from (length s) h
 
 -- ---- the same, as the code goes
 

@@ -18,7 +18,7 @@ use Rattle.model.specs.Setup.{Setup, width}
 use Rattle.model.specs.Frame.{twoAt, twoBytes, encode, wellFormed, payloadCountAt, frameEnd, decode}
 use Rattle.model.specs.Holdback.{cutFrames, heldBytes, held}
 use Rattle.holdback.specs.Queue.{frameStart, bytesAt, frameAt}
-use Rattle.holdback.proofs.Given.{formed}
+use Rattle.frame.proofs.Shape.{formed}
 use Rattle.holdback.proofs.RoundTrip.{Bytes, encode-decode, front-two}
 
 pub start-zero : (epsilon : ℕ) (s : List ℕ) → frameStart epsilon s 0 ≡ 2
@@ -109,10 +109,10 @@ start-longest epsilon s k ok =
     let o = formed epsilon (take (frameEnd epsilon rest) rest) ok in
     omega (arith, start-suc epsilon s k, formed-size epsilon (take (frameEnd epsilon rest) rest) ok, end-of-bytes epsilon rest)
 
-bytes-drop : (n : ℕ) (s : List ℕ) → Bytes s → Bytes (drop n s)
+pub bytes-drop : (n : ℕ) (s : List ℕ) → Bytes s → Bytes (drop n s)
 bytes-drop n s b i = rw (getD-drop n s i 0) (b (n + i))
 
-bytes-take : (n : ℕ) (s : List ℕ) → Bytes s → Bytes (take n s)
+pub bytes-take : (n : ℕ) (s : List ℕ) → Bytes s → Bytes (take n s)
 bytes-take n s b i =
     elim (lt-or-ge i n) [
       | inl h ↦ rw (getD-take n s i 0 h) (b i)
@@ -155,3 +155,8 @@ module _ (epsilon : ℕ) (s : List ℕ) (bytes : Bytes s) where
 pub start-within : (epsilon : ℕ) (s : List ℕ) (k : ℕ) → 2 ≤ length s → FormedUpTo epsilon s k → frameStart epsilon s k ≤ length s
 start-within epsilon s zero h ok = rw (start-zero epsilon s) h
 start-within epsilon s (suc k) h ok = start-inside epsilon s k (ok k (omega arith))
+
+-- a frame's end is near its start, whatever its bytes are
+pub end-small : (epsilon : ℕ) (t : List ℕ) → epsilon ≤ 16 → Bytes t → frameEnd epsilon t < 512
+unfolding frameEnd payloadCountAt width
+end-small epsilon t h b = omega (arith, b (6 + 2 * epsilon))

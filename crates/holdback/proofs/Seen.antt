@@ -10,23 +10,19 @@ use lib.ListN.{length, getD, set, replicate}
 use borrow.Author.Tests.{eqb-true, eq-eqb}
 use Rattle.laws.specs.Lists.{tab, any, insertAt}
 use Rattle.laws.proofs.Numbers.{and-intro, and-left, and-right, same-test, eqb-sym}
-use Rattle.laws.proofs.Lists.{getD-tab, set-tab, tab-ext, replicate-tab, any-ext, any-insertAt}
+use Rattle.laws.proofs.Lists.{length-tab, getD-tab, set-tab, tab-ext, replicate-tab, any-ext, any-insertAt}
 use Rattle.model.specs.Setup.{Setup}
 use Rattle.model.specs.Timestamp.{near}
 use Rattle.model.specs.Frame.{Frame, decode}
 use Rattle.model.specs.Judge.{readingOf}
 use Rattle.model.specs.Holdback.{sameOrigin}
-use Rattle.holdback.specs.Seen.{rowLength, tableLength, slotOf, seenTable, marked}
-use Rattle.holdback.proofs.Given.{Limits}
+use Rattle.holdback.specs.Seen.{InWindow, isMarked, rowLength, tableLength, slotOf, seenTable, marked}
+use Rattle.timestamp.proofs.InLimits.{Limits}
 use Rattle.holdback.proofs.RoundTrip.{Passing, passing}
 use Rattle.holdback.proofs.Reading.{near-high, near-injective}
-use Rattle.holdback.proofs.Sound.{Fitting, not-overdue, same-origin-sym}
-
--- a frame that has a place in the table
-pub record InWindow (s : Setup) (v : ℕ) (f : Frame) : Type 0 where
-  pub station-below : f .station < s .n
-  pub r-below : f .stamp .r < s .modulus
-  pub not-before : s .modulus ≤ readingOf s v f + (s .delta + 2 * s .epsilon)
+use Rattle.splice.specs.Bytes.{cleared, zeros}
+use Rattle.holdback.proofs.Changes.{all-cleared}
+use Rattle.holdback.proofs.Judging.{Fitting, not-overdue, same-origin-sym}
 
 -- a frame that a sound queue can have is one
 pub fitting-window : (s : Setup) (v : ℕ) (bytes : List ℕ) → Fitting s v bytes → InWindow s v (decode (s .epsilon) bytes)
@@ -103,3 +99,17 @@ seen-insert s v queue place f = seen-more s v queue (insertAt place f queue) f (
 pub seen-none : (s : Setup) (v : ℕ) → replicate tableLength 0 ≡ seenTable s v []
 unfolding seenTable any
 seen-none s v = replicate-tab tableLength 0
+
+-- a table that is cleared
+pub seen-cleared : (s : Setup) (v : ℕ) (table l : List ℕ) (n : ℕ) → length table ≡ tableLength → n ≡ length table → l ≡ cleared table 0 n → l ≡ seenTable s v []
+seen-cleared s v table l n size e h =
+    h ∙ ap (cleared table 0) e ∙ all-cleared table ∙ ap zeros size ∙ seen-none s v
+
+pub length-seen : (s : Setup) (v : ℕ) (queue : List Frame) → length (seenTable s v queue) ≡ tableLength
+unfolding seenTable
+length-seen s v queue = length-tab tableLength (λ i. cond (any (λ f. eqb (slotOf s v f) i) queue) 1 0)
+
+pub slot-by : (s : Setup) (v : ℕ) (f : Frame) (station reading : ℕ) → station ≡ f .station → reading ≡ readingOf s v f
+    → station * 128 + (reading + (s .delta + 2 * s .epsilon) - s .modulus) ≡ slotOf s v f
+unfolding slotOf
+slot-by s v f station reading es er = rw (es, er)

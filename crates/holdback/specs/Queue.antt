@@ -8,6 +8,9 @@ use lib.ListN.{length, take, drop}
 use Rattle.laws.specs.Lists.{every}
 use Rattle.model.specs.Frame.{Frame, twoAt, wellFormed, decode, frameEnd}
 use Rattle.model.specs.Holdback.{heldBytes}
+use Rattle.model.specs.Setup.{Setup}
+use Rattle.model.specs.Judge.{readingOf}
+use Rattle.timestamp.specs.declared.ordering.Rank.{Rank}
 
 -- where frame k starts: past the two-byte count and the k frames before it, "each ending where its counts say"
 unfoldable pub frameStart : ℕ → List ℕ → ℕ → ℕ
@@ -30,3 +33,12 @@ pub record Figures (epsilon : ℕ) (queue : List ℕ) (count end index at : ℕ)
   pub ends : end ≡ frameStart epsilon queue count
   pub inside : index ≤ count
   pub starts : at ≡ frameStart epsilon queue index
+
+-- a place in a queue: so many frames stand before it, and where it stands
+pub record Stands (epsilon : ℕ) (queue : List ℕ) (place index at : ℕ) : Type 0 where
+  pub frames : index ≡ place
+  pub starts : at ≡ frameStart epsilon queue index
+
+-- what the order looks at beside the counts, of a frame with its r read near v
+abbrev pub rankOf : Setup → ℕ → Frame → Rank
+rankOf s v f = record { reading = readingOf s v f; c = f .stamp .c; station = f .station }

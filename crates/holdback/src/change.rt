@@ -40,7 +40,7 @@ pub fn put(epsilon: usize, buf: &mut [u8], count: usize, end: usize, place: Plac
 }
 
 // 01, tick 6: the first frames of a queue are handed out: their number and their bytes.
-fn write_prefix(epsilon: usize, buf: &[u8], count: usize, end: usize, prefix: Place, delivery: &mut [u8])
+pub fn write_prefix(epsilon: usize, buf: &[u8], count: usize, end: usize, prefix: Place, delivery: &mut [u8])
     requires { ⌜ Figures epsilon (now buf) count end (prefix .index) (prefix .at) ⌝ }
     requires { ⌜ (length (now buf) ≤ length (now delivery)) × (count < 65536) ⌝ }
     ensures {
@@ -54,7 +54,7 @@ fn write_prefix(epsilon: usize, buf: &[u8], count: usize, end: usize, prefix: Pl
 }
 
 // 01, tick 6: they leave the shelf; the others move to the front, "then zeros".
-fn cut_prefix(epsilon: usize, buf: &mut [u8], count: usize, end: usize, prefix: Place)
+pub fn cut_prefix(epsilon: usize, buf: &mut [u8], count: usize, end: usize, prefix: Place)
     requires { ⌜ Figures epsilon (now buf) count end (prefix .index) (prefix .at) ⌝ }
     requires { ⌜ count < 65536 ⌝ }
     ensures {
