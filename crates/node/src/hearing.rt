@@ -1,7 +1,6 @@
 // 01, tick 3: "Each frame of the bundle is judged in turn".
 use crate::judging::judge;
 use crate::queue::place_frame;
-use crate::stub::mark;
 use crate::verdict::Verdict;
 use crate::verdict::number_of;
 use batch::count_of;
@@ -9,6 +8,7 @@ use batch::entry_at;
 use batch::next_at;
 use frame::r_of;
 use frame::stamp_of;
+use holdback::mark;
 use timestamp::Setup;
 use timestamp::Timestamp;
 use timestamp::near;

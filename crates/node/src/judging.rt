@@ -1,11 +1,11 @@
 // 01, "Of each frame, in order": questions 10 to 17, and the verdict.
-use crate::stub::place_for;
-use crate::stub::repeats;
 use crate::verdict::Verdict;
 use frame::c_of;
 use frame::check;
 use frame::r_of;
 use frame::two_at;
+use holdback::place_for;
+use holdback::repeats;
 use timestamp::Setup;
 use timestamp::counts_at_most;
 use timestamp::depth;

@@ -4,7 +4,6 @@ mod hearing;
 mod judging;
 mod queue;
 mod sending;
-mod stub;
 mod ticking;
 mod verdict;
 

@@ -1,11 +1,11 @@
 // The hold-back queue (01: the shelf) within one tick: opened, a frame placed, what is due delivered.
-use crate::stub::Place;
-use crate::stub::cut_due;
-use crate::stub::empty;
-use crate::stub::put;
-use crate::stub::sound;
 use frame::frame_end;
 use frame::two_at;
+use holdback::Place;
+use holdback::cut_due;
+use holdback::empty;
+use holdback::put;
+use holdback::sound;
 use timestamp::Setup;
 ghost use mathlib.Core.Path.{_≡_};
 ghost use lib.ListN.{length};
