@@ -1,0 +1,233 @@
+-- What placing a frame and cutting off a prefix do to the bytes of a queue.
+-- Assumes nothing.
+use Prim.Native.Nat.{ℕ, zero, suc, _+_, _*_, _-_, _≤_, _<_}
+use native.Mathlib.Nat.{zero-add, sub-zero, le-of-eq}
+use native.Mathlib.Omega.{arith}
+use mathlib.Core.Path.{_≡_, refl, sym, ap, ap₂, _∙_}
+use mathlib.Core.Bool.{Bool, true}
+use mathlib.Core.List.{List, [], _∷_, _++_, append-assoc, append-nil}
+use lib.ListN.{length, take, drop, replicate, length-append, length-take, length-drop, length-replicate, take-append-drop, drop-of-length-le}
+use lib.Seq.{drop-drop, length-take-le, take-at, drop-at, drop-append-add, drop-length, drop-append-seam}
+use Rattle.laws.specs.Lists.{tab, every, joined, overlay, padded, insertAt}
+use Rattle.laws.proofs.Lists.{length-tab, take-tab, joined-append, joined-insertAt, length-insertAt}
+use Rattle.splice.specs.Bytes.{pasted, part, cleared, inserted, zeros, twoBytes as lowFirst}
+use Rattle.splice.proofs.Laws.{pasted-pieces, inserted-pieces, pasted-right, pasted-left, length-pasted}
+use Rattle.model.specs.Frame.{Frame, twoBytes, twoAt, encode, decode, wellFormed}
+use Rattle.model.specs.Holdback.{heldBytes, held, encodeFrames, encodeHoldback}
+use Rattle.holdback.specs.Queue.{frameStart, bytesAt, frameAt, Figures}
+use Rattle.holdback.proofs.RoundTrip.{Bytes, encode-decode}
+use Rattle.holdback.proofs.Frames.{heldBytes-tab, held-tab, FormedUpTo, take-start, start-within}
+use Rattle.holdback.proofs.Judging.{every-tab-at}
+
+pub formed-frames : (epsilon : ℕ) (s : List ℕ) → every (wellFormed epsilon) (heldBytes epsilon s) ≡ true → FormedUpTo epsilon s (twoAt s 0)
+formed-frames epsilon s h = every-tab-at (wellFormed epsilon) (twoAt s 0) (bytesAt epsilon s) (rw (heldBytes-tab epsilon s) at h)
+
+pub length-held : (epsilon : ℕ) (s : List ℕ) → length (held epsilon s) ≡ twoAt s 0
+length-held epsilon s = ap length (held-tab epsilon s) ∙ length-tab (twoAt s 0) (frameAt epsilon s)
+
+-- the bytes of a queue: the count, the first k frames, the others, and what stands behind them
+pub record Pieces (epsilon : ℕ) (s : List ℕ) (k : ℕ) : Type 0 where
+  pub split : s ≡ twoBytes (twoAt s 0) ++ (joined encode (take k (held epsilon s)) ++ (joined encode (drop k (held epsilon s)) ++ drop (frameStart epsilon s (twoAt s 0)) s))
+  pub front : frameStart epsilon s k ≡ 2 + length (joined encode (take k (held epsilon s)))
+  pub back : frameStart epsilon s (twoAt s 0) ≡ frameStart epsilon s k + length (joined encode (drop k (held epsilon s)))
+  pub ends : frameStart epsilon s (twoAt s 0) ≤ length s
+
+module _ (epsilon : ℕ) (s : List ℕ) (bytes : Bytes s) (two : 2 ≤ length s) where
+  start-length : (k : ℕ) → FormedUpTo epsilon s k → frameStart epsilon s k ≡ 2 + length (joined encode (tab k (frameAt epsilon s)))
+  unfolding twoBytes
+  start-length k ok =
+      sym (length-take-le (frameStart epsilon s k) s (start-within epsilon s k two ok))
+      ∙ ap length (take-start epsilon s bytes k two ok)
+      ∙ length-append (twoBytes (twoAt s 0)) (joined encode (tab k (frameAt epsilon s)))
+
+  pub pieces : FormedUpTo epsilon s (twoAt s 0) → (k : ℕ) → k ≤ twoAt s 0 → Pieces epsilon s k
+  pieces ok k h =
+      let n : ℕ = twoAt s 0 in
+      let q : List Frame = held epsilon s in
+      let end : ℕ = frameStart epsilon s n in
+      let x : List ℕ = joined encode (take k q) in
+      let y : List ℕ = joined encode (drop k q) in
+      let all : joined encode (tab n (frameAt epsilon s)) ≡ x ++ y =
+          ap (joined encode) (sym (held-tab epsilon s)) ∙ ap (joined encode) (sym (take-append-drop k q)) ∙ joined-append encode (take k q) (drop k q) in
+      let some : tab k (frameAt epsilon s) ≡ take k q =
+          sym (take-tab k n (frameAt epsilon s) h) ∙ ap (take k) (sym (held-tab epsilon s)) in
+      let f : frameStart epsilon s k ≡ 2 + length x =
+          start-length k (λ i l. ok i (omega arith)) ∙ ap (λ (l : List Frame). 2 + length (joined encode l)) some in
+      let e : end ≡ 2 + length (x ++ y) = start-length n ok ∙ ap (λ (l : List ℕ). 2 + length l) all in
+      record {
+        split =
+            sym (take-append-drop end s)
+            ∙ ap (λ (l : List ℕ). l ++ drop end s) (take-start epsilon s bytes n two ok ∙ ap (λ (l : List ℕ). twoBytes n ++ l) all)
+            ∙ append-assoc (twoBytes n) (x ++ y) (drop end s)
+            ∙ ap (λ (l : List ℕ). twoBytes n ++ l) (append-assoc x y (drop end s));
+        front = f;
+        back = omega (arith, length-append x y);
+        ends = start-within epsilon s n two ok;
+      }
+
+two-long : (x : ℕ) → _≡_ {A = ℕ} 2 (0 + length (twoBytes x))
+unfolding twoBytes
+two-long x = refl
+
+pasted-front : (d s : List ℕ) → pasted d 0 s ≡ s ++ drop (length s) d
+unfolding pasted
+pasted-front d s = rw (zero-add (length s))
+
+-- ---- placing
+
+-- src put in between x and y, and the count written anew
+put-pieces : (c d x y rest src : List ℕ) (at end : ℕ) → length c ≡ length d → at ≡ length c + length x → end ≡ at + length y
+    → pasted (inserted (c ++ (x ++ (y ++ rest))) end at src) 0 d ≡ d ++ (x ++ (src ++ (y ++ drop (length src) rest)))
+put-pieces c d x y rest src at end same a e =
+    ap (λ (l : List ℕ). pasted l 0 d)
+    (ap (λ (l : List ℕ). inserted l end at src) (sym (append-assoc c x (y ++ rest)))
+    ∙ inserted-pieces (c ++ x) y rest src end at (omega (arith, length-append c x)) e
+    ∙ append-assoc c x (src ++ (y ++ drop (length src) rest)))
+    ∙ pasted-pieces [] c (x ++ (src ++ (y ++ drop (length src) rest))) d 0 refl (sym same)
+
+module _ (epsilon : ℕ) (s : List ℕ) (k : ℕ) (p : Pieces epsilon s k) where
+  abbrev q : List Frame
+  q = held epsilon s
+
+  abbrev first : List ℕ
+  first = joined encode (take k q)
+
+  abbrev others : List ℕ
+  others = joined encode (drop k q)
+
+  abbrev end : ℕ
+  end = frameStart epsilon s (twoAt s 0)
+
+  pub put-made : (f : Frame) (src l : List ℕ) → encode f ≡ src
+      → l ≡ pasted (inserted s end (frameStart epsilon s k) src) 0 (twoBytes (twoAt s 0 + 1))
+      → l ≡ overlay (encodeFrames (insertAt k f q)) s
+  unfolding overlay encodeFrames twoBytes
+  put-made f src l e made =
+      let n : ℕ = twoAt s 0 in
+      let tail : List ℕ = drop (length src) (drop end s) in
+      let new : encodeFrames (insertAt k f q) ≡ twoBytes (n + 1) ++ (first ++ (src ++ others)) =
+          ap₂ (λ (m : ℕ) (r : List ℕ). twoBytes m ++ r)
+          (length-insertAt k f q ∙ omega (arith, length-held epsilon s))
+          (joined-insertAt encode k f q ∙ ap (λ (r : List ℕ). first ++ (r ++ others)) e) in
+      let size : length (encodeFrames (insertAt k f q)) ≡ end + length src =
+          ap length new ∙ omega (arith, length-append first (src ++ others), length-append src others, p .front, p .back) in
+      made
+      ∙ ap (λ (r : List ℕ). pasted (inserted r end (frameStart epsilon s k) src) 0 (twoBytes (n + 1))) (p .split)
+      ∙ put-pieces (twoBytes n) (twoBytes (n + 1)) first others (drop end s) src (frameStart epsilon s k) end refl (p .front) (p .back)
+      ∙ sym
+      (ap₂ _++_ new (ap (λ (m : ℕ). drop m s) size ∙ sym (drop-drop (length src) end s))
+      ∙ append-assoc (twoBytes (n + 1)) (first ++ (src ++ others)) tail
+      ∙ ap (λ (r : List ℕ). twoBytes (n + 1) ++ r) (append-assoc first (src ++ others) tail ∙ ap (λ (r : List ℕ). first ++ r) (append-assoc src others tail)))
+
+  -- ---- cutting off the first k frames
+
+  first-bytes : (n : ℕ) → n ≡ frameStart epsilon s k - 2 → take n (drop 2 s) ≡ first
+  unfolding twoBytes
+  first-bytes n e =
+      ap (λ (l : List ℕ). take n (drop 2 l)) (p .split) ∙ take-at first (others ++ drop end s) n (omega (arith, p .front))
+
+  other-bytes : (n : ℕ) → n ≡ end - frameStart epsilon s k → take n (drop (frameStart epsilon s k) s) ≡ others
+  unfolding twoBytes
+  other-bytes n e =
+      ap (λ (l : List ℕ). take n (drop (frameStart epsilon s k) l)) (p .split ∙ sym (append-assoc (twoBytes (twoAt s 0)) first (others ++ drop end s)))
+      ∙ ap (take n) (drop-at (twoBytes (twoAt s 0) ++ first) (others ++ drop end s) (frameStart epsilon s k) (omega (arith, p .front)))
+      ∙ take-at others (drop end s) n (omega (arith, p .back))
+
+  -- written to the delivery
+  pub delivery-made : (d l : List ℕ) → k ≤ twoAt s 0
+      → l ≡ pasted (pasted d 0 (twoBytes k)) 2 (take (frameStart epsilon s k - 2) (drop 2 s))
+      → l ≡ overlay (encodeFrames (take k q)) d
+  unfolding overlay encodeFrames
+  delivery-made d l h made =
+      let count : length (take k q) ≡ k = length-take-le k q (omega (arith, length-held epsilon s)) in
+      made
+      ∙ ap (pasted (pasted d 0 (twoBytes k)) 2) (first-bytes (frameStart epsilon s k - 2) refl)
+      ∙ pasted-right d 0 (twoBytes k) 2 (two-long k) first (omega arith)
+      ∙ pasted-front d (twoBytes k ++ first)
+      ∙ ap (λ (n : ℕ). (twoBytes n ++ first) ++ drop (length (twoBytes n ++ first)) d) (sym count)
+
+  -- the others moved to the front, zeros behind them
+  pub cut-made : (l : List ℕ) → k ≤ twoAt s 0 → 2 ≤ length s
+      → l ≡ pasted (cleared (pasted s 2 (part s (frameStart epsilon s k) (end - frameStart epsilon s k))) (2 + (end - frameStart epsilon s k)) (length s)) 0 (twoBytes (twoAt s 0 - k))
+      → l ≡ encodeHoldback (length s) (drop k q)
+  unfolding encodeHoldback encodeFrames padded
+  cut-made l h two made =
+      let size : ℕ = length others in
+      let moved : ℕ = 2 + size in
+      let free : ℕ = length s - moved in
+      let long : end - frameStart epsilon s k ≡ size = omega (arith, p .back) in
+      let inside : moved ≤ length s = omega (arith, p .back, p .front, p .ends) in
+      let count : length (drop k q) ≡ twoAt s 0 - k = length-drop k q ∙ ap (λ (n : ℕ). n - k) (length-held epsilon s) in
+      let c : List ℕ = twoBytes (twoAt s 0 - k) in
+      let all : length (c ++ (others ++ zeros free)) ≡ length s =
+          omega (arith, length-append c (others ++ zeros free), two-long (twoAt s 0 - k), length-append others (zeros free), length-replicate {A = ℕ} free 0) in
+      let used : length (c ++ others) ≡ moved = omega (arith, length-append c others, two-long (twoAt s 0 - k)) in
+      made
+      ∙ ap₂ (λ (r : List ℕ) (n : ℕ). pasted (cleared (pasted s 2 r) (2 + n) (length s)) 0 c) (other-bytes (end - frameStart epsilon s k) refl) long
+      ∙ ap (λ (r : List ℕ). pasted r 0 c) (pasted-right s 2 others moved refl (zeros free) two)
+      ∙ pasted-left s 0 c 2 (two-long (twoAt s 0 - k)) (others ++ zeros free) two
+      ∙ pasted-front s (c ++ (others ++ zeros free))
+      ∙ ap (λ (r : List ℕ). (c ++ (others ++ zeros free)) ++ r) (drop-of-length-le s (le-of-eq (sym all)))
+      ∙ append-nil (c ++ (others ++ zeros free))
+      ∙ sym (append-assoc c others (zeros free))
+      ∙ sym (ap₂ (λ (n m : ℕ). (twoBytes n ++ others) ++ replicate (length s - m) 0) count (ap (λ (n : ℕ). length (twoBytes n ++ others)) count ∙ used))
+
+-- ---- emptying
+
+zeros-from : (n : ℕ) → 2 ≤ n → zeros n ≡ 0 ∷ 0 ∷ zeros (n - 2)
+zeros-from n h = let e : n ≡ suc (suc (n - 2)) = omega arith in ap zeros e
+
+pub all-cleared : (s : List ℕ) → cleared s 0 (length s) ≡ zeros (length s)
+all-cleared s =
+    let long : length s ≤ length (zeros (length s - 0)) = omega (arith, length-replicate {A = ℕ} (length s - 0) 0) in
+    pasted-front s (zeros (length s - 0))
+    ∙ ap₂ _++_ (ap zeros (sub-zero (length s))) (drop-of-length-le s long)
+    ∙ append-nil (zeros (length s))
+
+pub emptied : (s : List ℕ) → 2 ≤ length s → cleared s 0 (length s) ≡ encodeHoldback (length s) []
+unfolding encodeHoldback encodeFrames padded twoBytes joined
+emptied s h = all-cleared s ∙ zeros-from (length s) h
+
+-- ---- the same, as the code goes
+
+module _ {epsilon : ℕ} {s : List ℕ} {count stop index at : ℕ} (known : Figures epsilon s count stop index at) (bytes : Bytes s) where
+  pub figures-pieces : Pieces epsilon s index
+  figures-pieces =
+      pieces epsilon s bytes (known .two) (formed-frames epsilon s (known .formed)) index (omega (arith, known .counted, known .inside))
+
+  stop-is : stop ≡ frameStart epsilon s (twoAt s 0)
+  stop-is = known .ends ∙ ap (frameStart epsilon s) (known .counted)
+
+  index-in : index ≤ twoAt s 0
+  index-in = omega (arith, known .counted, known .inside)
+
+  pub located : (2 ≤ at) × ((at ≤ stop) × (stop ≤ length s))
+  located =
+      let p = figures-pieces in
+      (omega (arith, p .front, known .starts), (omega (arith, p .back, known .starts, stop-is), omega (arith, p .ends, stop-is)))
+
+  pub put-placed : (frame a l : List ℕ) → Bytes frame → wellFormed epsilon frame ≡ true → a ≡ inserted s stop at frame
+      → l ≡ pasted a 0 (lowFirst (count + 1)) → l ≡ overlay (encodeFrames (insertAt index (decode epsilon frame) (held epsilon s))) s
+  unfolding twoBytes
+  put-placed frame a l clean well moved counted =
+      put-made epsilon s index figures-pieces (decode epsilon frame) frame l (encode-decode epsilon frame clean well)
+      (counted
+      ∙ ap₂ (λ (r : List ℕ) (n : ℕ). pasted r 0 (twoBytes (n + 1)))
+      (moved ∙ ap₂ (λ (n m : ℕ). inserted s n m frame) stop-is (known .starts)) (known .counted))
+
+  pub prefix-written : (d a l : List ℕ) → a ≡ pasted d 0 (lowFirst index) → l ≡ pasted a 2 (take (at - 2) (drop 2 s))
+      → l ≡ overlay (encodeFrames (take index (held epsilon s))) d
+  unfolding twoBytes
+  prefix-written d a l counted copied =
+      delivery-made epsilon s index figures-pieces d l index-in
+      (copied ∙ ap₂ (λ (r : List ℕ) (n : ℕ). pasted r 2 (take (n - 2) (drop 2 s))) counted (known .starts))
+
+  pub prefix-cut : (a b l : List ℕ) → a ≡ pasted s 2 (part s at (stop - at)) → b ≡ cleared a (2 + (stop - at)) (length s)
+      → l ≡ pasted b 0 (lowFirst (count - index)) → l ≡ encodeHoldback (length s) (drop index (held epsilon s))
+  unfolding twoBytes
+  prefix-cut a b l moved emptied counted =
+      cut-made epsilon s index figures-pieces l index-in (known .two)
+      (counted
+      ∙ ap₂ (λ (r : List ℕ) (n : ℕ). pasted r 0 (twoBytes (n - index)))
+      (emptied ∙ ap (λ (r : List ℕ). cleared r (2 + (stop - at)) (length s)) moved) (known .counted)
+      ∙ ap₂ (λ (n m : ℕ). pasted (cleared (pasted s 2 (part s m (n - m))) (2 + (n - m)) (length s)) 0 (twoBytes (twoAt s 0 - index))) stop-is (known .starts))

@@ -1,0 +1,62 @@
+-- What a sound queue gives to a change of it, and what of it is due.
+-- Assumes nothing.
+use Prim.Native.Nat.{ℕ, suc, _+_, _*_, _≤_, _<_}
+use native.Mathlib.Nat.{mul-le-mul}
+use native.Mathlib.Omega.{arith}
+use mathlib.Core.Path.{_≡_, refl, sym, ap, _∙_}
+use mathlib.Core.Bool.{Bool, true, not}
+use mathlib.Core.List.{List}
+use lib.ListN.{length, take, drop}
+use lib.Seq.{length-take-le}
+use Rattle.laws.specs.Lists.{every, select, leading}
+use Rattle.laws.proofs.Lists.{every-mono, leading-le}
+use Rattle.model.specs.Setup.{Setup, depth}
+use Rattle.model.specs.Frame.{Frame, twoAt, wellFormed}
+use Rattle.model.specs.Holdback.{heldBytes, held, passes, soundHoldback}
+use Rattle.model.specs.Tick.{dueNow}
+use Rattle.timestamp.proofs.InLimits.{Limits}
+use Rattle.holdback.specs.Queue.{frameStart, Figures, Stands}
+use Rattle.holdback.proofs.RoundTrip.{passing}
+use Rattle.holdback.proofs.Judging.{sound-few, sound-passes, sound-ordered, sound-overdue}
+use Rattle.holdback.proofs.Changes.{length-held}
+use Rattle.holdback.proofs.Order.{due-prefix, due-rest}
+
+-- n(δ + 3ε) is small
+depth-small : (s : Setup) → Limits s → depth (s .n) (s .epsilon) (s .delta) ≤ 1792
+unfolding depth
+depth-small s limits =
+    let high : s .delta + 3 * s .epsilon ≤ 112 = omega arith in
+    let most : s .n * (s .delta + 3 * s .epsilon) ≤ 16 * 112 = mul-le-mul (limits .n-most) high in
+    omega arith
+
+module _ (s : Setup) (v : ℕ) (b : List ℕ) (sound : soundHoldback s v b ≡ true) where
+  pub count-small : (count : ℕ) → Limits s → count ≡ twoAt b 0 → count < 65535
+  count-small count limits e = omega (arith, sound-few s v b sound, depth-small s limits)
+
+  pub sound-figures : (p : Frame → Bool) (count stop index at : ℕ) → 2 ≤ length b → count ≡ twoAt b 0 → stop ≡ frameStart (s .epsilon) b count
+      → Stands (s .epsilon) b (leading p (held (s .epsilon) b)) index at → Figures (s .epsilon) b count stop index at
+  sound-figures p count stop index at two counted ends stands =
+      record {
+        formed = every-mono (passes s) (wellFormed (s .epsilon)) (heldBytes (s .epsilon) b) (λ x h. passing s x h .well) (sound-passes s v b sound);
+        two = two;
+        counted = counted;
+        ends = ends;
+        inside = omega (arith, stands .frames, leading-le p (held (s .epsilon) b), length-held (s .epsilon) b);
+        starts = stands .starts;
+      }
+
+  module _ (index at : ℕ) (stands : Stands (s .epsilon) b (leading (dueNow s v) (held (s .epsilon) b)) index at) where
+    pub due-taken : take index (held (s .epsilon) b) ≡ select (dueNow s v) (held (s .epsilon) b)
+    due-taken =
+        ap (λ (n : ℕ). take n (held (s .epsilon) b)) (stands .frames)
+        ∙ sym (due-prefix s v (held (s .epsilon) b) (sound-ordered s v b sound) (sound-overdue s v b sound))
+
+    pub due-left : drop index (held (s .epsilon) b) ≡ select (λ f. not (dueNow s v f)) (held (s .epsilon) b)
+    due-left =
+        ap (λ (n : ℕ). drop n (held (s .epsilon) b)) (stands .frames)
+        ∙ sym (due-rest s v (held (s .epsilon) b) (sound-ordered s v b sound) (sound-overdue s v b sound))
+
+    pub due-number : index ≡ length (select (dueNow s v) (held (s .epsilon) b))
+    due-number =
+        let le : index ≤ length (held (s .epsilon) b) = omega (arith, stands .frames, leading-le (dueNow s v) (held (s .epsilon) b)) in
+        sym (length-take-le index (held (s .epsilon) b) le) ∙ ap length due-taken

@@ -1,0 +1,162 @@
+-- The frames of a queue by their index.
+-- Assumes nothing.
+use Prim.Native.Nat.{ℕ, zero, suc, _+_, _*_, _-_, _≤_, _<_}
+use native.Mathlib.Nat.{add-zero, zero-add, suc-add, add-suc, suc-mul}
+use native.Mathlib.Omega.{arith}
+use mathlib.Core.Path.{_≡_, refl, sym, ap, ap₂, _∙_}
+use mathlib.Core.Bool.{Bool, true, false, _&&_}
+use mathlib.Core.Logic.{_⊎_, inl, inr}
+use mathlib.Core.List.{List, [], _∷_, _++_, map, append-assoc, append-nil}
+use lib.Dec.{leb, eqb}
+use lib.ListN.{length, take, drop, getD, length-take, length-drop, take-append-drop, List·getD-eq-default}
+use lib.Seq.{drop-drop, getD-drop, getD-take, take-add, length-take-le}
+use borrow.Author.Tests.{eqb-true, leb-true}
+use Rattle.laws.specs.Lists.{tab, joined}
+use Rattle.laws.proofs.Numbers.{and-left, and-right, lt-or-ge}
+use Rattle.laws.proofs.Lists.{tab-ext, tab-suc, map-tab, joined-append}
+use Rattle.model.specs.Setup.{Setup, width}
+use Rattle.model.specs.Frame.{twoAt, twoBytes, encode, wellFormed, payloadCountAt, frameEnd, decode}
+use Rattle.model.specs.Holdback.{cutFrames, heldBytes, held}
+use Rattle.holdback.specs.Queue.{frameStart, bytesAt, frameAt}
+use Rattle.frame.proofs.Shape.{formed}
+use Rattle.holdback.proofs.RoundTrip.{Bytes, encode-decode, front-two}
+
+pub start-zero : (epsilon : ℕ) (s : List ℕ) → frameStart epsilon s 0 ≡ 2
+unfolding frameStart
+start-zero epsilon s = refl
+
+pub start-suc : (epsilon : ℕ) (s : List ℕ) (k : ℕ) → frameStart epsilon s (suc k) ≡ frameStart epsilon s k + frameEnd epsilon (drop (frameStart epsilon s k) s)
+unfolding frameStart
+start-suc epsilon s k = refl
+
+-- the frames from index j on
+cut-tab : (epsilon : ℕ) (s : List ℕ) (k j : ℕ)
+    → cutFrames epsilon k (drop (frameStart epsilon s j) s) ≡ tab k (λ i. bytesAt epsilon s (j + i))
+unfolding cutFrames tab bytesAt
+cut-tab epsilon s zero j = refl
+cut-tab epsilon s (suc k) j =
+    ap₂ _∷_
+    (ap (bytesAt epsilon s) (sym (add-zero j)))
+    (ap (cutFrames epsilon k)
+    (drop-drop (frameEnd epsilon (drop (frameStart epsilon s j) s)) (frameStart epsilon s j) s
+    ∙ ap (λ (n : ℕ). drop n s) (sym (start-suc epsilon s j)))
+    ∙ cut-tab epsilon s k (suc j)
+    ∙ tab-ext k (λ i. bytesAt epsilon s (suc j + i)) (λ i. bytesAt epsilon s (j + suc i))
+    (λ i h. ap (bytesAt epsilon s) (omega arith)))
+
+-- all frames
+pub heldBytes-tab : (epsilon : ℕ) (s : List ℕ) → heldBytes epsilon s ≡ tab (twoAt s 0) (bytesAt epsilon s)
+unfolding heldBytes
+heldBytes-tab epsilon s =
+    ap (λ (n : ℕ). cutFrames epsilon (twoAt s 0) (drop n s)) (sym (start-zero epsilon s))
+    ∙ cut-tab epsilon s (twoAt s 0) 0
+    ∙ tab-ext (twoAt s 0) (λ i. bytesAt epsilon s (0 + i)) (bytesAt epsilon s) (λ i h. ap (bytesAt epsilon s) (zero-add i))
+
+pub held-tab : (epsilon : ℕ) (s : List ℕ) → held epsilon s ≡ tab (twoAt s 0) (frameAt epsilon s)
+unfolding held frameAt
+held-tab epsilon s =
+    ap (map (decode epsilon)) (heldBytes-tab epsilon s) ∙ map-tab (decode epsilon) (twoAt s 0) (bytesAt epsilon s)
+
+-- ---- where a frame ends
+
+end-past : (epsilon : ℕ) (t : List ℕ) → payloadCountAt epsilon < frameEnd epsilon t
+unfolding frameEnd
+end-past epsilon t = omega arith
+
+-- a frame's own bytes end where it does
+end-by : (epsilon : ℕ) (a b : List ℕ) → getD a (payloadCountAt epsilon) 0 ≡ getD b (payloadCountAt epsilon) 0 → frameEnd epsilon a ≡ frameEnd epsilon b
+unfolding frameEnd
+end-by epsilon a b e = rw e
+
+end-of-bytes : (epsilon : ℕ) (t : List ℕ) → frameEnd epsilon (take (frameEnd epsilon t) t) ≡ frameEnd epsilon t
+end-of-bytes epsilon t =
+    end-by epsilon (take (frameEnd epsilon t) t) t (getD-take (frameEnd epsilon t) t (payloadCountAt epsilon) 0 (end-past epsilon t))
+
+-- well-formed bytes are as long as they say
+formed-size : (epsilon : ℕ) (t : List ℕ) → wellFormed epsilon t ≡ true → length t ≡ frameEnd epsilon t
+unfolding frameEnd payloadCountAt width
+formed-size epsilon t h = let o = formed epsilon t h in omega arith
+
+pub formed-inside : (epsilon : ℕ) (t : List ℕ) → wellFormed epsilon (take (frameEnd epsilon t) t) ≡ true → frameEnd epsilon t ≤ length t
+formed-inside epsilon t h =
+    omega (arith, formed-size epsilon (take (frameEnd epsilon t) t) h, end-of-bytes epsilon t, length-take (frameEnd epsilon t) t)
+
+-- frame k of s
+module _ (epsilon : ℕ) (s : List ℕ) (k : ℕ) (ok : wellFormed epsilon (bytesAt epsilon s k) ≡ true) where
+  -- it ends within s
+  pub start-inside : frameStart epsilon s (suc k) ≤ length s
+  unfolding bytesAt
+  start-inside =
+      let rest : List ℕ = drop (frameStart epsilon s k) s in
+      let i : frameEnd epsilon rest ≤ length rest = formed-inside epsilon rest ok in
+      let p : payloadCountAt epsilon < frameEnd epsilon rest = end-past epsilon rest in
+      omega (arith, start-suc epsilon s k, length-drop (frameStart epsilon s k) s)
+
+  -- its bytes stand between its start and the next one's
+  pub bytes-between : bytesAt epsilon s k ≡ take (frameStart epsilon s (suc k) - frameStart epsilon s k) (drop (frameStart epsilon s k) s)
+  unfolding bytesAt
+  bytes-between =
+      let rest : List ℕ = drop (frameStart epsilon s k) s in
+      let e : frameEnd epsilon rest ≡ frameStart epsilon s (suc k) - frameStart epsilon s k = omega (arith, start-suc epsilon s k) in
+      ap (λ (n : ℕ). take n rest) e
+
+-- a frame is at most as long as the longest
+pub start-longest : (epsilon : ℕ) (s : List ℕ) (k : ℕ) → wellFormed epsilon (bytesAt epsilon s k) ≡ true
+    → frameStart epsilon s (suc k) ≤ frameStart epsilon s k + (39 + 2 * epsilon)
+unfolding bytesAt
+start-longest epsilon s k ok =
+    let rest : List ℕ = drop (frameStart epsilon s k) s in
+    let o = formed epsilon (take (frameEnd epsilon rest) rest) ok in
+    omega (arith, start-suc epsilon s k, formed-size epsilon (take (frameEnd epsilon rest) rest) ok, end-of-bytes epsilon rest)
+
+pub bytes-drop : (n : ℕ) (s : List ℕ) → Bytes s → Bytes (drop n s)
+bytes-drop n s b i = rw (getD-drop n s i 0) (b (n + i))
+
+pub bytes-take : (n : ℕ) (s : List ℕ) → Bytes s → Bytes (take n s)
+bytes-take n s b i =
+    elim (lt-or-ge i n) [
+      | inl h ↦ rw (getD-take n s i 0 h) (b i)
+      | inr h ↦
+          let k : length (take n s) ≤ i = omega (arith, length-take n s) in
+          rw (List·getD-eq-default (take n s) 0 {n = i} k) (omega arith)
+    ]
+
+-- ---- the bytes up to frame k, as they are written
+
+-- each of the first k frames is well-formed
+abbrev pub FormedUpTo : ℕ → List ℕ → ℕ → Type 0
+FormedUpTo epsilon s k = (i : ℕ) → i < k → wellFormed epsilon (bytesAt epsilon s i) ≡ true
+
+module _ (epsilon : ℕ) (s : List ℕ) (bytes : Bytes s) where
+  pub encode-frame : (k : ℕ) → wellFormed epsilon (bytesAt epsilon s k) ≡ true → encode (frameAt epsilon s k) ≡ bytesAt epsilon s k
+  unfolding frameAt bytesAt
+  encode-frame k ok =
+      encode-decode epsilon (bytesAt epsilon s k)
+      (bytes-take (frameEnd epsilon (drop (frameStart epsilon s k) s)) (drop (frameStart epsilon s k) s) (bytes-drop (frameStart epsilon s k) s bytes)) ok
+
+  joined-snoc : (k : ℕ) → joined encode (tab (suc k) (frameAt epsilon s)) ≡ joined encode (tab k (frameAt epsilon s)) ++ encode (frameAt epsilon s k)
+  unfolding joined
+  joined-snoc k =
+      ap (joined encode) (tab-suc k (frameAt epsilon s))
+      ∙ joined-append encode (tab k (frameAt epsilon s)) (frameAt epsilon s k ∷ [])
+      ∙ ap (λ (l : List ℕ). joined encode (tab k (frameAt epsilon s)) ++ l) (append-nil (encode (frameAt epsilon s k)))
+
+  pub take-start : (k : ℕ) → 2 ≤ length s → FormedUpTo epsilon s k
+      → take (frameStart epsilon s k) s ≡ twoBytes (twoAt s 0) ++ joined encode (tab k (frameAt epsilon s))
+  unfolding frameStart joined tab bytesAt
+  take-start zero h ok = front-two s bytes h ∙ sym (append-nil (twoBytes (twoAt s 0)))
+  take-start (suc k) h ok =
+      let at : ℕ = frameStart epsilon s k in
+      take-add at (frameEnd epsilon (drop at s)) s
+      ∙ ap₂ _++_ (take-start k h (λ i l. ok i (omega arith))) (sym (encode-frame k (ok k (omega arith))))
+      ∙ append-assoc (twoBytes (twoAt s 0)) (joined encode (tab k (frameAt epsilon s))) (encode (frameAt epsilon s k))
+      ∙ ap (λ (l : List ℕ). twoBytes (twoAt s 0) ++ l) (sym (joined-snoc k))
+
+pub start-within : (epsilon : ℕ) (s : List ℕ) (k : ℕ) → 2 ≤ length s → FormedUpTo epsilon s k → frameStart epsilon s k ≤ length s
+start-within epsilon s zero h ok = rw (start-zero epsilon s) h
+start-within epsilon s (suc k) h ok = start-inside epsilon s k (ok k (omega arith))
+
+-- a frame's end is near its start, whatever its bytes are
+pub end-small : (epsilon : ℕ) (t : List ℕ) → epsilon ≤ 16 → Bytes t → frameEnd epsilon t < 512
+unfolding frameEnd payloadCountAt width
+end-small epsilon t h b = omega (arith, b (6 + 2 * epsilon))

@@ -1,0 +1,16 @@
+-- What is written reads back the same.
+pub mod RoundTrip
+-- The frames of a queue by their index, and soundness frame by frame.
+pub mod Frames
+pub mod Judging
+-- Readings near v, the table of origins, the order of frames.
+pub mod Reading
+pub mod Seen
+pub mod Order
+-- Changes of the bytes; the tests and walks as the code makes them; what is due.
+pub mod Changes
+pub mod Testing
+pub mod Walks
+pub mod Cut
+-- For callers: a queue stays sound as frames are placed.
+pub mod Keep

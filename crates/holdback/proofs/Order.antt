@@ -1,0 +1,55 @@
+-- The order of frames: what is due is a prefix of a sound queue.
+-- Assumes nothing.
+use Prim.Native.Nat.{ℕ, zero, suc, _+_, _*_, _-_, _≤_, _<_}
+use native.Mathlib.Omega.{arith}
+use mathlib.Core.Path.{_≡_, refl, sym, ap, _∙_}
+use mathlib.Core.Bool.{Bool, true, false, not}
+use mathlib.Core.Logic.{_⊎_, inl, inr}
+use mathlib.Core.List.{List, [], _∷_, _++_, List·Memᴰ}
+use lib.Dec.{leb, eqb}
+use lib.ListN.{length, take, drop}
+use borrow.Author.Tests.{eqb-true, eq-eqb, leb-true}
+use Rattle.laws.specs.Lists.{every, select, leading, chained}
+use Rattle.laws.specs.Lex.{lexCompare, isLess}
+use Rattle.laws.proofs.Lists.{every-mem}
+use Rattle.laws.proofs.Lex.{isLess-lt, lex-lt-cases}
+use Rattle.laws.proofs.Sorted.{Sorted, sorted-of-chained, select-prefix, select-suffix}
+use Rattle.model.specs.Setup.{Setup}
+use Rattle.model.specs.Timestamp.{sum, near}
+use Rattle.model.specs.Frame.{Frame}
+use Rattle.model.specs.Order.{key, keyNear, compareFrames, before, due, dueNear, countsDown}
+use Rattle.model.specs.Holdback.{notOverdue}
+use Rattle.model.specs.Tick.{dueNow}
+
+-- a frame that comes before another is due no later
+due-first : (epsilon delta modulus v : ℕ) (f g : Frame) → before epsilon modulus v f g ≡ true → dueNear epsilon delta modulus v f ≤ dueNear epsilon delta modulus v g
+unfolding before compareFrames keyNear key dueNear due
+due-first epsilon delta modulus v f g h =
+    let a : ℕ = sum (near epsilon modulus v (f .stamp .r)) (f .stamp .c) in
+    let b : ℕ = sum (near epsilon modulus v (g .stamp .r)) (g .stamp .c) in
+    elim (lex-lt-cases a b (countsDown epsilon (f .stamp) ++ (f .station ∷ near epsilon modulus v (f .stamp .r) ∷ [])) (countsDown epsilon (g .stamp) ++ (g .station ∷ near epsilon modulus v (g .stamp .r) ∷ [])) (isLess-lt _ h)) [
+      | inl l ↦ omega arith
+      | inr e ↦ omega (arith, e .0)
+    ]
+
+module _ (s : Setup) (v : ℕ) (queue : List Frame) (ordered : chained (before (s .epsilon) (s .modulus) v) queue ≡ true) (kept : every (notOverdue s v) queue ≡ true) where
+  sorted : Sorted (keyNear (s .epsilon) (s .modulus) v) queue
+  unfolding before compareFrames
+  sorted = sorted-of-chained (keyNear (s .epsilon) (s .modulus) v) queue ordered
+
+  -- a frame before one that is due is due
+  due-down : (y z : Frame) → List·Memᴰ y queue → List·Memᴰ z queue → dueNow s v y ≡ true → before (s .epsilon) (s .modulus) v z y ≡ true → dueNow s v z ≡ true
+  unfolding dueNow notOverdue
+  due-down y z m n d l =
+      let e : dueNear (s .epsilon) (s .delta) (s .modulus) v y ≡ s .modulus = eqb-true (dueNear (s .epsilon) (s .delta) (s .modulus) v y) (s .modulus) d in
+      let o : s .modulus ≤ dueNear (s .epsilon) (s .delta) (s .modulus) v z = leb-true (s .modulus) (dueNear (s .epsilon) (s .delta) (s .modulus) v z) (every-mem (notOverdue s v) kept n) in
+      let f = due-first (s .epsilon) (s .delta) (s .modulus) v z y l in
+      eq-eqb (dueNear (s .epsilon) (s .delta) (s .modulus) v z) (s .modulus) (omega arith)
+
+  pub due-prefix : select (dueNow s v) queue ≡ take (leading (dueNow s v) queue) queue
+  unfolding before compareFrames
+  due-prefix = select-prefix (keyNear (s .epsilon) (s .modulus) v) (dueNow s v) queue sorted due-down
+
+  pub due-rest : select (λ f. not (dueNow s v f)) queue ≡ drop (leading (dueNow s v) queue) queue
+  unfolding before compareFrames
+  due-rest = select-suffix (keyNear (s .epsilon) (s .modulus) v) (dueNow s v) queue sorted due-down

@@ -1,0 +1,79 @@
+-- Reading a modular clock near v.
+-- Assumes nothing.
+use Prim.Native.Nat.{ℕ, _+_, _-_, _%_, _≤_, _<_}
+use native.Mathlib.Omega.{arith}
+use native.Mathlib.Nat.{mod-lt}
+use mathlib.Core.Path.{_≡_, refl, sym}
+use mathlib.Core.Logic.{_⊎_, inl, inr}
+use borrow.Author.Tests.{le-leb, lt-leb}
+use Rattle.laws.proofs.Numbers.{lt-or-ge, eq-in-window}
+use Rattle.model.specs.Timestamp.{ahead, near}
+
+-- the distance ahead is a remainder
+pub ahead-below : (B v r : ℕ) → 0 < B → ahead B v r < B
+unfolding ahead
+ahead-below B v r h = mod-lt (r + (B - v)) h
+
+-- a reading by the distance ahead
+pub near-ahead : (epsilon B v r : ℕ) → 1 ≤ epsilon → ahead B v r < epsilon → near epsilon B v r ≡ B + ahead B v r
+unfolding near
+near-ahead epsilon B v r e h =
+    let k : ahead B v r ≤ epsilon - 1 = omega arith in rw (le-leb (ahead B v r) (epsilon - 1) k)
+
+pub near-behind : (epsilon B v r : ℕ) → 1 ≤ epsilon → 0 < B → epsilon ≤ ahead B v r → near epsilon B v r ≡ ahead B v r
+unfolding near
+near-behind epsilon B v r e b h =
+    let k : epsilon - 1 < ahead B v r = omega arith in
+    let m : ahead B v r < B = ahead-below B v r b in
+    rw (lt-leb (ahead B v r) (epsilon - 1) k) (omega arith)
+
+-- a clock u ahead is read at B + u, one further ahead at u
+data Reads (epsilon B u reading : ℕ) : Type 0 where
+  early : u < epsilon → reading ≡ B + u → Reads epsilon B u reading
+  late : epsilon ≤ u → reading ≡ u → Reads epsilon B u reading
+
+near-reads : (epsilon B v r : ℕ) → 1 ≤ epsilon → 0 < B → Reads epsilon B (ahead B v r) (near epsilon B v r)
+near-reads epsilon B v r e b =
+    elim (lt-or-ge (ahead B v r) epsilon) [
+      | inl h ↦ early h (near-ahead epsilon B v r e h)
+      | inr h ↦ late h (near-behind epsilon B v r e b h)
+    ]
+
+-- every reading lies in one window of B clocks
+pub near-low : (epsilon B v r : ℕ) → 1 ≤ epsilon → epsilon < B → epsilon ≤ near epsilon B v r
+near-low epsilon B v r e b = go (near-reads epsilon B v r e (omega arith))
+  where
+    go : Reads epsilon B (ahead B v r) (near epsilon B v r) → epsilon ≤ near epsilon B v r
+    go (early h q) = omega arith
+    go (late h q) = omega arith
+
+pub near-high : (epsilon B v r : ℕ) → 1 ≤ epsilon → epsilon < B → near epsilon B v r < B + epsilon
+near-high epsilon B v r e b = go (near-reads epsilon B v r e (omega arith)) (ahead-below B v r (omega arith))
+  where
+    go : Reads epsilon B (ahead B v r) (near epsilon B v r) → ahead B v r < B → near epsilon B v r < B + epsilon
+    go (early h q) m = omega arith
+    go (late h q) m = omega arith
+
+-- readings tell modular clocks apart
+pub near-injective : (epsilon B v r r′ : ℕ) → 1 ≤ epsilon → epsilon < B → v < B → r < B → r′ < B → near epsilon B v r ≡ near epsilon B v r′ → r ≡ r′
+unfolding ahead
+near-injective epsilon B v r r′ e b hv hr hr′ equal =
+    let same : ahead B v r ≡ ahead B v r′ =
+    go (near-reads epsilon B v r e (omega arith)) (near-reads epsilon B v r′ e (omega arith))
+    (ahead-below B v r (omega arith)) (ahead-below B v r′ (omega arith)) in
+    elim (lt-or-ge r r′) [
+      | inl k ↦
+          let w : r + (B - v) ≡ r′ + (B - v) = eq-in-window B (r + (B - v)) (r′ + (B - v)) (omega arith) (omega arith) same in
+          omega arith
+      | inr k ↦
+          let w : r′ + (B - v) ≡ r + (B - v) = eq-in-window B (r′ + (B - v)) (r + (B - v)) (omega arith) (omega arith) (sym same) in
+          omega arith
+    ]
+  where
+    go :
+        Reads epsilon B (ahead B v r) (near epsilon B v r) → Reads epsilon B (ahead B v r′) (near epsilon B v r′)
+        → ahead B v r < B → ahead B v r′ < B → ahead B v r ≡ ahead B v r′
+    go (early h q) (early h′ q′) m m′ = omega arith
+    go (early h q) (late h′ q′) m m′ = omega arith
+    go (late h q) (early h′ q′) m m′ = omega arith
+    go (late h q) (late h′ q′) m m′ = omega arith

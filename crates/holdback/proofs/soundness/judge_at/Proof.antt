@@ -1,0 +1,169 @@
+use native.Mathlib.Omega.{arith}
+use Rattle.timestamp.specs.Views.{setupOf}
+use Rattle.timestamp.proofs.InLimits.{limits-of}
+use Prim.Native.Nat.{_-_}
+use lib.ListN.{length, take, drop}
+use Rattle.holdback.proofs.Frames.{end-small, bytes-take, bytes-drop}
+use Rattle.holdback.proofs.Walks.{at-inside, judged-cut, judged-unfit, fit-of, neighbours, judged-unordered, fit-window, table-long, judged-repeated, judged-sound}
+use borrow.Author.Needs.{needs}
+use Rattle.holdback.proofs.soundness.judge_at.Statement.{statement}
+use Rattle.holdback.proofs.soundness.judge_at.Tie as tie
+use Rattle.holdback.proofs.soundness.judge_at.Reads as reads
+use Rattle.holdback.proofs.soundness.judge_at.Lts as lts
+use Rattle.frame.proofs.frame_end.Reads as frame-end-reads
+use Rattle.holdback.proofs.origins.repeats.Reads as repeats-reads
+use Rattle.holdback.proofs.soundness.follows.Reads as follows-reads
+use Rattle.holdback.proofs.test.fits.Reads as fits-reads
+
+-- src/soundness.rt:46:38
+cast-frame-end : tie.Need-cast-frame-end
+cast-frame-end c = search needs
+
+-- src/soundness.rt:46:58
+sub-frame-end : tie.Need-sub-frame-end
+sub-frame-end c = at-inside (c .before .before .before .pre .1)
+
+-- src/soundness.rt:46:58
+part-frame-end-start : tie.Need-part-frame-end-start
+part-frame-end-start c =
+    let h = at-inside (c .before .before .before .pre .1) in
+    omega arith
+
+-- src/soundness.rt:46:58
+part-frame-end-end : tie.Need-part-frame-end-end
+part-frame-end-end c = search needs
+
+-- src/soundness.rt:46:21
+frame-end-requires : tie.Need-frame-end-requires
+frame-end-requires c κs =
+    let start = c .before .before .before .before in
+    let limits = limits-of (setupOf (start .args .s)) (start .pre .0 .0) in
+    limits .epsilon-most
+
+-- src/soundness.rt:46:16
+add-next : tie.Need-add-next
+add-next c =
+    let start = c .before .before .before .before .before in
+    let limits = limits-of (setupOf (start .args .s)) (start .pre .0 .0) in
+    let h = at-inside (start .pre .1) in
+    let b = start .args .buf .now in
+    let at = start .args .at in
+    let small = end-small (start .args .s .epsilon) (take (length b - at) (drop at b)) (limits .epsilon-most) (bytes-take (length b - at) (drop at b) (bytes-drop at b (λ i. omega (arith, c .before .before .before .before .shared-slice-known .given i)))) in
+    omega (arith, c .frame-end .ensures)
+
+-- src/soundness.rt:48:9
+returns : tie.Need-returns
+returns c =
+    let start = c .before .before .before .before .before .before in
+    judged-cut (start .pre .1) (c .before .frame-end .result) (c .before .frame-end .ensures) (c .if1 .taken)
+
+-- src/soundness.rt:50:20
+sub-fits : tie.Need-sub-fits
+sub-fits c = search needs
+
+-- src/soundness.rt:50:20
+part-fits-start : tie.Need-part-fits-start
+part-fits-start c = search needs
+
+-- src/soundness.rt:50:20
+part-fits-end : tie.Need-part-fits-end
+part-fits-end c = search needs
+
+-- src/soundness.rt:50:9
+fits-requires : tie.Need-fits-requires
+fits-requires c κs = search needs
+
+-- src/soundness.rt:51:9
+returns-2 : tie.Need-returns-2
+returns-2 c =
+    let start = c .before .before .before .before .before .before .before .before .before in
+    judged-unfit (start .pre .1) (c .before .before .before .before .frame-end .result) (c .before .before .before .before .frame-end .ensures) (c .before .fits2 .result) (c .before .fits2 .ensures) (c .if2 .taken)
+
+-- src/soundness.rt:53:9
+follows-requires : tie.Need-follows-requires
+follows-requires c κs =
+    let start = c .before .before .before .before .before .before .before .before .before in
+    let walk = start .pre .1 in
+    let size = c .before .before .before .before .frame-end .result in
+    let ends = c .before .before .before .before .frame-end .ensures in
+    let fit = fit-of walk size ends (c .before .fits2 .result) (c .before .fits2 .ensures) (c .if2 .left) in
+    (start .pre .0, neighbours walk size ends fit)
+
+-- src/soundness.rt:54:9
+returns-3 : tie.Need-returns-3
+returns-3 c =
+    let start = c .before .before .before .before .before .before .before .before .before .before .before in
+    let walk = start .pre .1 in
+    let size = c .before .before .before .before .before .before .frame-end .result in
+    let ends = c .before .before .before .before .before .before .frame-end .ensures in
+    let fit = fit-of walk size ends (c .before .before .before .fits2 .result) (c .before .before .before .fits2 .ensures) (c .before .before .if2 .left) in
+    judged-unordered walk size ends fit (c .before .follows .result) (c .before .follows .ensures) (c .if3 .taken)
+
+-- src/soundness.rt:56:22
+sub-repeats : tie.Need-sub-repeats
+sub-repeats c = search needs
+
+-- src/soundness.rt:56:22
+part-repeats-start : tie.Need-part-repeats-start
+part-repeats-start c = search needs
+
+-- src/soundness.rt:56:22
+part-repeats-end : tie.Need-part-repeats-end
+part-repeats-end c = search needs
+
+-- src/soundness.rt:56:8
+repeats-requires : tie.Need-repeats-requires
+repeats-requires c κs =
+    let start = c .before .before .before .before .before .before .before .before .before .before .before .before in
+    let walk = start .pre .1 in
+    let size = c .before .before .before .before .before .before .before .frame-end .result in
+    let ends = c .before .before .before .before .before .before .before .frame-end .ensures in
+    let fit = fit-of walk size ends (c .before .before .before .before .fits2 .result) (c .before .before .before .before .fits2 .ensures) (c .before .before .before .if2 .left) in
+    (start .pre .0, (fit-window walk size ends fit, table-long walk))
+
+-- src/soundness.rt:57:9
+returns-4 : tie.Need-returns-4
+returns-4 c =
+    let start = c .before .before .before .before .before .before .before .before .before .before .before .before .before .before in
+    let walk = start .pre .1 in
+    let size = c .before .before .before .before .before .before .before .before .before .frame-end .result in
+    let ends = c .before .before .before .before .before .before .before .before .before .frame-end .ensures in
+    let fit = fit-of walk size ends (c .before .before .before .before .before .before .fits2 .result) (c .before .before .before .before .before .before .fits2 .ensures) (c .before .before .before .before .before .if2 .left) in
+    let limits = limits-of (setupOf (start .args .s)) (start .pre .0 .0) in
+    judged-repeated walk size ends fit limits (start .pre .0 .1) (c .before .repeats .result) (c .before .repeats .ensures) (c .if4 .taken)
+
+-- src/soundness.rt:41:1
+returns-5 : tie.Need-returns-5
+returns-5 c =
+    let start = c .before .before .before .before .before .before .before .before .before .before .before .before .before .before in
+    let walk = start .pre .1 in
+    let size = c .before .before .before .before .before .before .before .before .before .frame-end .result in
+    let ends = c .before .before .before .before .before .before .before .before .before .frame-end .ensures in
+    let fit = fit-of walk size ends (c .before .before .before .before .before .before .fits2 .result) (c .before .before .before .before .before .before .fits2 .ensures) (c .before .before .before .before .before .if2 .left) in
+    let limits = limits-of (setupOf (start .args .s)) (start .pre .0 .0) in
+    judged-sound walk size ends fit limits (start .pre .0 .1) (c .before .before .before .before .follows .result) (c .before .repeats .result) (c .before .before .before .before .follows .ensures) (c .before .before .before .if3 .left) (c .before .repeats .ensures) (c .if4 .left)
+
+pub judge-at-spec : {M : Type 1} → statement M
+judge-at-spec =
+    tie.close
+    (tie.spec
+    cast-frame-end
+    sub-frame-end
+    part-frame-end-start
+    part-frame-end-end
+    frame-end-requires
+    add-next
+    returns
+    sub-fits
+    part-fits-start
+    part-fits-end
+    fits-requires
+    returns-2
+    follows-requires
+    returns-3
+    sub-repeats
+    part-repeats-start
+    part-repeats-end
+    repeats-requires
+    returns-4
+    returns-5)

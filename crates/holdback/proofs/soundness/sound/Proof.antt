@@ -1,0 +1,95 @@
+use Prim.Native.Nat.{_<_}
+use Rattle.model.specs.Setup.{depth}
+use Rattle.model.specs.Frame.{twoAt}
+use native.Mathlib.Omega.{arith}
+use Rattle.timestamp.specs.Views.{setupOf}
+use Rattle.timestamp.proofs.InLimits.{limits-of}
+use mathlib.Core.Path.{refl}
+use lib.ListN.{length}
+use Rattle.holdback.proofs.Seen.{seen-cleared}
+use Rattle.holdback.proofs.Walks.{opened-no, too-many}
+use borrow.Author.Needs.{needs}
+use Rattle.holdback.proofs.soundness.sound.Statement.{statement}
+use Rattle.holdback.proofs.soundness.sound.Tie as tie
+use Rattle.holdback.proofs.soundness.sound.Reads as reads
+use Rattle.holdback.proofs.soundness.sound.Lts as lts
+use Rattle.frame.proofs.two_at.Reads as two-at-reads
+use Rattle.holdback.proofs.soundness.walk_frames.Reads as walk-frames-reads
+use Rattle.splice.proofs.clear.Reads as clear-reads
+use Rattle.timestamp.proofs.depth.Reads as depth-reads
+
+-- src/soundness.rt:103:5
+clear-requires : tie.Need-clear-requires
+clear-requires c κs = search needs
+
+-- src/soundness.rt:104:9
+two-at-requires : tie.Need-two-at-requires
+two-at-requires c κs = search needs
+
+-- src/soundness.rt:105:14
+cast-depth : tie.Need-cast-depth
+cast-depth c = search needs
+
+-- src/soundness.rt:105:28
+cast-depth-2 : tie.Need-cast-depth-2
+cast-depth-2 c = search needs
+
+-- src/soundness.rt:105:48
+cast-depth-3 : tie.Need-cast-depth-3
+cast-depth-3 c = search needs
+
+-- src/soundness.rt:105:8
+depth-requires : tie.Need-depth-requires
+depth-requires c κs =
+    let start = c .before .before .before .before .before .before .before .before .before .before in
+    let limits = limits-of (setupOf (start .args .s)) (start .pre .0 .0) in
+    omega arith
+
+-- src/soundness.rt:106:9
+same-length : tie.Need-same-length
+same-length c = search needs
+
+-- src/soundness.rt:106:9
+returns : tie.Need-returns
+returns c =
+    let start = c .before .before .before .before .before .before .before .before .before .before .before .before in
+    let many : depth (start .args .s .n) (start .args .s .epsilon) (start .args .s .delta) < twoAt (start .args .buf .now) 0 = omega (arith, c .before .before .before .before .before .two-at .ensures, c .before .depth .ensures, c .if1 .taken) in
+    opened-no (too-many (setupOf (start .args .s)) (start .args .v) (start .args .buf .now) many) (seen-cleared (setupOf (start .args .s)) (start .args .v) (start .args .seen .now) _ (length (start .args .seen .now)) (start .pre .1 .1) refl (c .before .before .before .before .before .before .before .before .clear .ensures))
+
+-- src/soundness.rt:112:5
+walk-frames-requires : tie.Need-walk-frames-requires
+walk-frames-requires c κs =
+    let start = c .before .before .before .before .before .before .before .before .before .before .before .before .before in
+    (
+      start .pre .0,
+      record {
+        two = start .pre .1 .0;
+        counted = c .before .before .before .before .before .before .two-at .ensures;
+        few = omega (arith, c .before .before .depth .ensures, c .before .if1 .left);
+        empty = seen-cleared (setupOf (start .args .s)) (start .args .v) (start .args .seen .now) _ (length (start .args .seen .now)) (start .pre .1 .1) refl (c .before .before .before .before .before .before .before .before .before .clear .ensures);
+      },
+    )
+
+-- src/soundness.rt:97:1
+same-length-2 : tie.Need-same-length-2
+same-length-2 c = search needs
+
+-- src/soundness.rt:97:1
+returns-2 : tie.Need-returns-2
+returns-2 c = search needs
+
+pub sound-spec : {M : Type 1} → statement M
+sound-spec =
+    tie.close
+    (tie.spec
+    clear-requires
+    two-at-requires
+    cast-depth
+    cast-depth-2
+    cast-depth-3
+    depth-requires
+    same-length
+    returns
+    walk-frames-requires
+    same-length-2
+    returns-2)

@@ -1,0 +1,38 @@
+use native.Mathlib.Omega.{arith}
+use Rattle.timestamp.specs.Views.{setupOf}
+use Rattle.timestamp.proofs.InLimits.{limits-of}
+use Rattle.holdback.proofs.RoundTrip.{passing}
+use Rattle.holdback.proofs.Testing.{summed}
+use borrow.Author.Needs.{needs}
+use Rattle.holdback.proofs.test.sum_of.Statement.{statement}
+use Rattle.holdback.proofs.test.sum_of.Tie as tie
+use Rattle.holdback.proofs.test.sum_of.Reads as reads
+use Rattle.holdback.proofs.test.sum_of.Lts as lts
+use Rattle.frame.proofs.c_of.Reads as c-of-reads
+use Rattle.holdback.proofs.test.reading_of.Reads as reading-of-reads
+
+-- src/test.rt:35:5
+reading-of-requires : tie.Need-reading-of-requires
+reading-of-requires c κs = let start = c .before in (start .pre .0, passing (setupOf (start .args .s)) (start .args .frame .now) (start .pre .1) .r-below)
+
+-- src/test.rt:35:31
+c-of-requires : tie.Need-c-of-requires
+c-of-requires c κs = search needs
+
+-- src/test.rt:35:5
+add-result : tie.Need-add-result
+add-result c =
+    let start = c .before .before .before in
+    let limits = limits-of (setupOf (start .args .s)) (start .pre .0 .0) in
+    let total = summed (setupOf (start .args .s)) (start .args .v) (start .args .frame .now) (c .before .reading-of .result) (c .c-of .result) limits (start .pre .1) (c .before .reading-of .ensures) (c .c-of .ensures (start .args .s .epsilon)) in
+    omega (arith, total .small)
+
+-- src/test.rt:30:1
+returns : tie.Need-returns
+returns c =
+    let start = c .before .before .before in
+    let limits = limits-of (setupOf (start .args .s)) (start .pre .0 .0) in
+    summed (setupOf (start .args .s)) (start .args .v) (start .args .frame .now) (c .before .reading-of .result) (c .c-of .result) limits (start .pre .1) (c .before .reading-of .ensures) (c .c-of .ensures (start .args .s .epsilon))
+
+pub sum-of-spec : {M : Type 1} → statement M
+sum-of-spec = tie.close (tie.spec reading-of-requires c-of-requires add-result returns)

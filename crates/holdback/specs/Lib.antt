@@ -1,0 +1,4 @@
+-- `Queue` says where the frames of a queue stand, `Sound` what soundness asks of each of them, `Seen` what a table of their origins holds.
+pub mod Queue
+pub mod Sound
+pub mod Seen

@@ -1,0 +1,44 @@
+-- Where the frames of a hold-back queue (01: the shelf) stand in its bytes, one by one.
+-- Assumes nothing.
+use Prim.Native.Nat.{ℕ, zero, suc, _+_, _≤_}
+use mathlib.Core.Path.{_≡_}
+use mathlib.Core.Bool.{true}
+use mathlib.Core.List.{List}
+use lib.ListN.{length, take, drop}
+use Rattle.laws.specs.Lists.{every}
+use Rattle.model.specs.Frame.{Frame, twoAt, wellFormed, decode, frameEnd}
+use Rattle.model.specs.Holdback.{heldBytes}
+use Rattle.model.specs.Setup.{Setup}
+use Rattle.model.specs.Judge.{readingOf}
+use Rattle.timestamp.specs.declared.ordering.Rank.{Rank}
+
+-- where frame k starts: past the two-byte count and the k frames before it, "each ending where its counts say"
+unfoldable pub frameStart : ℕ → List ℕ → ℕ → ℕ
+frameStart epsilon s zero = 2
+frameStart epsilon s (suc k) = frameStart epsilon s k + frameEnd epsilon (drop (frameStart epsilon s k) s)
+
+-- the bytes of frame k
+unfoldable pub bytesAt : ℕ → List ℕ → ℕ → List ℕ
+bytesAt epsilon s k = take (frameEnd epsilon (drop (frameStart epsilon s k) s)) (drop (frameStart epsilon s k) s)
+
+-- what they hold
+unfoldable pub frameAt : ℕ → List ℕ → ℕ → Frame
+frameAt epsilon s k = decode epsilon (bytesAt epsilon s k)
+
+-- what a change of a queue is told of it: each frame is well-formed, the number of frames and where they end, and frame `index`, or the end, and where it starts
+pub record Figures (epsilon : ℕ) (queue : List ℕ) (count end index at : ℕ) : Type 0 where
+  pub formed : every (wellFormed epsilon) (heldBytes epsilon queue) ≡ true
+  pub two : 2 ≤ length queue
+  pub counted : count ≡ twoAt queue 0
+  pub ends : end ≡ frameStart epsilon queue count
+  pub inside : index ≤ count
+  pub starts : at ≡ frameStart epsilon queue index
+
+-- a place in a queue: so many frames stand before it, and where it stands
+pub record Stands (epsilon : ℕ) (queue : List ℕ) (place index at : ℕ) : Type 0 where
+  pub frames : index ≡ place
+  pub starts : at ≡ frameStart epsilon queue index
+
+-- what the order looks at beside the counts, of a frame with its r read near v
+abbrev pub rankOf : Setup → ℕ → Frame → Rank
+rankOf s v f = record { reading = readingOf s v f; c = f .stamp .c; station = f .station }

@@ -1,0 +1,73 @@
+-- What 01's soundness of a shelf asks of one frame, given the frames before it.
+-- Assumes nothing.
+use Prim.Native.Nat.{ℕ, zero, suc, _+_, _-_, _≤_, _<_}
+use mathlib.Core.Path.{_≡_}
+use mathlib.Core.Bool.{Bool, true, _&&_, not, cond}
+use mathlib.Core.List.{List, []}
+use lib.ListN.{length}
+use Rattle.laws.specs.Lists.{tab, any}
+use Rattle.model.specs.Setup.{Setup, depth}
+use Rattle.model.specs.Frame.{Frame, twoAt, decode}
+use Rattle.model.specs.Judge.{readingOf}
+use Rattle.model.specs.Order.{before}
+use Rattle.model.specs.Holdback.{held, passes, notEarly, notOverdue, sameOrigin, soundHoldback}
+use Rattle.holdback.specs.Queue.{frameStart, bytesAt, frameAt}
+use Rattle.holdback.specs.Seen.{seenTable}
+
+-- of a frame alone: it passes 10 to 12, is not early and not overdue
+unfoldable pub fits : Setup → ℕ → List ℕ → Bool
+fits s v bytes =
+    passes s bytes && (notEarly s v (decode (s .epsilon) bytes) && notOverdue s v (decode (s .epsilon) bytes))
+
+-- "strictly in order": frame k of a queue comes after the one before it
+unfoldable pub follows : Setup → ℕ → List ℕ → ℕ → Bool
+follows s v queue zero = true
+follows s v queue (suc k) =
+    before (s .epsilon) (s .modulus) v (frameAt (s .epsilon) queue k) (frameAt (s .epsilon) queue (suc k))
+
+-- "no station and r twice": none of the frames before it has its station and r
+unfoldable pub isNew : Setup → List ℕ → ℕ → Bool
+isNew s queue k = not (any (sameOrigin (frameAt (s .epsilon) queue k)) (tab k (frameAt (s .epsilon) queue)))
+
+-- all that is asked of frame k
+unfoldable pub frameSound : Setup → ℕ → List ℕ → ℕ → Bool
+frameSound s v queue k = fits s v (bytesAt (s .epsilon) queue k) && (follows s v queue k && isNew s queue k)
+
+-- r + c of a frame, with r read near v
+pub record Summed (s : Setup) (v : ℕ) (f : Frame) (r : ℕ) : Type 0 where
+  pub is-sum : r ≡ readingOf s v f + f .stamp .c
+  pub small : r < 131072
+
+-- a walk over a queue that has found its first i frames sound: frame i starts at `at`, the one before it at `prev`, and the table has the origins of the frames so far
+pub record Walking (s : Setup) (v : ℕ) (queue table : List ℕ) (i prev at : ℕ) : Type 0 where
+  pub two : 2 ≤ length queue
+  pub starts : at ≡ frameStart (s .epsilon) queue i
+  pub previous : prev ≡ frameStart (s .epsilon) queue (i - 1)
+  pub each : (k : ℕ) → k < i → frameSound s v queue k ≡ true
+  pub table-is : table ≡ seenTable s v (tab i (frameAt (s .epsilon) queue))
+
+-- where it begins: the count is in its bound, and the table is empty
+pub record Starting (s : Setup) (v : ℕ) (queue table : List ℕ) (count : ℕ) : Type 0 where
+  pub two : 2 ≤ length queue
+  pub counted : count ≡ twoAt queue 0
+  pub few : count ≤ depth (s .n) (s .epsilon) (s .delta)
+  pub empty : table ≡ seenTable s v []
+
+-- frame i, at `at`, and the one before it, at `prev`, pass 10 to 12
+pub record Between (s : Setup) (v : ℕ) (queue : List ℕ) (i prev at next : ℕ) : Type 0 where
+  pub previous : prev ≡ frameStart (s .epsilon) queue (i - 1)
+  pub starts : at ≡ frameStart (s .epsilon) queue i
+  pub ends : next ≡ frameStart (s .epsilon) queue (suc i)
+  pub passed-before : (k : ℕ) → k < i → passes s (bytesAt (s .epsilon) queue k) ≡ true
+  pub passed : passes s (bytesAt (s .epsilon) queue i) ≡ true
+
+-- 01, tick 1: the frames with which a tick starts: "An unsound shelf is emptied"
+unfoldable pub openedQueue : Setup → ℕ → List ℕ → List Frame
+openedQueue s v queue = cond (soundHoldback s v queue) (held (s .epsilon) queue) []
+
+-- what the walk over a whole queue answers, and the table that it leaves
+pub record Opened (s : Setup) (v : ℕ) (queue : List ℕ) (sound : Bool) (count stop : ℕ) (table : List ℕ) : Type 0 where
+  pub sound-is : sound ≡ soundHoldback s v queue
+  pub count-is : count ≡ cond (soundHoldback s v queue) (twoAt queue 0) 0
+  pub stop-is : stop ≡ cond (soundHoldback s v queue) (frameStart (s .epsilon) queue (twoAt queue 0)) 2
+  pub table-is : table ≡ seenTable s v (openedQueue s v queue)

@@ -1,0 +1,70 @@
+// Changes of a hold-back queue in its buffer: emptying, placing a frame, cutting off a prefix.
+ghost use mathlib.Core.Path.{_≡_};
+ghost use mathlib.Core.Bool.{true};
+ghost use mathlib.Core.List.{[]};
+ghost use Prim.Native.Nat.{_+_, _≤_, _<_};
+ghost use lib.ListN.{length, take, drop};
+ghost use Rattle.laws.specs.Lists.{overlay, insertAt};
+ghost use Rattle.model.specs.Frame.{decode, wellFormed};
+ghost use Rattle.model.specs.Holdback.{held, encodeFrames, encodeHoldback};
+ghost use Rattle.holdback.specs.Queue.{Figures};
+
+// A place in a queue: the frames before it, and where it stands.
+pub struct Place {
+    pub index: usize,
+    pub at: usize,
+}
+
+// 01, tick 1: "An unsound shelf is emptied".
+pub fn empty(buf: &mut [u8])
+    requires { ⌜ 2 ≤ length (now buf) ⌝ }
+    ensures { λ _. ⌜ now (buf .exit) ≡ encodeHoldback (length (now (buf .entry))) [] ⌝ }
+{
+    let len = buf.len();
+    splice::clear(buf, 0, len);
+}
+
+// 01, tick 3: "A taken frame goes on the shelf", at its place. Of the bytes behind the frames those that are not needed stay
+// as they were.
+pub fn put(epsilon: usize, buf: &mut [u8], count: usize, end: usize, place: Place, frame: &[u8])
+    requires { ⌜ Figures epsilon (now buf) count end (place .index) (place .at) ⌝ }
+    requires { ⌜ (wellFormed epsilon (now frame) ≡ true) × ((end + length (now frame) ≤ length (now buf)) × (count < 65535)) ⌝ }
+    ensures {
+        λ _. ⌜ now (buf .exit)
+        ≡ overlay (encodeFrames (insertAt (place .index) (decode epsilon (now (frame .entry))) (held epsilon (now (buf .entry))))) (now (buf .entry)) ⌝
+    }
+{
+    let at = place.at;
+    splice::insert(buf, end, at, frame);
+    splice::put_u16(buf, 0, count + 1);
+}
+
+// 01, tick 6: the first frames of a queue are handed out: their number and their bytes.
+pub fn write_prefix(epsilon: usize, buf: &[u8], count: usize, end: usize, prefix: Place, delivery: &mut [u8])
+    requires { ⌜ Figures epsilon (now buf) count end (prefix .index) (prefix .at) ⌝ }
+    requires { ⌜ (length (now buf) ≤ length (now delivery)) × (count < 65536) ⌝ }
+    ensures {
+        λ _. ⌜ now (delivery .exit)
+        ≡ overlay (encodeFrames (take (prefix .index) (held epsilon (now (buf .entry))))) (now (delivery .entry)) ⌝
+    }
+{
+    let at = prefix.at;
+    splice::put_u16(delivery, 0, prefix.index);
+    splice::copy_into(delivery, 2, &buf[2..at]);
+}
+
+// 01, tick 6: they leave the shelf; the others move to the front, "then zeros".
+pub fn cut_prefix(epsilon: usize, buf: &mut [u8], count: usize, end: usize, prefix: Place)
+    requires { ⌜ Figures epsilon (now buf) count end (prefix .index) (prefix .at) ⌝ }
+    requires { ⌜ count < 65536 ⌝ }
+    ensures {
+        λ _. ⌜ now (buf .exit)
+        ≡ encodeHoldback (length (now (buf .entry))) (drop (prefix .index) (held epsilon (now (buf .entry)))) ⌝
+    }
+{
+    let at = prefix.at;
+    let len = buf.len();
+    splice::move_left(buf, at, 2, end - at);
+    splice::clear(buf, 2 + (end - at), len);
+    splice::put_u16(buf, 0, count - prefix.index);
+}

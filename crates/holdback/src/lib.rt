@@ -1,0 +1,17 @@
+// 01: the shelf, here the hold-back queue, in a lent buffer: a two-byte count, the frames in delivery order, each ending
+// where its counts say, and then bytes that are ignored until the tick's end writes zeros there.
+mod change;
+mod origins;
+mod search;
+mod soundness;
+mod test;
+
+pub use change::Place;
+pub use change::empty;
+pub use change::put;
+pub use origins::mark;
+pub use origins::repeats;
+pub use search::cut_due;
+pub use search::place_for;
+pub use soundness::Walk;
+pub use soundness::sound;

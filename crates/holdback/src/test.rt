@@ -1,0 +1,92 @@
+// The tests of one frame, and of two.
+use timestamp::Order;
+use timestamp::Rank;
+use timestamp::Setup;
+use timestamp::compare_ranked;
+use timestamp::near;
+ghost use mathlib.Core.Path.{_≡_};
+ghost use mathlib.Core.Bool.{true};
+ghost use Prim.Native.Nat.{_<_};
+ghost use Rattle.model.specs.Setup.{inLimits};
+ghost use Rattle.model.specs.Frame.{decode};
+ghost use Rattle.model.specs.Judge.{readingOf};
+ghost use Rattle.model.specs.Order.{before};
+ghost use Rattle.model.specs.Holdback.{passes};
+ghost use Rattle.model.specs.Tick.{dueNow};
+ghost use Rattle.timestamp.specs.Views.{setupOf};
+ghost use Rattle.holdback.specs.Queue.{rankOf};
+ghost use Rattle.holdback.specs.Sound.{fits, Summed};
+
+// The reading of a frame's r near v.
+pub fn reading_of(s: Setup, v: usize, frame: &[u8]) -> usize
+    requires { ⌜ (inLimits (setupOf s) ≡ true) × (v < s .modulus) ⌝ }
+    requires { ⌜ decode (s .epsilon) (now frame) .stamp .r < s .modulus ⌝ }
+    ensures { λ r. ⌜ r ≡ readingOf (setupOf s) v (decode (s .epsilon) (now (frame .entry))) ⌝ }
+{
+    near(s.epsilon as usize, s.modulus as usize, v, frame::r_of(frame))
+}
+
+// Its sum, r + c, with r read near v.
+fn sum_of(s: Setup, v: usize, frame: &[u8]) -> usize
+    requires { ⌜ (inLimits (setupOf s) ≡ true) × (v < s .modulus) ⌝ }
+    requires { ⌜ passes (setupOf s) (now frame) ≡ true ⌝ }
+    ensures { λ r. ⌜ Summed (setupOf s) v (decode (s .epsilon) (now (frame .entry))) r ⌝ }
+{
+    reading_of(s, v, frame) + frame::c_of(frame)
+}
+
+// What is asked of a frame alone: 10 to 12, not early, not overdue.
+pub fn fits(s: Setup, v: usize, frame: &[u8]) -> bool
+    requires { ⌜ (inLimits (setupOf s) ≡ true) × (v < s .modulus) ⌝ }
+    ensures { λ b. ⌜ b ≡ fits (setupOf s) v (now (frame .entry)) ⌝ }
+{
+    if frame::check(s, frame) != 0 {
+        return false;
+    }
+    let sum = sum_of(s, v, frame);
+    let modulus = s.modulus as usize;
+    let epsilon = s.epsilon as usize;
+    if modulus + (epsilon - 1) < sum {
+        return false;
+    }
+    modulus <= sum + s.delta as usize + epsilon
+}
+
+// 01, tick 6: "whose sum + δ + ε (its due clock) equals v", which reads B.
+pub fn is_due(s: Setup, v: usize, frame: &[u8]) -> bool
+    requires { ⌜ (inLimits (setupOf s) ≡ true) × (v < s .modulus) ⌝ }
+    requires { ⌜ passes (setupOf s) (now frame) ≡ true ⌝ }
+    ensures { λ b. ⌜ b ≡ dueNow (setupOf s) v (decode (s .epsilon) (now (frame .entry))) ⌝ }
+{
+    sum_of(s, v, frame) + s.delta as usize + s.epsilon as usize == s.modulus as usize
+}
+
+// What the order looks at beside the counts.
+fn rank_of(s: Setup, v: usize, frame: &[u8]) -> Rank
+    requires { ⌜ (inLimits (setupOf s) ≡ true) × (v < s .modulus) ⌝ }
+    requires { ⌜ decode (s .epsilon) (now frame) .stamp .r < s .modulus ⌝ }
+    ensures { λ r. ⌜ r ≡ rankOf (setupOf s) v (decode (s .epsilon) (now (frame .entry))) ⌝ }
+{
+    Rank {
+        reading: reading_of(s, v, frame),
+        c: frame::c_of(frame),
+        station: frame::station_of(frame),
+    }
+}
+
+// The first of two frames comes before the second.
+pub fn comes_before(s: Setup, v: usize, f: &[u8], g: &[u8]) -> bool
+    requires { ⌜ (inLimits (setupOf s) ≡ true) × (v < s .modulus) ⌝ }
+    requires { ⌜ (passes (setupOf s) (now f) ≡ true) × (passes (setupOf s) (now g) ≡ true) ⌝ }
+    ensures { λ b. ⌜ b ≡ before (s .epsilon) (s .modulus) v (decode (s .epsilon) (now (f .entry))) (decode (s .epsilon) (now (g .entry))) ⌝ }
+{
+    let epsilon = s.epsilon as usize;
+    let end = 6 + 2 * epsilon;
+    let rank_f = rank_of(s, v, f);
+    let rank_g = rank_of(s, v, g);
+    let order = compare_ranked(epsilon, rank_f, &f[6..end], rank_g, &g[6..end]);
+    let Order::First = order else {
+        return false;
+    };
+    true
+}
