@@ -1,8 +1,8 @@
 -- The walk over a batch by positions gives the batch's entries. Assumes nothing.
 use mathlib.Core.Path.{_≡_, refl, sym, ap, _∙_}
-use mathlib.Core.Bool.{Bool, true, false, _&&_}
+use mathlib.Core.Bool.{true, false, _&&_}
 use mathlib.Core.List.{List, [], _∷_}
-use mathlib.Core.Logic.{_⊎_, inl, inr}
+use mathlib.Core.Logic.{inl, inr}
 use Prim.Native.Nat.{ℕ, zero, suc, _+_, _-_, _≤_, _<_, min}
 use native.Mathlib.Nat.{min-eq-left, eq-or-lt-of-le}
 use native.Mathlib.Numerals.{add-one}
@@ -13,7 +13,8 @@ use lib.Seq.{drop-cons, drop-drop, drop-length, take-all}
 use borrow.Author.Tests.{le-leb, lt-leb, eq-eqb, ne-eqb, leb-true}
 use Rattle.laws.proofs.Numbers.{lt-or-ge, clash, and-left, and-right}
 use Rattle.model.specs.Batch.{endsAfter, exactBatch, entriesOf, batchEntries}
-use Rattle.batch.specs.Walk.{countOf, firstAt, entryAt, nextAt, walked}
+use Rattle.batch.specs.Walk.{countOf, firstAt, entryAt, nextAt, stepAt, walked}
+use Rattle.batch.specs.declared.Step.{Step}
 
 -- ---- a batch of no bytes, and one with a count
 
@@ -97,6 +98,48 @@ module _ (s : List ℕ) (at : ℕ) where
   pub entry-between : take (at + 1 + getD s at 0 - (at + 1)) (drop (at + 1) s) ≡ entryAt s at
   unfolding entryAt
   entry-between = let e : at + 1 + getD s at 0 - (at + 1) ≡ getD s at 0 = omega arith in rw e
+
+-- ---- one step
+
+module _ (s : List ℕ) (at : ℕ) where
+  -- as the code has it, at the position e after the entry
+  pub step-past : (e : ℕ) → e ≡ nextAt s at → e ≤ at → record { start = e; end = e } ≡ stepAt s at
+  unfolding stepAt nextAt
+  step-past e h o = let b : e ≡ min (at + 1) (length s) = omega arith in λ i. record { start = b i; end = h i }
+
+  pub step-inside : (e : ℕ) → e ≡ nextAt s at → at < e → record { start = at + 1; end = e } ≡ stepAt s at
+  unfolding stepAt nextAt
+  step-inside e h o = let b : at + 1 ≡ min (at + 1) (length s) = omega arith in λ i. record { start = b i; end = h i }
+
+  stepped : take (stepAt s at .end - stepAt s at .start) (drop (stepAt s at .start) s) ≡ entryAt s at
+  unfolding stepAt nextAt
+  stepped = elim (lt-or-ge at (length s)) [
+    | inl h ↦
+        let b : min (at + 1) (length s) ≡ at + 1 = omega arith in
+        elim (lt-or-ge (length s - (at + 1)) (getD s at 0)) [
+          | inl o ↦ let e : min (at + 1 + getD s at 0) (length s) ≡ length s = omega arith in rw (b, e) (entry-rest s at o)
+          | inr o ↦ let e : min (at + 1 + getD s at 0) (length s) ≡ at + 1 + getD s at 0 = omega arith in rw (b, e) (entry-between s at)
+        ]
+    | inr h ↦
+        let z : min (at + 1 + getD s at 0) (length s) - min (at + 1) (length s) ≡ 0 = omega arith in rw (z, entry-past s at h)
+  ]
+
+-- as a caller has it: the bytes are a part of the batch, and are the entry; where they end, the walk goes on
+module _ (s : List ℕ) (at : ℕ) (r : Step) (e : r ≡ stepAt s at) where
+  pub step-ordered : r .start ≤ r .end
+  unfolding stepAt nextAt
+  step-ordered = rw e (omega arith)
+
+  pub step-within : r .end ≤ length s
+  unfolding stepAt nextAt
+  step-within = rw e (omega arith)
+
+  pub step-next : r .end ≡ nextAt s at
+  unfolding stepAt
+  step-next = rw e
+
+  pub step-entry : take (r .end - r .start) (drop (r .start) s) ≡ entryAt s at
+  step-entry = rw e (stepped s at)
 
 -- one turn of a walk over entries of which all are whole
 pub record Turn (k : ℕ) (s : List ℕ) (at : ℕ) : Type 0 where

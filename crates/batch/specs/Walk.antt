@@ -3,6 +3,9 @@
 use Prim.Native.Nat.{ℕ, zero, suc, _+_, min}
 use mathlib.Core.List.{List, [], _∷_}
 use lib.ListN.{length, take, drop, getD}
+use denote.Ref.{now}
+use Rattle.batch.specs.declared.Step.{Step}
+use Rattle.batch.specs.declared.walker.Walker.{Walker}
 
 -- how many entries the batch says that it has
 unfoldable pub countOf : List ℕ → ℕ
@@ -19,6 +22,14 @@ entryAt s at = take (getD s at 0) (drop (at + 1) s)
 -- the position after it, not past the end
 unfoldable pub nextAt : List ℕ → ℕ → ℕ
 nextAt s at = min (at + 1 + getD s at 0) (length s)
+
+-- where that entry starts and ends
+unfoldable pub stepAt : List ℕ → ℕ → Step
+stepAt s at = record { start = min (at + 1) (length s); end = nextAt s at }
+
+-- the walker at the next entry
+abbrev pub advanced : Walker → Walker
+advanced w = record { src = w .src; at = nextAt (now (w .src)) (w .at) }
 
 -- 01: "A walk over a bundle": k entries from a position on
 unfoldable pub walked : ℕ → List ℕ → ℕ → List (List ℕ)

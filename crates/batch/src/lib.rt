@@ -2,7 +2,15 @@
 // Any bytes and any position get an answer.
 ghost use mathlib.Core.Path.{_≡_};
 ghost use Rattle.model.specs.Batch.{exactBatch};
-ghost use Rattle.batch.specs.Walk.{countOf, entryAt, nextAt};
+ghost use Rattle.batch.specs.Walk.{countOf, entryAt, nextAt, stepAt};
+
+pub mod walker;
+
+// One step of a walk: where an entry's bytes start and end. At the end stands the next entry's length.
+pub struct Step {
+    pub start: usize,
+    pub end: usize,
+}
 
 // Check 5: does the batch end exactly after its last entry?
 pub fn exact(batch: &[u8]) -> bool
@@ -68,4 +76,15 @@ pub fn next_at(batch: &[u8], at: usize) -> usize
         return n;
     }
     end
+}
+
+// Where the entry at a position starts and ends; both at the batch's length past its end.
+pub fn step_at(batch: &[u8], at: usize) -> Step
+    ensures { λ r. ⌜ r ≡ stepAt (now (batch .entry)) at ⌝ }
+{
+    let end = next_at(batch, at);
+    if end <= at {
+        return Step { start: end, end };
+    }
+    Step { start: at + 1, end }
 }

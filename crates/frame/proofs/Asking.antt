@@ -1,12 +1,12 @@
 -- The questions of reader and writer, one by one: a question that gets a yes is passed over, one that gets a no answers. Assumes nothing.
-use mathlib.Core.Path.{_≡_, refl, sym, ap, _∙_}
-use mathlib.Core.Bool.{Bool, true, false, _&&_}
+use mathlib.Core.Path.{_≡_, refl, _∙_}
+use mathlib.Core.Bool.{true, false, _&&_}
 use mathlib.Core.List.{List, [], _∷_}
 use Prim.Native.Nat.{ℕ, zero, suc, _+_, _*_, _-_, _≤_, _<_}
 use native.Mathlib.Omega.{arith}
 use lib.Dec.{leb, ltb}
 use lib.ListN.{length, take, drop, length-drop}
-use lib.Seq.{length-take-le, take-all}
+use lib.Seq.{take-all}
 use borrow.Author.Tests.{lt-ltb, le-ltb, lt-leb, le-leb, ltb-true, leb-true}
 use Rattle.laws.specs.Lists.{overlay}
 use Rattle.laws.proofs.Numbers.{and-left, and-right}
@@ -14,83 +14,65 @@ use Rattle.model.specs.Setup.{Setup, inLimits, width}
 use Rattle.model.specs.Timestamp.{Timestamp, soundTimestamp, trimmed, widened}
 use Rattle.model.specs.Frame.{Frame, wellFormed, decode, encode, payloadCountAt}
 use Rattle.model.specs.Question.{Question, ask, firstNo, askSetup, askForm, askRange, askStamp, frameQuestions}
-use Rattle.model.specs.Codec.{readQuestions, ReadAnswer, noTimestamp, readBy, read, frameOf, askPayload, writeQuestions, WriteAnswer, writeBy, write}
-use Rattle.timestamp.proofs.Counts.{trimmed-widened}
-use Rattle.timestamp.proofs.InLimits.{Limits, limits-of}
+use Rattle.model.specs.Codec.{readQuestions, noTimestamp, readBy, read, frameOf, askPayload, writeQuestions, writeBy, write}
+use Rattle.lemmas.proofs.Bounds.{Limits}
+use Rattle.lemmas.proofs.Questions.{yes-cons, no-cons, limits-from}
+use Rattle.lemmas.proofs.Counts.{trimmed-widened}
+use Rattle.lemmas.proofs.RoundTrip.{none-no, formed-from, decode-wide}
 use Rattle.frame.specs.Lay.{Room}
 use Rattle.frame.proofs.Laying.{length-frame}
-use Rattle.frame.proofs.Shape.{Formed, formed}
-
--- ---- one question
-
-pub passes : {b : Bool} (k : ℕ) (qs : List Question) → b ≡ true → firstNo (ask b k ∷ qs) ≡ firstNo qs
-unfolding firstNo
-passes k qs h = rw h
-
-pub fails : {b : Bool} (k : ℕ) (qs : List Question) → b ≡ false → firstNo (ask b k ∷ qs) ≡ k
-unfolding firstNo
-fails k qs h = rw h
-
--- no question got a no
-pub passed : (b : Bool) (k : ℕ) (qs : List Question) → firstNo (ask b (suc k) ∷ qs) ≡ 0 → (b ≡ true) × (firstNo qs ≡ 0)
-unfolding firstNo
-passed true k qs e = (refl, e)
-passed false k qs e = absurd (omega arith)
 
 -- ---- 1
 
 module _ (s : Setup) (qs : List Question) where
   pub setup-no : inLimits s ≡ false → firstNo (askSetup s ∷ qs) ≡ 1
   unfolding askSetup
-  setup-no h = fails 1 qs h
+  setup-no h = no-cons _ 1 qs h
 
   pub setup-right : inLimits s ≡ true → firstNo (askSetup s ∷ qs) ≡ firstNo qs
   unfolding askSetup
-  setup-right h = passes 1 qs h
+  setup-right h = yes-cons _ 1 qs h
 
 -- ---- 11 and 12, of any frame
 
 module _ (s : Setup) (f : Frame) (qs : List Question) where
   pub station-no : s .n ≤ f .station → firstNo (askRange s f ∷ qs) ≡ 11
   unfolding askRange
-  station-no h = fails 11 qs (rw (le-ltb (f .station) (s .n) h))
+  station-no h = no-cons _ 11 qs (rw (le-ltb (f .station) (s .n) h))
 
   module _ (h : f .station < s .n) where
     pub r-no : s .modulus ≤ f .stamp .r → firstNo (askRange s f ∷ qs) ≡ 11
     unfolding askRange
-    r-no k = fails 11 qs (rw (lt-ltb (f .station) (s .n) h, le-ltb (f .stamp .r) (s .modulus) k))
+    r-no k = no-cons _ 11 qs (rw (lt-ltb (f .station) (s .n) h, le-ltb (f .stamp .r) (s .modulus) k))
 
     pub in-range : f .stamp .r < s .modulus → firstNo (askRange s f ∷ qs) ≡ firstNo qs
     unfolding askRange
-    in-range k = passes 11 qs (rw (lt-ltb (f .station) (s .n) h, lt-ltb (f .stamp .r) (s .modulus) k))
+    in-range k = yes-cons _ 11 qs (rw (lt-ltb (f .station) (s .n) h, lt-ltb (f .stamp .r) (s .modulus) k))
 
   pub stamp-no : soundTimestamp (s .n) (s .epsilon) (f .stamp) ≡ false → firstNo (askStamp s f ∷ qs) ≡ 12
   unfolding askStamp
-  stamp-no h = fails 12 qs h
+  stamp-no h = no-cons _ 12 qs h
 
   pub stamp-sound : soundTimestamp (s .n) (s .epsilon) (f .stamp) ≡ true → firstNo (askStamp s f ∷ qs) ≡ firstNo qs
   unfolding askStamp
-  stamp-sound h = passes 12 qs h
+  stamp-sound h = yes-cons _ 12 qs h
 
 -- ---- 10 to 12, of bytes
 
 module _ (s : Setup) (bytes : List ℕ) where
   pub form-no : wellFormed (s .epsilon) bytes ≡ false → firstNo (frameQuestions s bytes) ≡ 10
   unfolding frameQuestions askForm
-  form-no h = fails 10 (askRange s (decode (s .epsilon) bytes) ∷ askStamp s (decode (s .epsilon) bytes) ∷ []) h
+  form-no h = no-cons _ 10 (askRange s (decode (s .epsilon) bytes) ∷ askStamp s (decode (s .epsilon) bytes) ∷ []) h
 
   pub form-right : wellFormed (s .epsilon) bytes ≡ true
       → firstNo (frameQuestions s bytes) ≡ firstNo (askRange s (decode (s .epsilon) bytes) ∷ askStamp s (decode (s .epsilon) bytes) ∷ [])
   unfolding frameQuestions askForm
-  form-right h = passes 10 (askRange s (decode (s .epsilon) bytes) ∷ askStamp s (decode (s .epsilon) bytes) ∷ []) h
+  form-right h = yes-cons _ 10 (askRange s (decode (s .epsilon) bytes) ∷ askStamp s (decode (s .epsilon) bytes) ∷ []) h
 
 -- the stamp that a well-formed frame holds is as wide as it should be, so that reading it by value loses nothing
 pub stamp-kept : (epsilon : ℕ) (s : List ℕ) → epsilon ≤ 16 → wellFormed epsilon s ≡ true
     → trimmed epsilon (widened (decode epsilon s .stamp)) ≡ decode epsilon s .stamp
-unfolding decode width
-stamp-kept epsilon s h w =
-    let f : Formed epsilon s = formed epsilon s w in
-    trimmed-widened epsilon (decode epsilon s .stamp) (length-take-le (2 * epsilon) (drop 6 s) (simp length-drop (omega arith))) (omega arith)
+stamp-kept epsilon s h w = trimmed-widened epsilon (decode epsilon s .stamp) h (decode-wide epsilon s (formed-from epsilon s w))
 
 -- ---- the reader
 
@@ -99,8 +81,8 @@ module _ (s : Setup) (bytes : List ℕ) where
   pub read-passed : firstNo (readQuestions s bytes) ≡ 0 → (inLimits s ≡ true) × (wellFormed (s .epsilon) bytes ≡ true)
   unfolding readQuestions askSetup frameQuestions askForm
   read-passed e =
-      let p = passed (inLimits s) 0 (frameQuestions s bytes) e in
-      (p .0, passed (wellFormed (s .epsilon) bytes) 9 (askRange s (decode (s .epsilon) bytes) ∷ askStamp s (decode (s .epsilon) bytes) ∷ []) (p .1) .0)
+      let p = none-no (inLimits s) 0 (frameQuestions s bytes) e in
+      (p .0, none-no (wellFormed (s .epsilon) bytes) 9 (askRange s (decode (s .epsilon) bytes) ∷ askStamp s (decode (s .epsilon) bytes) ∷ []) (p .1) .0)
 
   module _ (number : ℕ) (e : number ≡ firstNo (readQuestions s bytes)) where
     pub read-accepted : number ≡ 0
@@ -142,18 +124,18 @@ module _ (s : Setup) (f : Frame) (buffer : List ℕ) where
   module _ (h : inLimits s ≡ true) where
     pub payload-no : 32 < length (f .payload) → firstNo (writeQuestions s f buffer) ≡ 4
     unfolding writeQuestions askPayload
-    payload-no k = setup-right s (askPayload (f .payload) ∷ fromRange) h ∙ fails 4 fromRange (lt-leb (length (f .payload)) 32 k)
+    payload-no k = setup-right s (askPayload (f .payload) ∷ fromRange) h ∙ no-cons _ 4 fromRange (lt-leb (length (f .payload)) 32 k)
 
     pub payload-right : length (f .payload) ≤ 32 → firstNo (writeQuestions s f buffer) ≡ firstNo fromRange
     unfolding writeQuestions askPayload
-    payload-right k = setup-right s (askPayload (f .payload) ∷ fromRange) h ∙ passes 4 fromRange (le-leb (length (f .payload)) 32 k)
+    payload-right k = setup-right s (askPayload (f .payload) ∷ fromRange) h ∙ yes-cons _ 4 fromRange (le-leb (length (f .payload)) 32 k)
 
   pub room-no : length buffer < length (encode f) → firstNo fromRoom ≡ 6
-  room-no k = fails 6 [] (lt-leb (length (encode f)) (length buffer) k)
+  room-no k = no-cons _ 6 [] (lt-leb (length (encode f)) (length buffer) k)
 
   pub room-right : length (encode f) ≤ length buffer → firstNo fromRoom ≡ 0
   unfolding firstNo
-  room-right k = passes 6 [] (le-leb (length (encode f)) (length buffer) k)
+  room-right k = yes-cons _ 6 [] (le-leb (length (encode f)) (length buffer) k)
 
   -- its answers
   module _ (number : ℕ) (e : number ≡ firstNo (writeQuestions s f buffer)) where
@@ -176,12 +158,12 @@ pub room-of : (s : Setup) (station : ℕ) (t : Timestamp) (payload buffer : List
 unfolding writeQuestions askSetup askPayload askRange askStamp frameOf trimmed soundTimestamp
 room-of s station t payload buffer e =
     let f = frameOf (s .epsilon) station t payload in
-    let p1 = passed (inLimits s) 0 (askPayload payload ∷ fromRange s f buffer) e in
-    let p4 = passed (leb (length payload) 32) 3 (fromRange s f buffer) (p1 .1) in
-    let p11 = passed (ltb station (s .n) && ltb (t .r) (s .modulus)) 10 (fromStamp s f buffer) (p4 .1) in
-    let p12 = passed (soundTimestamp (s .n) (s .epsilon) (f .stamp)) 11 (fromRoom s f buffer) (p11 .1) in
-    let p6 = passed (leb (length (encode f)) (length buffer)) 5 [] (p12 .1) in
-    let l : Limits s = limits-of s (p1 .0) in
+    let p1 = none-no (inLimits s) 0 (askPayload payload ∷ fromRange s f buffer) e in
+    let p4 = none-no (leb (length payload) 32) 3 (fromRange s f buffer) (p1 .1) in
+    let p11 = none-no (ltb station (s .n) && ltb (t .r) (s .modulus)) 10 (fromStamp s f buffer) (p4 .1) in
+    let p12 = none-no (soundTimestamp (s .n) (s .epsilon) (f .stamp)) 11 (fromRoom s f buffer) (p11 .1) in
+    let p6 = none-no (leb (length (encode f)) (length buffer)) 5 [] (p12 .1) in
+    let l : Limits s = limits-from s (p1 .0) in
     let h4 : length payload ≤ 32 = leb-true (length payload) 32 (p4 .0) in
     let hs : station < s .n = ltb-true station (s .n) (and-left (ltb station (s .n)) (ltb (t .r) (s .modulus)) (p11 .0)) in
     let hr : t .r < s .modulus = ltb-true (t .r) (s .modulus) (and-right (ltb station (s .n)) (ltb (t .r) (s .modulus)) (p11 .0)) in

@@ -1,19 +1,19 @@
 -- The laws of laying a frame down in a buffer: each section is pasted where the one before it ends. Assumes nothing.
 use mathlib.Core.Path.{_≡_, refl, sym, ap, _∙_}
 use mathlib.Core.List.{List, [], _∷_, _++_, append-assoc, append-nil}
-use Prim.Native.Nat.{ℕ, suc, _+_, _-_, _*_, _≤_, _<_}
+use Prim.Native.Nat.{ℕ, suc, _+_, _-_, _*_, _≤_}
 use native.Mathlib.Nat.{zero-add}
 use native.Mathlib.Omega.{arith}
-use lib.ListN.{length, take, drop, getD, set, length-append, length-set, length-drop, drop-of-length-le}
+use lib.ListN.{length, take, drop, getD, set, length-append, length-drop, drop-of-length-le}
 use lib.Seq.{length-take-le, take-all, drop-drop}
 use borrow.Rule.Slice.PartMut.{putMid, midOf}
-use Rattle.laws.specs.Lists.{tab, overlay}
-use Rattle.laws.proofs.Lists.{length-tab}
+use Rattle.laws.specs.Lists.{overlay}
+use Rattle.laws.proofs.Lists.{length-tab, tab-take}
 use Rattle.model.specs.Setup.{width}
 use Rattle.model.specs.Timestamp.{Timestamp, trimmed}
-use Rattle.model.specs.Frame.{Frame, section, twoBytes, encode}
+use Rattle.model.specs.Frame.{section, twoBytes, encode}
 use Rattle.model.specs.Codec.{frameOf}
-use Rattle.timestamp.proofs.Counts.{trimmed-take}
+use Rattle.lemmas.proofs.RoundTrip.{length-encode}
 use Rattle.splice.specs.Bytes.{pasted}
 use Rattle.splice.proofs.Laws.{pasted-right, set-pasted, length-pasted, two-stored}
 
@@ -35,9 +35,9 @@ node-laid l station r h = two-then l 0 3 station (twoBytes r) (omega arith) ∙ 
 
 pub stamp-laid : (l : List ℕ) (epsilon : ℕ) (t : Timestamp) → 6 ≤ length l → 2 * epsilon ≤ length (t .kn)
     → pasted (set (set l 4 (1 + 2 * epsilon)) 5 (t .c)) 6 (take (2 * epsilon) (t .kn)) ≡ pasted l 4 (section (t .c ∷ trimmed epsilon t .kn))
-unfolding section width
+unfolding section trimmed width
 stamp-laid l epsilon t h w =
-    let k : trimmed epsilon t .kn ≡ take (2 * epsilon) (t .kn) = ap (λ (u : Timestamp). u .kn) (trimmed-take epsilon t w) in
+    let k : trimmed epsilon t .kn ≡ take (2 * epsilon) (t .kn) = tab-take (2 * epsilon) (t .kn) 0 w in
     let n : suc (length (take (2 * epsilon) (t .kn))) ≡ 1 + 2 * epsilon = omega (arith, length-take-le (2 * epsilon) (t .kn) w) in
     two-then l 4 (1 + 2 * epsilon) (t .c) (take (2 * epsilon) (t .kn)) (omega arith) ∙ rw (k, n)
 
@@ -76,8 +76,9 @@ three-laid l n s p l1 l2 ys i at a b h e1 e2 e3 =
 -- the three sections
 pub length-frame : (epsilon station : ℕ) (t : Timestamp) (payload : List ℕ)
     → length (encode (frameOf epsilon station t payload)) ≡ 7 + 2 * epsilon + length payload
-unfolding encode frameOf trimmed section twoBytes width
-length-frame epsilon station t payload = simp (length-append, length-tab) (omega arith)
+unfolding frameOf trimmed width
+length-frame epsilon station t payload =
+    length-encode (frameOf epsilon station t payload) ∙ rw (length-tab (2 * epsilon) (λ i. getD (t .kn) i 0))
 
 pub frame-laid : (l : List ℕ) (epsilon station : ℕ) (t : Timestamp) (payload l1 l2 ys : List ℕ) → 6 + 2 * epsilon ≤ length l
     → l1 ≡ overlay (section (station ∷ twoBytes (t .r))) l

@@ -3,7 +3,6 @@ mod form;
 mod reader;
 mod writer;
 
-pub use form::byte_at;
 pub use form::c_of;
 pub use form::check;
 pub use form::frame_end;
@@ -13,7 +12,6 @@ pub use form::station_of;
 pub use form::two_at;
 pub use form::well_formed;
 pub use reader::Reading;
-pub use reader::check_read;
 pub use reader::payload_of;
 pub use reader::read;
 pub use writer::Written;

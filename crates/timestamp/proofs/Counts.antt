@@ -1,16 +1,15 @@
 -- Lists of counts: by place, padded with zeros, and the 2ε of a timestamp alone.
 -- Assumes nothing.
 use Prim.Native.Nat.{ℕ, zero, suc, _+_, _-_, _≤_, _<_}
-use native.Mathlib.Nat.{not-suc-le-zero, le-of-suc-le-suc}
 use native.Mathlib.Numerals.{add-one}
 use native.Mathlib.Omega.{arith}
-use mathlib.Core.Path.{_≡_, refl, sym, ap, _∙_}
+use mathlib.Core.Path.{_≡_, refl, sym}
 use mathlib.Core.List.{List, [], _∷_, _++_, append-assoc}
-use lib.ListN.{length, take, drop, getD, set, replicate, length-append, length-set, length-replicate, length-take, length-drop, drop-of-length-le, List·getD-append, replicate-append-replicate}
+use lib.ListN.{length, take, drop, getD, set, replicate, length-append, length-set, length-replicate, length-drop, drop-of-length-le, replicate-append-replicate}
 use mathlib.Core.Bool.{true, false, _&&_}
 use borrow.Author.Tests.{le-leb, lt-leb}
 use lib.Dec.{leb}
-use lib.Seq.{drop-cons, set-append-seam, set-append-left, take-append-seam, length-take-le, take-nil, take-suc, getD-drop, slice, slice-cons}
+use lib.Seq.{set-append-seam, set-append-left, length-take-le, take-nil, take-suc, getD-drop, slice, slice-cons}
 use Rattle.laws.specs.Lists.{tab, every, padded}
 use Rattle.laws.proofs.Lists.{length-tab, tab-suc, tab-take, take-padded, length-padded}
 use Rattle.model.specs.Setup.{width, widest}

@@ -4,3 +4,4 @@ pub mod Readings
 pub mod Steps
 pub mod Soundness
 pub mod Ordered
+pub mod Lengths

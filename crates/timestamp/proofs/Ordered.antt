@@ -1,19 +1,17 @@
 -- The order of two timestamps, difference by difference.
 -- Assumes nothing.
-use Prim.Native.Nat.{ℕ, suc, _+_, _-_, _*_, _≤_, _<_, compare, Ordering, Ordering·lt, Ordering·eq, Ordering·gt}
+use Prim.Native.Nat.{ℕ, _+_, _-_, _*_, _≤_, _<_, compare, Ordering, Ordering·lt, Ordering·eq, Ordering·gt}
 use native.Mathlib.Numerals.{add-one}
 use native.Mathlib.Omega.{arith}
 use mathlib.Core.Path.{_≡_, refl, sym, ap, _∙_}
-use mathlib.Core.List.{List, [], _∷_, _++_}
+use mathlib.Core.List.{List, [], _∷_}
 use mathlib.Core.Logic.{_⊎_, inl, inr}
 use lib.ListN.{length, take, drop, getD, drop-of-length-le}
 use lib.Seq.{drop-cons, getD-take}
 use Rattle.laws.specs.Lists.{tab}
 use Rattle.laws.specs.Lex.{lexCompare, orElse}
-use Rattle.laws.proofs.Numbers.{compare-lt, compare-gt, compare-eq}
 use Rattle.laws.proofs.Lists.{length-tab, getD-tab, tab-ext}
-use Rattle.laws.proofs.Lex.{lex-head-lt, lex-head-gt, lex-head-eq, lex-cons, lex-append}
-use Rattle.model.specs.Setup.{width}
+use Rattle.laws.proofs.Lex.{lex-head-lt, lex-head-gt, lex-head-eq, lex-append}
 use Rattle.model.specs.Timestamp.{Timestamp, sum, trimmed}
 use Rattle.model.specs.Frame.{Frame}
 use Rattle.model.specs.Order.{countsDown, key}

@@ -2,15 +2,14 @@
 -- Assumes nothing.
 use Prim.Native.Nat.{ℕ, _+_, _-_, _*_, _%_, _≤_, _<_}
 use native.Mathlib.Omega.{arith}
-use mathlib.Core.Path.{_≡_, refl, sym, ap, _∙_}
-use mathlib.Core.Bool.{Bool, true, false, _&&_, not}
-use mathlib.Core.List.{List}
-use lib.ListN.{length, take, drop, getD}
+use mathlib.Core.Path.{_≡_}
+use mathlib.Core.Bool.{true, false, _&&_}
+use lib.ListN.{length, take, getD}
 use lib.Dec.{leb, ltb, eqb}
 use lib.Seq.{slice, getD-take}
 use borrow.Author.Tests.{le-leb, lt-leb, lt-ltb, le-ltb, eq-eqb, ne-eqb}
 use Rattle.model.specs.Timestamp.{Timestamp, atMost, trimmed, soundTimestamp, soundTables}
-use Rattle.timestamp.proofs.Steps.{stamp, trimmed-all}
+use Rattle.timestamp.proofs.Steps.{trimmed-all}
 
 module _ (epsilon : ℕ) (t : Timestamp) (small : epsilon ≤ 16) (long : length (t .kn) ≡ 32) (n : ℕ) where
   -- the soundness of the 2ε counts, asked of all the places

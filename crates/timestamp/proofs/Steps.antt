@@ -1,15 +1,15 @@
 -- Each step of a tick on a timestamp with all its places, from what the code's copies of the counts hold.
 -- Assumes nothing.
-use Prim.Native.Nat.{ℕ, suc, _+_, _-_, _*_, _≤_, _<_, max}
+use Prim.Native.Nat.{ℕ, _+_, _-_, _*_, _≤_, _<_, max}
 use native.Mathlib.Omega.{arith}
-use mathlib.Core.Path.{_≡_, refl, sym, ap, _∙_}
-use mathlib.Core.List.{List, [], _∷_, _++_}
-use lib.ListN.{length, take, drop, getD, set, replicate, length-set, length-replicate, length-take}
+use mathlib.Core.Path.{_≡_, ap, _∙_}
+use mathlib.Core.List.{List}
+use lib.ListN.{length, take, drop, getD, set, replicate, length-replicate, length-take}
 use lib.Seq.{getD-take}
 use Rattle.laws.specs.Lists.{tab, padded}
 use Rattle.laws.proofs.Lists.{getD-padded}
-use Rattle.model.specs.Setup.{width, widest}
-use Rattle.model.specs.Timestamp.{Timestamp, sum, countAt, trimmed, widened, fresh, replaced, shift, step, absorb, countOwn}
+use Rattle.model.specs.Setup.{width}
+use Rattle.model.specs.Timestamp.{Timestamp, sum, trimmed, widened, fresh, replaced, shift, step, absorb, countOwn}
 use Rattle.timestamp.specs.Views.{largerAt}
 use Rattle.timestamp.proofs.Counts.{set-padded, padded-zeros, padded-more, drop-one-take, trimmed-take}
 

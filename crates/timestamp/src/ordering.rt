@@ -1,7 +1,6 @@
 // 01, "Order of two stamps, first difference decides": sum; ε counts; station number; r.
 ghost use mathlib.Core.Path.{_≡_};
-ghost use mathlib.Core.List.{List};
-ghost use Prim.Native.Nat.{ℕ, compare, _+_, _≤_, _<_, _^_};
+ghost use Prim.Native.Nat.{compare, _+_, _≤_, _<_, _^_};
 ghost use lib.ListN.{length};
 ghost use Rattle.laws.specs.Lex.{lexCompare};
 ghost use Rattle.model.specs.Timestamp.{trimmed};

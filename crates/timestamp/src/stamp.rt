@@ -1,6 +1,5 @@
 // 01: the stamp, its soundness, the steps of one tick that change it, and reading a clock near v.
 ghost use mathlib.Core.Path.{_≡_};
-ghost use mathlib.Core.List.{List, []};
 ghost use Prim.Native.Nat.{ℕ, _+_, _-_, _*_, _≤_, _<_, _^_, max};
 ghost use lib.ListN.{length, take, drop, getD};
 ghost use Rattle.laws.specs.Lists.{tab, padded};

@@ -7,7 +7,8 @@ use native.Mathlib.Omega.{arith}
 use borrow.Author.Tests.{not-true, not-false}
 use borrow.Author.Needs.{needs}
 use Rattle.frame.proofs.Asking.{form-no, form-right, station-no, r-no, in-range, stamp-no, stamp-sound, stamp-kept}
-use Rattle.timestamp.proofs.InLimits.{Limits, limits-of}
+use Rattle.lemmas.proofs.Bounds.{Limits}
+use Rattle.lemmas.proofs.Questions.{limits-from}
 use Rattle.timestamp.specs.Views.{setupOf}
 use Rattle.model.specs.Question.{firstNo, frameQuestions, askStamp}
 use Rattle.model.specs.Frame.{wellFormed, decode}
@@ -16,7 +17,7 @@ use Rattle.frame.proofs.form.check.Statement.{statement}
 use Rattle.frame.proofs.form.check.Tie as tie
 
 limits : (c : tie.Start) → Limits (setupOf (c .args .setup))
-limits c = limits-of (setupOf (c .args .setup)) (c .pre)
+limits c = limits-from (setupOf (c .args .setup)) (c .pre)
 
 -- what the first three tests leave
 form : (c : tie.Else1) → wellFormed (c .before .before .before .before .before .before .args .setup .epsilon) (c .before .before .before .before .before .before .args .s .now) ≡ true
@@ -69,7 +70,7 @@ stamp-of-requires : tie.Need-stamp-of-requires
 stamp-of-requires c κs = (limits (c .before .before .before .before .before .before .before .before .before .before) .epsilon-most, form (c .before .before .before .before))
 
 is-sound-requires : tie.Need-is-sound-requires
-is-sound-requires c κs = (limits (c .before .before .before .before .before .before .before .before .before .before .before) .epsilon-least, limits (c .before .before .before .before .before .before .before .before .before .before .before) .epsilon-most)
+is-sound-requires c κs = (limits (c .before .before .before .before .before .before .before .before .before .before .before) .epsilon-pos, limits (c .before .before .before .before .before .before .before .before .before .before .before) .epsilon-most)
 
 returns-4 : tie.Need-returns-4
 returns-4 c = sym (asked (c .before .before .before) ∙ stamp-no (setupOf (c .before .before .before .before .before .before .before .before .before .before .before .before .before .args .setup)) (decode (c .before .before .before .before .before .before .before .before .before .before .before .before .before .args .setup .epsilon) (c .before .before .before .before .before .before .before .before .before .before .before .before .before .args .s .now)) [] (sound (c .before) ∙ not-true (c .before .is-sound .result) (c .if4 .taken)))

@@ -8,7 +8,7 @@ use borrow.Author.Needs.{needs}
 use Rattle.timestamp.specs.Views.{stampOf}
 use Rattle.model.specs.Frame.{decode, twoAt}
 use Rattle.model.specs.Setup.{width}
-use Rattle.frame.proofs.Shape.{Formed, formed}
+use Rattle.lemmas.proofs.RoundTrip.{Formed, formed-from}
 use Rattle.model.specs.Timestamp.{widened}
 use Rattle.frame.proofs.form.stamp_of.Statement.{statement}
 use Rattle.frame.proofs.form.stamp_of.Tie as tie
@@ -17,7 +17,8 @@ mul-counts-of : tie.Need-mul-counts-of
 mul-counts-of c = search needs
 
 counts-of-requires : tie.Need-counts-of-requires
-counts-of-requires c κs = let f : Formed (c .before .args .epsilon) (c .before .args .s .now) = formed (c .before .args .epsilon) (c .before .args .s .now) (c .before .pre .1) in omega arith
+unfolding width
+counts-of-requires c κs = let f : Formed (c .before .args .epsilon) (c .before .args .s .now) = formed-from (c .before .args .epsilon) (c .before .args .s .now) (c .before .pre .1) in omega arith
 
 r-of-requires : tie.Need-r-of-requires
 r-of-requires c κs = search needs

@@ -3,9 +3,9 @@ use mathlib.Core.Bool.{true}
 use mathlib.Core.Path.{_≡_, _∙_, sym, ap}
 use native.Mathlib.Omega.{arith}
 use borrow.Author.Needs.{needs}
-use Rattle.frame.proofs.Shape.{Formed, formed}
+use Rattle.lemmas.proofs.RoundTrip.{Formed, formed-from}
 use Rattle.model.specs.Frame.{wellFormed}
-use Rattle.model.specs.Setup.{inLimits}
+use Rattle.model.specs.Setup.{inLimits, width}
 use Rattle.frame.proofs.Asking.{read-passed, read-accepted, read-refused, payload-part}
 use Rattle.timestamp.specs.Views.{setupOf}
 use Rattle.model.specs.Codec.{ReadAnswer}
@@ -35,12 +35,14 @@ add-at : tie.Need-add-at
 add-at c = search needs
 
 sub-result : tie.Need-sub-result
+unfolding width
 sub-result c =
-    let w : Formed (c .before .before .before .before .args .setup .epsilon) (c .before .before .before .before .args .frame .now) = formed (c .before .before .before .before .args .setup .epsilon) (c .before .before .before .before .args .frame .now) (accepted (c .before) .1) in omega arith
+    let w : Formed (c .before .before .before .before .args .setup .epsilon) (c .before .before .before .before .args .frame .now) = formed-from (c .before .before .before .before .args .setup .epsilon) (c .before .before .before .before .args .frame .now) (accepted (c .before) .1) in omega arith
 
 part-result-start : tie.Need-part-result-start
+unfolding width
 part-result-start c =
-    let w : Formed (c .before .before .before .before .args .setup .epsilon) (c .before .before .before .before .args .frame .now) = formed (c .before .before .before .before .args .setup .epsilon) (c .before .before .before .before .args .frame .now) (accepted (c .before) .1) in omega arith
+    let w : Formed (c .before .before .before .before .args .setup .epsilon) (c .before .before .before .before .args .frame .now) = formed-from (c .before .before .before .before .args .setup .epsilon) (c .before .before .before .before .args .frame .now) (accepted (c .before) .1) in omega arith
 
 part-result-end : tie.Need-part-result-end
 part-result-end c = search needs

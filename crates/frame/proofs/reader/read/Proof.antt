@@ -2,7 +2,7 @@
 use mathlib.Core.Bool.{true}
 use mathlib.Core.Path.{_≡_, _∙_, sym}
 use borrow.Author.Needs.{needs}
-use Rattle.timestamp.proofs.InLimits.{limits-of}
+use Rattle.lemmas.proofs.Questions.{limits-from}
 use Rattle.model.specs.Frame.{wellFormed}
 use Rattle.model.specs.Setup.{inLimits}
 use Rattle.frame.proofs.Asking.{read-passed, read-accepted, read-refused}
@@ -27,7 +27,7 @@ cast-stamp-of : tie.Need-cast-stamp-of
 cast-stamp-of c = search needs
 
 stamp-of-requires : tie.Need-stamp-of-requires
-stamp-of-requires c κs = (limits-of (setupOf (c .before .before .before .before .args .setup)) (accepted (c .before) .0) .epsilon-most, accepted (c .before) .1)
+stamp-of-requires c κs = (limits-from (setupOf (c .before .before .before .before .args .setup)) (accepted (c .before) .0) .epsilon-most, accepted (c .before) .1)
 
 station-of-requires : tie.Need-station-of-requires
 station-of-requires c κs = search needs

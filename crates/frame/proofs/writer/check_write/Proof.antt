@@ -9,7 +9,8 @@ use borrow.Author.Tests.{not-true, not-false}
 use borrow.Author.Needs.{needs}
 use Rattle.frame.proofs.Laying.{length-frame}
 use Rattle.frame.proofs.Asking.{station-no, r-no, in-range, stamp-no, stamp-sound, fromRange, fromStamp, fromRoom, limits-no, payload-no, payload-right, room-no, room-right}
-use Rattle.timestamp.proofs.InLimits.{Limits, limits-of}
+use Rattle.lemmas.proofs.Bounds.{Limits}
+use Rattle.lemmas.proofs.Questions.{limits-from}
 use Rattle.timestamp.specs.Views.{setupOf, stampOf}
 use Rattle.model.specs.Codec.{frameOf, writeQuestions}
 use Rattle.model.specs.Question.{firstNo}
@@ -34,7 +35,7 @@ limited : (c : tie.Else1) → inLimits (setup (c .before .before .before .before
 limited c = sym (c .before .in-limits .ensures) ∙ not-false (c .before .in-limits .result) (c .if1 .left)
 
 limits : (c : tie.Else1) → Limits (setup (c .before .before .before .before))
-limits c = limits-of (setup (c .before .before .before .before)) (limited c)
+limits c = limits-from (setup (c .before .before .before .before)) (limited c)
 
 asked-range : (c : tie.Else2) → firstNo (writeQuestions (setup (c .before .before .before .before .before .before .before .before)) (frame (c .before .before .before .before .before .before .before .before)) (room (c .before .before .before .before .before .before .before .before))) ≡ firstNo (fromRange (setup (c .before .before .before .before .before .before .before .before)) (frame (c .before .before .before .before .before .before .before .before)) (room (c .before .before .before .before .before .before .before .before)))
 unfolding frameOf
@@ -79,7 +80,7 @@ unfolding frameOf trimmed
 returns-4 c = sym (asked-range (c .before .before .before) ∙ r-no (setup (c .before .before .before .before .before .before .before .before .before .before .before)) (frame (c .before .before .before .before .before .before .before .before .before .before .before)) (fromStamp (setup (c .before .before .before .before .before .before .before .before .before .before .before)) (frame (c .before .before .before .before .before .before .before .before .before .before .before)) (room (c .before .before .before .before .before .before .before .before .before .before .before))) (c .before .before .if3 .left) (c .if4 .taken))
 
 is-sound-requires : tie.Need-is-sound-requires
-is-sound-requires c κs = (limits (c .before .before .before .before .before .before .before) .epsilon-least, limits (c .before .before .before .before .before .before .before) .epsilon-most)
+is-sound-requires c κs = (limits (c .before .before .before .before .before .before .before) .epsilon-pos, limits (c .before .before .before .before .before .before .before) .epsilon-most)
 
 returns-5 : tie.Need-returns-5
 unfolding frameOf

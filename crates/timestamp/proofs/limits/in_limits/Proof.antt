@@ -2,7 +2,7 @@
 -- Assumes nothing.
 use borrow.Author.Needs.{needs}
 use native.Mathlib.Omega.{arith}
-use Rattle.timestamp.proofs.InLimits.{Limits, past-limit, own-decides}
+use Rattle.timestamp.proofs.InLimits.{past-limit, own-decides}
 use Rattle.timestamp.proofs.limits.in_limits.Statement.{statement}
 use Rattle.timestamp.proofs.limits.in_limits.Tie as tie
 

@@ -1,6 +1,6 @@
 -- `timestamp::ordering::compare` meets its contract: places past the 2ε counts are not looked at.
 -- Assumes nothing.
-use mathlib.Core.Path.{_≡_, refl}
+use mathlib.Core.Path.{_≡_}
 use native.Mathlib.Omega.{arith}
 use lib.ListN.{length}
 use Rattle.timestamp.specs.Views.{stampOf}
@@ -22,10 +22,7 @@ slice-aggregate-compare-ranked-2 : tie.Need-slice-aggregate-compare-ranked-2
 slice-aggregate-compare-ranked-2 c = search needs
 
 compare-ranked-requires : tie.Need-compare-ranked-requires
-compare-ranked-requires c κs = (
-  record { lead = c .before .before .before .before .pre .0 .1 .0; small = c .before .before .before .before .pre .1 .0; long = omega (arith, long-f (c .before .before .before .before)) },
-  record { lead = c .before .before .before .before .pre .0 .1 .1; small = c .before .before .before .before .pre .1 .1; long = omega (arith, long-g (c .before .before .before .before)) },
-)
+compare-ranked-requires c κs = omega (arith, long-f (c .before .before .before .before), long-g (c .before .before .before .before))
 
 returns : tie.Need-returns
 returns c =

@@ -1,6 +1,5 @@
 -- `timestamp::ordering::compare_ranked` meets its contract: each answer that is not Same decides, and the one that stands last.
 -- Assumes nothing.
-use Prim.Native.Nat.{ℕ}
 use mathlib.Core.Path.{refl}
 use denote.Enum.Declared
 use Rattle.timestamp.proofs.Ordered.{Tags, by-sums, by-counts, by-stations, by-readings}
@@ -31,7 +30,8 @@ enum-told c = search needs
 
 returns : tie.Need-returns
 returns c =
-    by-sums tags (c .before .before .before .before .before .before .args .epsilon) (c .before .before .before .before .before .before .args .f) (c .before .before .before .before .before .before .args .g) (c .before .before .before .before .before .before .args .kf .now) (c .before .before .before .before .before .before .args .kg .now)
+    let s = c .before .before .before .before .before .before .args in
+    by-sums tags (s .epsilon) (s .f) (s .g) (s .kf .now) (s .kg .now)
     _ (c .before .compare-numbers .ensures) (c .match .keys2)
 
 compare-counts-requires : tie.Need-compare-counts-requires
@@ -42,7 +42,8 @@ enum-told-2 c = search needs
 
 returns-2 : tie.Need-returns-2
 returns-2 c =
-    by-counts tags (c .before .before .before .before .before .before .before .before .before .args .epsilon) (c .before .before .before .before .before .before .before .before .before .args .f) (c .before .before .before .before .before .before .before .before .before .args .g) (c .before .before .before .before .before .before .before .before .before .args .kf .now) (c .before .before .before .before .before .before .before .before .before .args .kg .now)
+    let s = c .before .before .before .before .before .before .before .before .before .args in
+    by-counts tags (s .epsilon) (s .f) (s .g) (s .kf .now) (s .kg .now)
     _ (c .before .before .before .before .compare-numbers .ensures) (c .before .before .before .match .keys1)
     _ (c .before .compare-counts .ensures) (c .match2 .keys2)
 
@@ -54,7 +55,8 @@ enum-told-3 c = search needs
 
 returns-3 : tie.Need-returns-3
 returns-3 c =
-    by-stations tags (c .before .before .before .before .before .before .before .before .before .before .before .before .args .epsilon) (c .before .before .before .before .before .before .before .before .before .before .before .before .args .f) (c .before .before .before .before .before .before .before .before .before .before .before .before .args .g) (c .before .before .before .before .before .before .before .before .before .before .before .before .args .kf .now) (c .before .before .before .before .before .before .before .before .before .before .before .before .args .kg .now)
+    let s = c .before .before .before .before .before .before .before .before .before .before .before .before .args in
+    by-stations tags (s .epsilon) (s .f) (s .g) (s .kf .now) (s .kg .now)
     _ (c .before .before .before .before .before .before .before .compare-numbers .ensures) (c .before .before .before .before .before .before .match .keys1)
     _ (c .before .before .before .before .compare-counts .ensures) (c .before .before .before .match2 .keys1)
     _ (c .before .compare-numbers2 .ensures) (c .match3 .keys2)
@@ -64,7 +66,8 @@ compare-numbers-requires-3 c κs = search needs
 
 returns-4 : tie.Need-returns-4
 returns-4 c =
-    by-readings tags (c .before .before .before .before .before .before .before .before .before .before .before .before .before .before .args .epsilon) (c .before .before .before .before .before .before .before .before .before .before .before .before .before .before .args .f) (c .before .before .before .before .before .before .before .before .before .before .before .before .before .before .args .g) (c .before .before .before .before .before .before .before .before .before .before .before .before .before .before .args .kf .now) (c .before .before .before .before .before .before .before .before .before .before .before .before .before .before .args .kg .now)
+    let s = c .before .before .before .before .before .before .before .before .before .before .before .before .before .before .args in
+    by-readings tags (s .epsilon) (s .f) (s .g) (s .kf .now) (s .kg .now)
     _ (c .before .before .before .before .before .before .before .before .before .compare-numbers .ensures) (c .before .before .before .before .before .before .before .before .match .keys1)
     _ (c .before .before .before .before .before .before .compare-counts .ensures) (c .before .before .before .before .before .match2 .keys1)
     _ _ (c .before .before .before .compare-numbers2 .ensures) (c .before .before .match3 .keys1) (c .compare-numbers3 .ensures)

@@ -1,0 +1,41 @@
+// A batch and a position in it. Each function takes the walker apart and calls a function of the crate on the slice and the number.
+use crate::Step;
+use crate::next_at;
+use crate::step_at;
+ghost use mathlib.Core.Path.{_≡_};
+ghost use Rattle.batch.specs.Walk.{firstAt, stepAt, advanced};
+
+// 01: "A walk over a bundle remembers the bundle and its position".
+pub struct Walker<'a> {
+    pub src: &'a [u8],
+    pub at: usize,
+}
+
+// At the first entry.
+pub fn new<'a>(src: &'a [u8]) -> Walker<'a>
+    ensures { λ r. ⌜ (r .src ≡ src .entry) × (r .at ≡ firstAt) ⌝ }
+{
+    Walker { src, at: 1 }
+}
+
+// Where the entry at the walker's position starts and ends.
+pub fn step<'a>(w: Walker<'a>) -> Step
+    ensures { λ r. ⌜ r ≡ stepAt (now (w .entry .src)) (w .entry .at) ⌝ }
+{
+    step_at(w.src, w.at)
+}
+
+// At the next entry.
+pub fn advance<'a>(w: Walker<'a>) -> Walker<'a>
+    ensures { λ r. ⌜ r ≡ advanced (w .entry) ⌝ }
+{
+    let at = next_at(w.src, w.at);
+    Walker { src: w.src, at }
+}
+
+// The step of a walker at a position of a batch. Its contract says nothing of a walker, so a caller needs no walk by hand.
+pub fn walk_step(batch: &[u8], at: usize) -> Step
+    ensures { λ r. ⌜ r ≡ stepAt (now (batch .entry)) at ⌝ }
+{
+    step(Walker { src: batch, at })
+}

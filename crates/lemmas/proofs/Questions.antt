@@ -1,0 +1,59 @@
+-- What it says that no question gets a no, and the limits of a setup as facts.
+-- Assumes nothing.
+use Prim.Native.Nat.{ℕ, zero, suc, _+_, _*_, _≤_, _<_}
+use native.Mathlib.Omega.{arith}
+use mathlib.Core.Path.{_≡_, refl, sym, _∙_}
+use mathlib.Core.Bool.{Bool, true, false, _&&_, cond}
+use mathlib.Core.List.{List, [], _∷_, _++_}
+use lib.Dec.{leb, ltb}
+use borrow.Author.Tests.{leb-true, ltb-true, le-leb, lt-ltb}
+use Rattle.laws.specs.Lists.{within}
+use Rattle.laws.proofs.Numbers.{and-left, and-right, and-intro}
+use Rattle.model.specs.Setup.{Setup, inLimits, leastModulus}
+use Rattle.model.specs.Question.{Question, ask, firstNo}
+use Rattle.lemmas.proofs.Bounds.{Limits}
+
+-- a list with no no: the first question gets a yes, and so do the others
+pub first-yes : (holds : Bool) (k : ℕ) (qs : List Question) → firstNo (ask holds (suc k) ∷ qs) ≡ 0 → holds ≡ true
+unfolding firstNo
+first-yes true k qs h = refl
+first-yes false k qs h = absurd (omega arith)
+
+pub other-yes : (holds : Bool) (k : ℕ) (qs : List Question) → firstNo (ask holds (suc k) ∷ qs) ≡ 0 → firstNo qs ≡ 0
+unfolding firstNo
+other-yes true k qs h = h
+other-yes false k qs h = absurd (omega arith)
+
+-- and the other way round
+pub yes-cons : (holds : Bool) (k : ℕ) (qs : List Question) → holds ≡ true → firstNo (ask holds k ∷ qs) ≡ firstNo qs
+unfolding firstNo
+yes-cons holds k qs h = rw h
+
+pub no-cons : (holds : Bool) (k : ℕ) (qs : List Question) → holds ≡ false → firstNo (ask holds k ∷ qs) ≡ k
+unfolding firstNo
+no-cons holds k qs h = rw h
+
+pub within-low : (lo hi x : ℕ) → within lo hi x ≡ true → lo ≤ x
+unfolding within
+within-low lo hi x h = leb-true lo x (and-left (leb lo x) (leb x hi) h)
+
+pub within-high : (lo hi x : ℕ) → within lo hi x ≡ true → x ≤ hi
+unfolding within
+within-high lo hi x h = leb-true x hi (and-right (leb lo x) (leb x hi) h)
+
+pub limits-from : (s : Setup) → inLimits s ≡ true → Limits s
+unfolding inLimits leastModulus
+limits-from s h =
+    let h₁ = and-right (within 1 16 (s .n)) _ h in
+    let h₂ = and-right (within 1 16 (s .epsilon)) _ h₁ in
+    let h₃ = and-right (leb (s .delta) 64) _ h₂ in
+    record {
+      n-pos = within-low 1 16 (s .n) (and-left _ _ h);
+      n-most = within-high 1 16 (s .n) (and-left _ _ h);
+      epsilon-pos = within-low 1 16 (s .epsilon) (and-left _ _ h₁);
+      epsilon-most = within-high 1 16 (s .epsilon) (and-left _ _ h₁);
+      delta-most = leb-true (s .delta) 64 (and-left _ _ h₂);
+      modulus-least = within-low (6 * s .epsilon + s .delta + 1) 65535 (s .modulus) (and-left _ _ h₃);
+      modulus-most = within-high (6 * s .epsilon + s .delta + 1) 65535 (s .modulus) (and-left _ _ h₃);
+      own-below = ltb-true (s .own) (s .n) (and-right (within (6 * s .epsilon + s .delta + 1) 65535 (s .modulus)) _ h₃);
+    }

@@ -1,0 +1,217 @@
+-- The queue's buffer within a tick: where frames stand, that one more fits, and what taking, opening and emptying leave. Assumes nothing.
+use Prim.Native.Nat.{ℕ, zero, suc, _+_, _*_, _-_, _≤_, _<_}
+use native.Mathlib.Nat.{mul-le-mul-right, mul-comm, suc-mul, add-mul, one-mul}
+use native.Mathlib.Numerals.{add-one}
+use native.Mathlib.Omega.{arith}
+use mathlib.Core.Path.{_≡_, refl, sym, ap, _∙_}
+use mathlib.Core.Bool.{Bool, true, false, cond}
+use mathlib.Core.List.{List, [], _∷_, _++_, map, List·Memᴰ}
+use lib.Dec.{leb, eqb}
+use lib.ListN.{length, take, drop, length-drop, length-append, length-map}
+use lib.Seq.{take-all}
+use borrow.Author.Tests.{le-leb}
+use Rattle.laws.proofs.Numbers.{and-left, and-right}
+use Rattle.laws.specs.Lists.{every, any, chained, apart, joined, overlay, insertAt}
+use Rattle.laws.proofs.Lists.{every-mem, every-of-mem, every-map, leading-le, length-overlay, length-joined-le, length-insertAt}
+use Rattle.model.specs.Setup.{Setup, inLimits, width, depth, longestFrame, holdbackLength}
+use Rattle.model.specs.Frame.{Frame, twoAt, twoBytes, wellFormed, encode, decode, frameEnd}
+use Rattle.model.specs.Order.{before}
+use Rattle.model.specs.Holdback.{heldBytes, held, passes, notEarly, notOverdue, sameOrigin, soundHoldback, encodeFrames, encodeHoldback}
+use Rattle.model.specs.Judge.{placeFor, readingOf, judgeQuestions}
+use Rattle.model.specs.Tick.{holdbackSize}
+use Rattle.lemmas.proofs.Bounds.{Limits, FrameOk, QueueOk}
+use Rattle.lemmas.proofs.Questions.{limits-from}
+use Rattle.frame.proofs.Shape.{formed}
+use Rattle.lemmas.proofs.RoundTrip.{form-passed, passes-formed, passes-encode, two-at-encode, held-encode, held-frames, held-holdback, frame-fits, length-holdback}
+use Rattle.lemmas.proofs.Queue.{Passed, judged-passed, sound-queue, queue-none, queue-take, queue-room, queue-few, queue-sound}
+use Rattle.holdback.specs.Queue.{frameStart, bytesAt, Figures}
+use Rattle.holdback.specs.Seen.{InWindow, seenTable, marked}
+use Rattle.holdback.specs.Sound.{openedQueue}
+use Rattle.holdback.proofs.Frames.{start-zero, start-suc, start-longest, start-within, FormedUpTo}
+use Rattle.holdback.proofs.Changes.{formed-frames, length-held}
+use Rattle.holdback.proofs.Seen.{seen-insert}
+use Rattle.node.specs.States.{Timed, Stored, Queued, Reached, Taking, Took, QueueOpened}
+use Rattle.node.proofs.Verdicts.{taken-passed, late-window}
+
+-- ---- where frame index starts
+
+module _ (epsilon : ℕ) (s : List ℕ) (index : ℕ) (r : Reached epsilon s index) where
+  up-to : (k : ℕ) → k ≤ index → FormedUpTo epsilon s k
+  up-to k h = λ i l. formed-frames epsilon s (r .formed) i (omega (arith, r .inside))
+
+  pub reached-inside : (i at : ℕ) → i ≤ index → at ≡ frameStart epsilon s i → at ≤ length s
+  reached-inside i at h e = omega (arith, start-within epsilon s i (r .two) (up-to i h))
+
+  pub reached-next : (i at x : ℕ) → i < index → at ≡ frameStart epsilon s i → x ≡ frameEnd epsilon (take (length s - at) (drop at s)) → at + x ≡ frameStart epsilon s (i + 1)
+  reached-next i at x h e k =
+      let whole : take (length s - at) (drop at s) ≡ drop at s = take-all (length s - at) (drop at s) (omega (arith, length-drop at s)) in
+      let x-is : x ≡ frameEnd epsilon (drop (frameStart epsilon s i) s) = k ∙ (ap (frameEnd epsilon) whole ∙ ap (λ (a : ℕ). frameEnd epsilon (drop a s)) e) in
+      let next : frameStart epsilon s (suc i) ≡ frameStart epsilon s i + frameEnd epsilon (drop (frameStart epsilon s i) s) = start-suc epsilon s i in
+      rw add-one (omega arith)
+
+  pub reached-next-inside : (i : ℕ) → i < index → frameStart epsilon s (i + 1) ≤ length s
+  reached-next-inside i h = reached-inside (i + 1) (frameStart epsilon s (i + 1)) (omega arith) refl
+
+-- ---- a sound queue
+
+pub sound-formed : (s : Setup) (v : ℕ) (buffer : List ℕ) → soundHoldback s v buffer ≡ true → every (wellFormed (s .epsilon)) (heldBytes (s .epsilon) buffer) ≡ true
+unfolding soundHoldback
+sound-formed s v buffer h =
+    let h₁ = and-right (leb (twoAt buffer 0) (depth (s .n) (s .epsilon) (s .delta))) _ h in
+    let p : every (passes s) (heldBytes (s .epsilon) buffer) ≡ true = and-left (every (passes s) (heldBytes (s .epsilon) buffer)) _ h₁ in
+    every-of-mem (wellFormed (s .epsilon)) (heldBytes (s .epsilon) buffer) (λ b m. passes-formed s b (every-mem (passes s) p m))
+
+pub size-two : (s : Setup) (n : ℕ) → n ≡ holdbackSize s → 2 ≤ n
+unfolding holdbackLength
+size-two s n e = omega arith
+
+-- the frames of a queue in a buffer, with anything behind them
+pub frames-sound : (s : Setup) (v : ℕ) (queue : List Frame) (rest : List ℕ) → Limits s → v < s .modulus → QueueOk s v queue → soundHoldback s v (encodeFrames queue ++ rest) ≡ true
+unfolding soundHoldback
+frames-sound s v queue rest limits below ok =
+    let wide : (f : Frame) → List·Memᴰ f queue → length (f .stamp .kn) ≡ width (s .epsilon) = λ f m. ok .frames f m .sound .wide in
+    let few = queue-few s v queue limits below ok in
+    let room = queue-room s v queue limits below ok in
+    rw (
+      two-at-encode queue rest,
+      held-encode (s .epsilon) queue rest wide few,
+      held-frames (s .epsilon) queue rest wide few,
+      le-leb (length queue) (depth (s .n) (s .epsilon) (s .delta)) (omega arith),
+      every-map (passes s) encode queue,
+      every-of-mem (λ f. passes s (encode f)) queue (λ f m. passes-encode s f limits (ok .frames f m)),
+      ok .ordered,
+      ok .single,
+      ok .early,
+      ok .overdue,
+    )
+
+frames-long : (s : Setup) (queue : List Frame) → Limits s → ((f : Frame) → List·Memᴰ f queue → FrameOk s f) → length queue ≤ depth (s .n) (s .epsilon) (s .delta) → length (encodeFrames queue) ≤ holdbackSize s
+unfolding encodeFrames twoBytes holdbackLength
+frames-long s queue limits ok few =
+    let one : (f : Frame) → List·Memᴰ f queue → length (encode f) ≤ longestFrame (s .epsilon) = λ f m. frame-fits s f (ok f m) in
+    let all : length (joined encode queue) ≤ length queue * longestFrame (s .epsilon) = length-joined-le encode queue (longestFrame (s .epsilon)) one in
+    let d = depth (s .n) (s .epsilon) (s .delta) in
+    omega (arith, mul-le-mul-right (longestFrame (s .epsilon)) few, mul-comm d (longestFrame (s .epsilon)))
+
+-- ---- a frame that is to be taken
+
+-- what is known of it and of the buffer
+pub record Known (s : Setup) (v : ℕ) (buffer : List ℕ) (place : ℕ) (bytes : List ℕ) : Type 0 where
+  pub limits : Limits s
+  pub below : v < s .modulus
+  pub passed : Passed s v (held (s .epsilon) buffer) (decode (s .epsilon) bytes)
+  pub place-is : placeFor s v (held (s .epsilon) buffer) (decode (s .epsilon) bytes) ≡ place
+  pub two : 2 ≤ length buffer
+  pub formed : every (wellFormed (s .epsilon)) (heldBytes (s .epsilon) buffer) ≡ true
+  pub inside : place ≤ twoAt buffer 0
+  pub form : wellFormed (s .epsilon) bytes ≡ true
+  pub ok : QueueOk s v (held (s .epsilon) buffer)
+  pub few : twoAt buffer 0 < 65535
+  pub window : InWindow s v (decode (s .epsilon) bytes)
+
+pub known : (s : Setup) (v : ℕ) (buffer : List ℕ) (place : ℕ) (bytes : List ℕ) → Taking s v buffer place bytes → Known s v buffer place bytes
+unfolding placeFor judgeQuestions depth
+known s v buffer place bytes t =
+    let lim : Limits s = limits-from s (t .timed .limits) in
+    let queue : List Frame = held (s .epsilon) buffer in
+    let ok : QueueOk s v queue = sound-queue s v buffer lim (t .sound) in
+    let both = taken-passed s v queue bytes place (t .judged) in
+    let passed : Passed s v queue (decode (s .epsilon) bytes) = judged-passed s v queue bytes lim (both .0) in
+    let long : length queue ≡ twoAt buffer 0 = length-held (s .epsilon) buffer in
+    let room : length queue < depth (s .n) (s .epsilon) (s .delta) = queue-room s v queue lim (t .timed .below) ok in
+    let most : s .n * (s .delta + 3 * s .epsilon) ≤ 16 * (s .delta + 3 * s .epsilon) = mul-le-mul-right (s .delta + 3 * s .epsilon) (lim .n-most) in
+    record {
+      limits = lim;
+      below = t .timed .below;
+      passed = passed;
+      place-is = both .1;
+      two = size-two s (length buffer) (t .size);
+      formed = sound-formed s v buffer (t .sound);
+      inside = omega (arith, both .1, leading-le (λ g. before (s .epsilon) (s .modulus) v g (decode (s .epsilon) bytes)) queue, long);
+      form = form-passed s bytes _ (both .0);
+      ok = ok;
+      few = omega (arith, long, room, most, lim .epsilon-most, lim .delta-most);
+      window = late-window s v (decode (s .epsilon) bytes) (passed .frame) (passed .late);
+    }
+
+-- the bytes of k frames are not longer than k of the longest
+start-most : (epsilon : ℕ) (buffer : List ℕ) (k : ℕ) → FormedUpTo epsilon buffer k → frameStart epsilon buffer k ≤ 2 + k * (39 + 2 * epsilon)
+start-most epsilon buffer zero ok = omega (arith, start-zero epsilon buffer)
+start-most epsilon buffer (suc k) ok =
+    let before-it = start-most epsilon buffer k (λ i l. ok i (omega arith)) in
+    let this = start-longest epsilon buffer k (ok k (omega arith)) in
+    omega (arith, suc-mul k (39 + 2 * epsilon))
+
+module _ (s : Setup) (v : ℕ) (buffer : List ℕ) (place : ℕ) (bytes : List ℕ) (t : Taking s v buffer place bytes) where
+  abbrev k : Known s v buffer place bytes
+  k = known s v buffer place bytes t
+
+  -- one more frame fits
+  pub fits : frameStart (s .epsilon) buffer (twoAt buffer 0) + length bytes ≤ length buffer
+  unfolding holdbackLength longestFrame width
+  fits =
+      let queue : List Frame = held (s .epsilon) buffer in
+      let starts = start-most (s .epsilon) buffer (twoAt buffer 0) (formed-frames (s .epsilon) buffer (k .formed)) in
+      let size : length buffer ≡ 2 + (39 + 2 * s .epsilon) * depth (s .n) (s .epsilon) (s .delta) = t .size in
+      let room : length queue < depth (s .n) (s .epsilon) (s .delta) = queue-room s v queue (k .limits) (k .below) (k .ok) in
+      let long : length queue ≡ twoAt buffer 0 = length-held (s .epsilon) buffer in
+      let one : twoAt buffer 0 + 1 ≤ depth (s .n) (s .epsilon) (s .delta) = omega arith in
+      let shape = formed (s .epsilon) bytes (k .form) in
+      let many : (twoAt buffer 0 + 1) * (39 + 2 * s .epsilon) ≤ depth (s .n) (s .epsilon) (s .delta) * (39 + 2 * s .epsilon) = mul-le-mul-right (39 + 2 * s .epsilon) one in
+      omega (arith, mul-comm (depth (s .n) (s .epsilon) (s .delta)) (39 + 2 * s .epsilon), add-mul (twoAt buffer 0) 1 (39 + 2 * s .epsilon), one-mul (39 + 2 * s .epsilon))
+
+  abbrev more : List Frame
+  more = insertAt place (decode (s .epsilon) bytes) (held (s .epsilon) buffer)
+
+  more-ok : QueueOk s v more
+  more-ok = rw (← k .place-is) (queue-take s v (held (s .epsilon) buffer) (decode (s .epsilon) bytes) (k .limits) (k .below) (k .ok) (k .passed))
+
+  -- what taking it leaves
+  module _ (buffer′ : List ℕ) (e : buffer′ ≡ overlay (encodeFrames more) buffer) where
+    pub more-held : held (s .epsilon) buffer′ ≡ more
+    unfolding overlay
+    more-held =
+        ap (held (s .epsilon)) e
+        ∙ held-frames (s .epsilon) more (drop (length (encodeFrames more)) buffer) (λ g m. more-ok .frames g m .sound .wide) (queue-few s v more (k .limits) (k .below) more-ok)
+
+    pub more-queued : (table table′ : List ℕ) → table ≡ seenTable s v (held (s .epsilon) buffer) → table′ ≡ marked s v (decode (s .epsilon) bytes) table → Queued s v buffer′ table′
+    unfolding overlay
+    more-queued table table′ h h′ =
+        let room : length more < depth (s .n) (s .epsilon) (s .delta) = queue-room s v more (k .limits) (k .below) more-ok in
+        let long : length (encodeFrames more) ≤ length buffer = omega (arith, frames-long s more (k .limits) (more-ok .frames) (omega arith), t .size) in
+        record {
+          size = ap length e ∙ (length-overlay (encodeFrames more) buffer long ∙ t .size);
+          sound = ap (soundHoldback s v) e ∙ frames-sound s v more (drop (length (encodeFrames more)) buffer) (k .limits) (k .below) more-ok;
+          table-is =
+              h′ ∙ (ap (marked s v (decode (s .epsilon) bytes)) h ∙ (seen-insert s v (held (s .epsilon) buffer) place (decode (s .epsilon) bytes) ∙ sym (ap (seenTable s v) more-held)));
+        }
+
+-- ---- the queue opened
+
+module _ (s : Setup) (v : ℕ) (buffer : List ℕ) (t : Timed s v) (size : length buffer ≡ holdbackSize s) where
+  pub opened-sound : (table : List ℕ) → soundHoldback s v buffer ≡ true → table ≡ seenTable s v (openedQueue s v buffer) → QueueOpened s v buffer 0 buffer table
+  unfolding openedQueue
+  opened-sound table h e =
+      record {
+        repaired = rw h;
+        queued = record { size = size; sound = h; table-is = rw h at e };
+        queue = rw h;
+      }
+
+  pub opened-empty : (buffer′ table : List ℕ) → soundHoldback s v buffer ≡ false → table ≡ seenTable s v (openedQueue s v buffer) → buffer′ ≡ encodeHoldback (length buffer) [] → QueueOpened s v buffer 2 buffer′ table
+  unfolding openedQueue
+  opened-empty buffer′ table h e b =
+      let lim : Limits s = limits-from s (t .limits) in
+      let none : (f : Frame) → List·Memᴰ f [] → length (f .stamp .kn) ≡ width (s .epsilon) = λ f m. queue-none s v .frames f m .sound .wide in
+      let b′ : buffer′ ≡ encodeHoldback (holdbackSize s) [] = b ∙ ap (λ (n : ℕ). encodeHoldback n []) size in
+      let empty : held (s .epsilon) buffer′ ≡ [] = ap (held (s .epsilon)) b′ ∙ held-holdback (s .epsilon) (holdbackSize s) [] none (omega arith) in
+      record {
+        repaired = rw h;
+        queued =
+            record {
+              size = ap length b′ ∙ length-holdback s [] lim (queue-none s v .frames) (omega arith);
+              sound = ap (soundHoldback s v) b′ ∙ queue-sound s v [] lim (t .below) (queue-none s v);
+              table-is = rw h at e ∙ sym (ap (seenTable s v) empty);
+            };
+        queue = rw h empty;
+      }

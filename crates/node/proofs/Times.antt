@@ -1,0 +1,88 @@
+-- The questions 13 to 15 of a frame, one by one, as the code asks them. Assumes nothing.
+use Prim.Native.Nat.{ℕ, zero, suc, _+_, _*_, _-_, _≤_, _<_}
+use native.Mathlib.Nat.{zero-add, suc-add}
+use native.Mathlib.Omega.{arith}
+use mathlib.Core.Path.{_≡_, refl, sym, ap, _∙_}
+use mathlib.Core.Bool.{Bool, true, false}
+use mathlib.Core.List.{List, [], _∷_}
+use lib.Dec.{leb}
+use lib.ListN.{length, take, drop}
+use lib.Seq.{drop-drop, take-nil}
+use borrow.Author.Tests.{le-leb, lt-leb}
+use Rattle.model.specs.Setup.{Setup, inLimits, width}
+use Rattle.model.specs.Timestamp.{sum, near, atMost}
+use Rattle.model.specs.Frame.{Frame, wellFormed, decode}
+use Rattle.model.specs.Question.{Question, ask, firstNo, frameQuestions, askForm, askRange, askStamp}
+use Rattle.model.specs.Holdback.{notEarly, passes}
+use Rattle.model.specs.Judge.{readingOf, askLate, askEarly, askCounts}
+use Rattle.lemmas.proofs.Bounds.{Limits, FrameOk}
+use Rattle.lemmas.proofs.Questions.{first-yes, yes-cons, no-cons, limits-from}
+use Rattle.lemmas.proofs.RoundTrip.{passes-decode}
+use Rattle.frame.proofs.Shape.{formed}
+use Rattle.lemmas.proofs.Reading.{near-high}
+use Rattle.node.specs.Views.{timeQuestions}
+use Rattle.node.specs.States.{Timed, Readable}
+
+module _ (s : Setup) (v : ℕ) (f : Frame) (reading : ℕ) (e : reading ≡ near (s .epsilon) (s .modulus) v (f .stamp .r)) where
+  pub late-no : reading + (s .delta + s .epsilon) < s .modulus → 13 ≡ firstNo (timeQuestions s v f)
+  unfolding timeQuestions askLate readingOf firstNo
+  late-no h = rw (← e, lt-leb (s .modulus) (reading + (s .delta + s .epsilon)) h)
+
+  module _ (h1 : s .modulus ≤ reading + (s .delta + s .epsilon)) where
+    pub early-no : s .modulus + (s .epsilon - 1) < reading + f .stamp .c → 14 ≡ firstNo (timeQuestions s v f)
+    unfolding timeQuestions askLate askEarly notEarly sum readingOf firstNo
+    early-no h =
+        rw (← e, le-leb (s .modulus) (reading + (s .delta + s .epsilon)) h1, lt-leb (reading + f .stamp .c) (s .modulus + (s .epsilon - 1)) h)
+
+    module _ (h2 : reading + f .stamp .c ≤ s .modulus + (s .epsilon - 1)) where
+      counts-left : firstNo (timeQuestions s v f) ≡ firstNo (ask (atMost (s .n - 1) (drop (s .modulus + s .epsilon - reading) (f .stamp .kn))) 15 ∷ [])
+      unfolding timeQuestions askLate askEarly askCounts notEarly sum readingOf firstNo
+      counts-left =
+          rw (← e, le-leb (s .modulus) (reading + (s .delta + s .epsilon)) h1, le-leb (reading + f .stamp .c) (s .modulus + (s .epsilon - 1)) h2)
+
+      pub counts-no : atMost (s .n - 1) (drop (s .modulus + s .epsilon - reading) (f .stamp .kn)) ≡ false → 15 ≡ firstNo (timeQuestions s v f)
+      counts-no h = sym (counts-left ∙ no-cons _ 15 [] h)
+
+      pub times-right : atMost (s .n - 1) (drop (s .modulus + s .epsilon - reading) (f .stamp .kn)) ≡ true → 0 ≡ firstNo (timeQuestions s v f)
+      unfolding firstNo
+      times-right h = sym (counts-left ∙ yes-cons _ 15 [] h)
+
+drop-take : (n m : ℕ) (l : List ℕ) → drop n (take (n + m) l) ≡ take m (drop n l)
+drop-take zero m l = ap (λ (k : ℕ). take k l) (zero-add m)
+drop-take (suc n) m [] = ap (λ (k : ℕ). drop (suc n) (take k [])) (suc-add n m) ∙ sym (take-nil m)
+drop-take (suc n) m (x ∷ l) = ap (λ (k : ℕ). drop (suc n) (take k (x ∷ l))) (suc-add n m) ∙ drop-take n m l
+
+-- the counts where they stand in the frame
+pub counts-there : (epsilon from : ℕ) (bytes : List ℕ) → drop (6 + from) (take (6 + 2 * epsilon) bytes) ≡ drop from (decode epsilon bytes .stamp .kn)
+unfolding decode width
+counts-there epsilon from bytes =
+    sym (drop-drop from 6 (take (6 + 2 * epsilon) bytes)) ∙ ap (drop from) (drop-take 6 (2 * epsilon) bytes)
+
+-- what a frame that has passed 10 to 12 gives
+pub record Given (s : Setup) (v : ℕ) (bytes : List ℕ) : Type 0 where
+  pub limits : Limits s
+  pub below : v < s .modulus
+  pub frame : FrameOk s (decode (s .epsilon) bytes)
+  pub formed : wellFormed (s .epsilon) bytes ≡ true
+  pub r-below : decode (s .epsilon) bytes .stamp .r < s .modulus
+  pub c-below : decode (s .epsilon) bytes .stamp .c < s .epsilon
+  pub high : near (s .epsilon) (s .modulus) v (decode (s .epsilon) bytes .stamp .r) < s .modulus + s .epsilon
+  pub long : 7 + 2 * s .epsilon ≤ length bytes
+
+pub given : (s : Setup) (v : ℕ) (bytes : List ℕ) → Readable s v bytes → Given s v bytes
+unfolding frameQuestions askForm passes
+given s v bytes p =
+    let lim : Limits s = limits-from s (p .timed .limits) in
+    let ok : FrameOk s (decode (s .epsilon) bytes) = passes-decode s bytes lim (rw (p .passed)) in
+    let form : wellFormed (s .epsilon) bytes ≡ true = first-yes (wellFormed (s .epsilon) bytes) 9 _ (p .passed) in
+    let shape = formed (s .epsilon) bytes form in
+    record {
+      limits = lim;
+      below = p .timed .below;
+      frame = ok;
+      formed = form;
+      r-below = ok .r-below;
+      c-below = ok .sound .close;
+      high = near-high (s .epsilon) (s .modulus) v (decode (s .epsilon) bytes .stamp .r) (lim .epsilon-pos) (omega (arith, lim .modulus-least, lim .epsilon-pos));
+      long = omega arith;
+    }

@@ -1,0 +1,149 @@
+-- `node::hearing::hear` meets its contract. Assumes nothing.
+use Prim.Native.Nat.{ℕ, _+_, _-_, _≤_, _<_}
+use native.Mathlib.Omega.{arith}
+use mathlib.Core.Path.{_≡_, refl, sym, _∙_, ap}
+use denote.Enum.Declared
+use mathlib.Core.List.{List}
+use lib.ListN.{length, length-set}
+use borrow.Author.Needs.{needs}
+use Rattle.model.specs.Holdback.{held}
+use Rattle.model.specs.Judge.{taken, refused, judge, verdictNumber}
+use Rattle.lemmas.proofs.Questions.{limits-from}
+use Rattle.batch.specs.Walk.{countOf, entryAt}
+use Rattle.timestamp.specs.Views.{setupOf, stampOf}
+use Rattle.node.specs.Views.{verdictOf}
+use Rattle.node.proofs.Verdicts.{Tags, table-long, is-refused}
+use Rattle.node.proofs.Turns.{Turning, turning-start, turn-refused, turn-taken, turning-end}
+use Rattle.node.proofs.hearing.hear.Statement.{statement}
+use Rattle.node.proofs.hearing.hear.Tie as tie
+
+abbrev tags : Tags
+tags = record { tag = Declared.tagOf Rattle.node.proofs.verdict.Verdict.the-type; at-taken = λ place. refl; at-refused = λ number. refl }
+
+abbrev Inv-loop : tie.InvT-loop
+Inv-loop setup clock batch holdback₀ seen₀ verdicts₀ count own₀ taken₀ at₀ i₀ holdback seen verdicts own took at i =
+    Turning (setupOf setup) clock (stampOf own₀) batch holdback₀ verdicts₀ (stampOf own) took at i holdback seen verdicts
+
+abbrev μ-loop : tie.MeasureT-loop
+μ-loop setup clock batch holdback₀ seen₀ verdicts₀ count own₀ taken₀ at₀ i₀ holdback seen verdicts own took at i = count - i
+
+count-of-requires : tie.Need-count-of-requires Inv-loop μ-loop
+count-of-requires c κs = search needs
+
+loop-holds : tie.Need-loop-holds Inv-loop μ-loop
+loop-holds c =
+    turning-start (setupOf (c .before .before .before .before .before .args .setup)) (c .before .before .before .before .before .args .clock) (stampOf (c .before .before .before .before .before .args .stamp)) (c .before .before .before .before .before .args .batch .now) (c .before .before .before .before .before .args .holdback .now) (c .before .before .before .before .before .args .seen .now) (c .before .before .before .before .before .args .verdicts .now) (c .before .before .before .before .before .pre .1 .1) (c .before .before .before .before .before .pre .1 .0)
+
+-- so many entries have a place for their verdict
+few : (c : tie.After-count-of Inv-loop μ-loop) → (countOf (c .before .before .before .before .before .args .batch .now) ≤ 255) × (countOf (c .before .before .before .before .before .args .batch .now) ≤ length (c .before .before .before .before .before .args .verdicts .now))
+unfolding countOf
+few c = omega (arith, c .before .before .before .before .shared-slice-known .given 0, c .before .before .before .before .before .pre .1 .1 .room)
+
+more : (c : tie.In-loop Inv-loop μ-loop) → c .before .loop .i < countOf (c .before .before .before .before .before .before .before .args .batch .now)
+more c = omega (arith, c .before .before .count-of .ensures)
+
+entry-at-requires : tie.Need-entry-at-requires Inv-loop μ-loop
+entry-at-requires c κs = search needs
+
+next-at-requires : tie.Need-next-at-requires Inv-loop μ-loop
+next-at-requires c κs = search needs
+
+judge-requires : tie.Need-judge-requires Inv-loop μ-loop
+judge-requires c κs = (c .before .before .before .before .before .before .before .before .before .before .before .pre .0, c .before .before .before .before .before .loop .inv .queued)
+
+judged : (c : tie.After-judge Inv-loop μ-loop) → judge (setupOf (c .before .before .before .before .before .before .before .before .before .before .before .before .args .setup)) (c .before .before .before .before .before .before .before .before .before .before .before .before .args .clock) (held (c .before .before .before .before .before .before .before .before .before .before .before .before .args .setup .epsilon) (c .before .before .before .before .before .before .loop .holdback)) (entryAt (c .before .before .before .before .before .before .before .before .before .before .before .before .args .batch .now) (c .before .before .before .before .before .before .loop .at)) ≡ verdictOf (c .judge .result)
+judged c = sym (c .judge .ensures ∙ ap (judge (setupOf (c .before .before .before .before .before .before .before .before .before .before .before .before .args .setup)) (c .before .before .before .before .before .before .before .before .before .before .before .before .args .clock) (held (c .before .before .before .before .before .before .before .before .before .before .before .before .args .setup .epsilon) (c .before .before .before .before .before .before .loop .holdback))) (c .before .before .before .before .entry-at .ensures))
+
+enum-known-verdict : tie.Need-enum-known-verdict Inv-loop μ-loop
+enum-known-verdict c = search needs
+
+enum-told : tie.Need-enum-told Inv-loop μ-loop
+enum-told c = search needs
+
+number-of-requires : tie.Need-number-of-requires Inv-loop μ-loop
+number-of-requires c κs = search needs
+
+slice-write-verdicts : tie.Need-slice-write-verdicts Inv-loop μ-loop
+slice-write-verdicts c = omega (arith, few (c .before .before .before .before .before .before .before .before .before .before), more (c .before .before .before .before .before .before .before .before), c .before .before .before .before .before .before .before .before .before .loop .inv .long)
+
+add-i : tie.Need-add-i Inv-loop μ-loop
+add-i c = omega (arith, few (c .before .before .before .before .before .before .before .before .before .before), more (c .before .before .before .before .before .before .before .before))
+
+loop-less : tie.Need-loop-less Inv-loop μ-loop
+loop-less c = omega arith
+
+loop-again : tie.Need-loop-again Inv-loop μ-loop
+loop-again c =
+    rw (c .before .before .before .before .before .before .next-at .ensures)
+    (turn-refused (setupOf (c .before .before .before .before .before .before .before .before .before .before .before .before .before .before .before .args .setup)) (c .before .before .before .before .before .before .before .before .before .before .before .before .before .before .before .args .clock) (stampOf (c .before .before .before .before .before .before .before .before .before .before .before .before .before .before .before .args .stamp)) (c .before .before .before .before .before .before .before .before .before .before .before .before .before .before .before .args .batch .now) (c .before .before .before .before .before .before .before .before .before .before .before .before .before .before .before .args .holdback .now) (c .before .before .before .before .before .before .before .before .before .before .before .before .before .before .before .args .verdicts .now) (stampOf (c .before .before .before .before .before .before .before .before .before .loop .own)) (c .before .before .before .before .before .before .before .before .before .loop .taken) (c .before .before .before .before .before .before .before .before .before .loop .at) (c .before .before .before .before .before .before .before .before .before .loop .i) (c .before .before .before .before .before .before .before .before .before .loop .holdback) (c .before .before .before .before .before .before .before .before .before .loop .seen) (c .before .before .before .before .before .before .before .before .before .loop .verdicts) (c .before .before .before .before .before .before .before .before .before .loop .inv) (more (c .before .before .before .before .before .before .before .before)) (few (c .before .before .before .before .before .before .before .before .before .before) .1) (verdictNumber (verdictOf (c .before .before .before .judge .result))) (c .number-of .result) (judged (c .before .before .before) ∙ is-refused tags (c .before .before .before .judge .result) (c .before .before .match .keys2)) (c .number-of .ensures))
+
+take-requires : tie.Need-take-requires Inv-loop μ-loop
+take-requires c κs =
+    ( record {
+        timed = c .before .before .before .before .before .before .before .before .before .before .before .before .before .before .before .before .before .pre .0;
+        size = c .before .before .before .before .before .before .before .before .before .before .before .loop .inv .queued .size;
+        sound = c .before .before .before .before .before .before .before .before .before .before .before .loop .inv .queued .sound;
+        judged = sym (c .before .before .before .before .before .judge .ensures) ∙ ap verdictOf (c .before .before .before .verdict .given .1);
+      },
+      c .before .before .before .before .before .before .before .before .before .before .before .loop .inv .queued)
+
+slice-write-verdicts-2 : tie.Need-slice-write-verdicts-2 Inv-loop μ-loop
+slice-write-verdicts-2 c = omega (arith, few (c .before .before .before .before .before .before .before .before .before .before .before .before .before .before .before .before .before), more (c .before .before .before .before .before .before .before .before .before .before .before .before .before .before .before), c .before .before .before .before .before .before .before .before .before .before .before .before .before .before .before .before .loop .inv .long)
+
+add-taken : tie.Need-add-taken Inv-loop μ-loop
+add-taken c = omega (arith, few (c .before .before .before .before .before .before .before .before .before .before .before .before .before .before .before .before .before), more (c .before .before .before .before .before .before .before .before .before .before .before .before .before .before .before), c .before .before .before .before .before .before .before .before .before .before .before .before .before .before .before .before .loop .inv .few)
+
+add-i-2 : tie.Need-add-i-2 Inv-loop μ-loop
+add-i-2 c = omega (arith, few (c .before .before .before .before .before .before .before .before .before .before .before .before .before .before .before .before .before), more (c .before .before .before .before .before .before .before .before .before .before .before .before .before .before .before))
+
+loop-less-2 : tie.Need-loop-less-2 Inv-loop μ-loop
+loop-less-2 c = omega (arith, c .before .before .before .before .before .before .before .before .before .before .before .before .before .before .before .loop-test .taken)
+
+loop-again-2 : tie.Need-loop-again-2 Inv-loop μ-loop
+loop-again-2 c =
+    rw (c .before .before .before .before .before .before .before .before .before .before .before .before .before .next-at .ensures)
+    (turn-taken (setupOf (c .before .before .before .before .before .before .before .before .before .before .before .before .before .before .before .before .before .before .before .before .before .before .args .setup)) (c .before .before .before .before .before .before .before .before .before .before .before .before .before .before .before .before .before .before .before .before .before .before .args .clock) (stampOf (c .before .before .before .before .before .before .before .before .before .before .before .before .before .before .before .before .before .before .before .before .before .before .args .stamp)) (c .before .before .before .before .before .before .before .before .before .before .before .before .before .before .before .before .before .before .before .before .before .before .args .batch .now) (c .before .before .before .before .before .before .before .before .before .before .before .before .before .before .before .before .before .before .before .before .before .before .args .holdback .now) (c .before .before .before .before .before .before .before .before .before .before .before .before .before .before .before .before .before .before .before .before .before .before .args .verdicts .now) (stampOf (c .before .before .before .before .before .before .before .before .before .before .before .before .before .before .before .before .loop .own)) (c .before .before .before .before .before .before .before .before .before .before .before .before .before .before .before .before .loop .taken) (c .before .before .before .before .before .before .before .before .before .before .before .before .before .before .before .before .loop .at) (c .before .before .before .before .before .before .before .before .before .before .before .before .before .before .before .before .loop .i) (c .before .before .before .before .before .before .before .before .before .before .before .before .before .before .before .before .loop .holdback) (c .before .before .before .before .before .before .before .before .before .before .before .before .before .before .before .before .loop .seen) (c .before .before .before .before .before .before .before .before .before .before .before .before .before .before .before .before .loop .verdicts) (c .before .before .before .before .before .before .before .before .before .before .before .before .before .before .before .before .loop .inv) (more (c .before .before .before .before .before .before .before .before .before .before .before .before .before .before .before)) (few (c .before .before .before .before .before .before .before .before .before .before .before .before .before .before .before .before .before) .1) (c .before .before .before .before .before .before .before .before .verdict .given .0 .0) (stampOf (c .before .before .before .before .take .result)) _ _ (limits-from (setupOf (c .before .before .before .before .before .before .before .before .before .before .before .before .before .before .before .before .before .before .before .before .before .before .args .setup)) (c .before .before .before .before .before .before .before .before .before .before .before .before .before .before .before .before .before .before .before .before .before .before .pre .0 .limits) .epsilon-most) (judged (c .before .before .before .before .before .before .before .before .before .before) ∙ ap verdictOf (c .before .before .before .before .before .before .before .before .verdict .given .1)) (rw (c .before .before .before .before .before .before .before .before .before .before .before .before .before .before .entry-at .ensures) at (c .before .before .before .before .take .ensures)))
+
+same-length : tie.Need-same-length Inv-loop μ-loop
+same-length c = c .before .loop .inv .queued .size ∙ sym (c .before .before .before .before .before .before .before .pre .1 .0 .size)
+
+same-length-2 : tie.Need-same-length-2 Inv-loop μ-loop
+same-length-2 c =
+    (ap length (c .before .loop .inv .queued .table-is) ∙ table-long (setupOf (c .before .before .before .before .before .before .before .args .setup)) (c .before .before .before .before .before .before .before .args .clock) (held (c .before .before .before .before .before .before .before .args .setup .epsilon) (c .before .loop .holdback)))
+    ∙ sym (ap length (c .before .before .before .before .before .before .before .pre .1 .0 .table-is) ∙ table-long (setupOf (c .before .before .before .before .before .before .before .args .setup)) (c .before .before .before .before .before .before .before .args .clock) (held (c .before .before .before .before .before .before .before .args .setup .epsilon) (c .before .before .before .before .before .before .before .args .holdback .now)))
+
+same-length-3 : tie.Need-same-length-3 Inv-loop μ-loop
+same-length-3 c = c .before .loop .inv .long
+
+returns : tie.Need-returns Inv-loop μ-loop
+returns c =
+    turning-end (setupOf (c .before .before .before .before .before .before .before .args .setup)) (c .before .before .before .before .before .before .before .args .clock) (stampOf (c .before .before .before .before .before .before .before .args .stamp)) (c .before .before .before .before .before .before .before .args .batch .now) (c .before .before .before .before .before .before .before .args .holdback .now) (c .before .before .before .before .before .before .before .args .verdicts .now) (stampOf (c .before .loop .own)) (c .before .loop .taken) (c .before .loop .at) (c .before .loop .i) (c .before .loop .holdback) (c .before .loop .seen) (c .before .loop .verdicts) (c .before .loop .inv) (omega (arith, c .before .before .count-of .ensures)) (few (c .before .before) .1)
+
+pub hear-spec : {M : Type 1} → statement M
+hear-spec =
+    tie.close
+    (tie.spec
+    Inv-loop
+    μ-loop
+    count-of-requires
+    loop-holds
+    entry-at-requires
+    next-at-requires
+    judge-requires
+    enum-known-verdict
+    enum-told
+    number-of-requires
+    slice-write-verdicts
+    add-i
+    loop-less
+    loop-again
+    take-requires
+    slice-write-verdicts-2
+    add-taken
+    add-i-2
+    loop-less-2
+    loop-again-2
+    same-length
+    same-length-2
+    same-length-3
+    returns)

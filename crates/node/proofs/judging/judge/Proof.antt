@@ -1,0 +1,136 @@
+-- `node::judging::judge` meets its contract. Assumes nothing.
+use Prim.Native.Nat.{ℕ, _≤_, _<_}
+use native.Mathlib.Omega.{arith}
+use mathlib.Core.Path.{_≡_, sym, _∙_, ap}
+use mathlib.Core.Bool.{true}
+use mathlib.Core.List.{List}
+use lib.Dec.{eqb}
+use lib.ListN.{length}
+use borrow.Author.Tests.{eq-eqb}
+use borrow.Author.Needs.{needs}
+use Rattle.laws.specs.Lists.{any}
+use Rattle.model.specs.Setup.{depth}
+use Rattle.model.specs.Frame.{Frame, twoAt, decode}
+use Rattle.model.specs.Question.{firstNo, frameQuestions}
+use Rattle.model.specs.Holdback.{held, passes, sameOrigin}
+use Rattle.model.specs.Judge.{taken}
+use Rattle.lemmas.proofs.Bounds.{Limits}
+use Rattle.lemmas.proofs.Questions.{limits-from}
+use Rattle.holdback.specs.Seen.{InWindow}
+use Rattle.holdback.proofs.Changes.{length-held}
+use Rattle.timestamp.specs.Views.{setupOf}
+use Rattle.node.specs.Views.{timeQuestions}
+use Rattle.node.specs.States.{Readable}
+use Rattle.node.proofs.Times.{given}
+use Rattle.node.proofs.Verdicts.{form-no, time-no, repeat-no, room-no, all-yes, late-window, time-late, marked-is, table-long}
+use Rattle.node.proofs.Places.{size-two}
+use Rattle.node.proofs.judging.judge.Statement.{statement}
+use Rattle.node.proofs.judging.judge.Tie as tie
+
+abbrev queue : tie.Start → List Frame
+queue c = held (c .args .setup .epsilon) (c .args .holdback .now)
+
+abbrev frame : tie.Start → Frame
+frame c = decode (c .args .setup .epsilon) (c .args .s .now)
+
+limits : (c : tie.Start) → Limits (setupOf (c .args .setup))
+limits c = limits-from (setupOf (c .args .setup)) (c .pre .0 .limits)
+
+check-requires : tie.Need-check-requires
+check-requires c κs = c .before .before .before .pre .0 .limits
+
+returns : tie.Need-returns
+returns c = form-no (setupOf (c .before .before .before .before .before .args .setup)) (c .before .before .before .before .before .args .clock) (queue (c .before .before .before .before .before)) (c .before .before .before .before .before .args .s .now) (c .before .check .result) (c .before .check .ensures) (c .if1 .taken)
+
+passed : (c : tie.Else1) → firstNo (frameQuestions (setupOf (c .before .before .before .before .before .args .setup)) (c .before .before .before .before .before .args .s .now)) ≡ 0
+passed c = sym (c .before .check .ensures) ∙ c .if1 .left
+
+readable : (c : tie.Else1) → Readable (setupOf (c .before .before .before .before .before .args .setup)) (c .before .before .before .before .before .args .clock) (c .before .before .before .before .before .args .s .now)
+readable c = record { timed = c .before .before .before .before .before .pre .0; passed = passed c }
+
+check-time-requires : tie.Need-check-time-requires
+check-time-requires c κs = readable c
+
+returns-2 : tie.Need-returns-2
+returns-2 c = time-no (setupOf (c .before .before .before .before .before .before .before .args .setup)) (c .before .before .before .before .before .before .before .args .clock) (queue (c .before .before .before .before .before .before .before)) (c .before .before .before .before .before .before .before .args .s .now) (passed (c .before .before)) (c .before .check-time .result) (c .before .check-time .ensures) (c .if2 .taken)
+
+timely : (c : tie.Else2) → firstNo (timeQuestions (setupOf (c .before .before .before .before .before .before .before .args .setup)) (c .before .before .before .before .before .before .before .args .clock) (frame (c .before .before .before .before .before .before .before))) ≡ 0
+timely c = sym (c .before .check-time .ensures) ∙ c .if2 .left
+
+window : (c : tie.Else2) → InWindow (setupOf (c .before .before .before .before .before .before .before .args .setup)) (c .before .before .before .before .before .before .before .args .clock) (frame (c .before .before .before .before .before .before .before))
+window c =
+    late-window (setupOf (c .before .before .before .before .before .before .before .args .setup)) (c .before .before .before .before .before .before .before .args .clock) (frame (c .before .before .before .before .before .before .before)) (given (setupOf (c .before .before .before .before .before .before .before .args .setup)) (c .before .before .before .before .before .before .before .args .clock) (c .before .before .before .before .before .before .before .args .s .now) (readable (c .before .before)) .frame)
+    (time-late (setupOf (c .before .before .before .before .before .before .before .args .setup)) (c .before .before .before .before .before .before .before .args .clock) (frame (c .before .before .before .before .before .before .before)) (timely c))
+
+repeats-requires : tie.Need-repeats-requires
+repeats-requires c κs =
+    ( (c .before .before .before .before .before .before .before .pre .0 .limits, c .before .before .before .before .before .before .before .pre .0 .below),
+      (window c, ap length (c .before .before .before .before .before .before .before .pre .1 .table-is) ∙ table-long (setupOf (c .before .before .before .before .before .before .before .args .setup)) (c .before .before .before .before .before .before .before .args .clock) (queue (c .before .before .before .before .before .before .before))))
+
+repeated : (c : tie.After-repeats) → c .repeats .result ≡ any (sameOrigin (frame (c .before .before .before .before .before .before .before .before))) (queue (c .before .before .before .before .before .before .before .before))
+repeated c = c .repeats .ensures ∙ marked-is (setupOf (c .before .before .before .before .before .before .before .before .args .setup)) (c .before .before .before .before .before .before .before .before .args .clock) (c .before .before .before .before .before .before .before .before .args .holdback .now) (c .before .before .before .before .before .before .before .before .args .seen .now) (frame (c .before .before .before .before .before .before .before .before)) (c .before .before .before .before .before .before .before .before .pre .0) (c .before .before .before .before .before .before .before .before .pre .1) (window (c .before))
+
+returns-3 : tie.Need-returns-3
+returns-3 c =
+    repeat-no (setupOf (c .before .before .before .before .before .before .before .before .before .args .setup)) (c .before .before .before .before .before .before .before .before .before .args .clock) (queue (c .before .before .before .before .before .before .before .before .before)) (c .before .before .before .before .before .before .before .before .before .args .s .now) (passed (c .before .before .before .before)) (timely (c .before .before)) (sym (repeated (c .before)) ∙ c .if3 .taken)
+
+two-at-requires : tie.Need-two-at-requires
+two-at-requires c κs = search needs
+
+cast-depth : tie.Need-cast-depth
+cast-depth c = search needs
+
+cast-depth-2 : tie.Need-cast-depth-2
+cast-depth-2 c = search needs
+
+cast-depth-3 : tie.Need-cast-depth-3
+cast-depth-3 c = search needs
+
+depth-requires : tie.Need-depth-requires
+depth-requires c κs = (limits (c .before .before .before .before .before .before .before .before .before .before .before .before .before) .n-most, (limits (c .before .before .before .before .before .before .before .before .before .before .before .before .before) .epsilon-most, limits (c .before .before .before .before .before .before .before .before .before .before .before .before .before) .delta-most))
+
+long : (c : tie.After-two-at) → length (queue (c .before .before .before .before .before .before .before .before .before .before)) ≡ c .two-at .result
+long c = length-held (c .before .before .before .before .before .before .before .before .before .before .args .setup .epsilon) (c .before .before .before .before .before .before .before .before .before .before .args .holdback .now) ∙ sym (c .two-at .ensures)
+
+full : (c : tie.Then4) → depth (c .before .before .before .before .before .before .before .before .before .before .before .before .before .before .before .args .setup .n) (c .before .before .before .before .before .before .before .before .before .before .before .before .before .before .before .args .setup .epsilon) (c .before .before .before .before .before .before .before .before .before .before .before .before .before .before .before .args .setup .delta) ≤ length (queue (c .before .before .before .before .before .before .before .before .before .before .before .before .before .before .before))
+full c = omega (arith, c .before .depth .ensures, long (c .before .before .before .before .before))
+
+returns-4 : tie.Need-returns-4
+returns-4 c =
+    room-no (setupOf (c .before .before .before .before .before .before .before .before .before .before .before .before .before .before .before .args .setup)) (c .before .before .before .before .before .before .before .before .before .before .before .before .before .before .before .args .clock) (queue (c .before .before .before .before .before .before .before .before .before .before .before .before .before .before .before)) (c .before .before .before .before .before .before .before .before .before .before .before .before .before .before .before .args .s .now) (passed (c .before .before .before .before .before .before .before .before .before .before)) (timely (c .before .before .before .before .before .before .before .before)) (sym (repeated (c .before .before .before .before .before .before .before)) ∙ c .before .before .before .before .before .before .if3 .left) (full c)
+
+room : (c : tie.Else4) → length (queue (c .before .before .before .before .before .before .before .before .before .before .before .before .before .before .before)) < depth (c .before .before .before .before .before .before .before .before .before .before .before .before .before .before .before .args .setup .n) (c .before .before .before .before .before .before .before .before .before .before .before .before .before .before .before .args .setup .epsilon) (c .before .before .before .before .before .before .before .before .before .before .before .before .before .before .before .args .setup .delta)
+room c = omega (arith, c .before .depth .ensures, long (c .before .before .before .before .before))
+
+passes-all : (c : tie.Else1) → passes (setupOf (c .before .before .before .before .before .args .setup)) (c .before .before .before .before .before .args .s .now) ≡ true
+unfolding passes
+passes-all c = eq-eqb (firstNo (frameQuestions (setupOf (c .before .before .before .before .before .args .setup)) (c .before .before .before .before .before .args .s .now))) 0 (passed c)
+
+place-for-requires : tie.Need-place-for-requires
+place-for-requires c κs =
+    ( (c .before .before .before .before .before .before .before .before .before .before .before .before .before .before .before .pre .0 .limits, c .before .before .before .before .before .before .before .before .before .before .before .before .before .before .before .pre .0 .below),
+      ((c .before .before .before .before .before .before .before .before .before .before .before .before .before .before .before .pre .1 .sound, (size-two (setupOf (c .before .before .before .before .before .before .before .before .before .before .before .before .before .before .before .args .setup)) (length (c .before .before .before .before .before .before .before .before .before .before .before .before .before .before .before .args .holdback .now)) (c .before .before .before .before .before .before .before .before .before .before .before .before .before .before .before .pre .1 .size), c .before .before .before .before .before .two-at .ensures)), passes-all (c .before .before .before .before .before .before .before .before .before .before)))
+
+returns-5 : tie.Need-returns-5
+returns-5 c =
+    ap taken (c .place-for .ensures .frames)
+    ∙ all-yes (setupOf (c .before .before .before .before .before .before .before .before .before .before .before .before .before .before .before .before .args .setup)) (c .before .before .before .before .before .before .before .before .before .before .before .before .before .before .before .before .args .clock) (queue (c .before .before .before .before .before .before .before .before .before .before .before .before .before .before .before .before)) (c .before .before .before .before .before .before .before .before .before .before .before .before .before .before .before .before .args .s .now) (passed (c .before .before .before .before .before .before .before .before .before .before .before)) (timely (c .before .before .before .before .before .before .before .before .before)) (sym (repeated (c .before .before .before .before .before .before .before .before)) ∙ c .before .before .before .before .before .before .before .if3 .left) (room (c .before))
+
+pub judge-spec : {M : Type 1} → statement M
+judge-spec =
+    tie.close
+    (tie.spec
+    check-requires
+    returns
+    check-time-requires
+    returns-2
+    repeats-requires
+    returns-3
+    two-at-requires
+    cast-depth
+    cast-depth-2
+    cast-depth-3
+    depth-requires
+    returns-4
+    place-for-requires
+    returns-5)

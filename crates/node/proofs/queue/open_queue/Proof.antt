@@ -1,0 +1,53 @@
+-- `node::queue::open_queue` meets its contract. Assumes nothing.
+use Prim.Native.Nat.{ℕ, _≤_}
+use native.Mathlib.Omega.{arith}
+use mathlib.Core.Path.{_≡_, sym, _∙_, ap}
+use mathlib.Core.Bool.{true, false}
+use lib.ListN.{length}
+use borrow.Author.Needs.{needs}
+use Rattle.model.specs.Holdback.{soundHoldback}
+use Rattle.timestamp.specs.Views.{setupOf}
+use Rattle.node.proofs.Places.{size-two, opened-sound, opened-empty}
+use Rattle.node.proofs.queue.open_queue.Statement.{statement}
+use Rattle.node.proofs.queue.open_queue.Tie as tie
+
+sound-requires : tie.Need-sound-requires
+sound-requires c κs =
+    ( (c .before .before .before .before .pre .0 .limits, c .before .before .before .before .pre .0 .below),
+      (size-two (setupOf (c .before .before .before .before .args .setup)) (length (c .before .before .before .before .args .holdback .now)) (c .before .before .before .before .pre .1 .0 .size), c .before .before .before .before .pre .1 .1))
+
+same-length : tie.Need-same-length
+same-length c = search needs
+
+same-length-2 : tie.Need-same-length-2
+same-length-2 c = search needs
+
+returns : tie.Need-returns
+returns c =
+    opened-sound (setupOf (c .before .before .before .before .before .before .before .before .args .setup)) (c .before .before .before .before .before .before .before .before .args .clock) (c .before .before .before .before .before .before .before .before .args .holdback .now) (c .before .before .before .before .before .before .before .before .pre .0) (c .before .before .before .before .before .before .before .before .pre .1 .0 .size) _ (sym (c .before .before .before .sound .ensures .sound-is) ∙ c .if1 .taken) (c .before .before .before .sound .ensures .table-is)
+
+empty-requires : tie.Need-empty-requires
+empty-requires c κs = size-two (setupOf (c .before .before .before .before .before .before .before .before .before .args .setup)) (length (c .before .before .before .before .before .before .before .before .before .args .holdback .now)) (c .before .before .before .before .before .before .before .before .before .pre .1 .0 .size)
+
+same-length-3 : tie.Need-same-length-3
+same-length-3 c = search needs
+
+same-length-4 : tie.Need-same-length-4
+same-length-4 c = search needs
+
+returns-2 : tie.Need-returns-2
+returns-2 c =
+    opened-empty (setupOf (c .before .before .before .before .before .before .before .before .before .before .before .before .args .setup)) (c .before .before .before .before .before .before .before .before .before .before .before .before .args .clock) (c .before .before .before .before .before .before .before .before .before .before .before .before .args .holdback .now) (c .before .before .before .before .before .before .before .before .before .before .before .before .pre .0) (c .before .before .before .before .before .before .before .before .before .before .before .before .pre .1 .0 .size) _ _ (sym (c .before .before .before .before .before .before .before .sound .ensures .sound-is) ∙ c .before .before .before .before .if1 .left) (c .before .before .before .before .before .before .before .sound .ensures .table-is) (c .before .before .empty .ensures)
+
+pub open-queue-spec : {M : Type 1} → statement M
+open-queue-spec =
+    tie.close
+    (tie.spec
+    sound-requires
+    same-length
+    same-length-2
+    returns
+    empty-requires
+    same-length-3
+    same-length-4
+    returns-2)

@@ -1,0 +1,32 @@
+-- `node::sending::send_frame` meets its contract. Assumes nothing.
+use mathlib.Core.Path.{_≡_, sym, _∙_, ap, refl}
+use mathlib.Core.Bool.{true, false}
+use borrow.Author.Tests.{not-true, not-false}
+use borrow.Author.Needs.{needs}
+use Rattle.timestamp.specs.Views.{stampOf}
+use Rattle.node.proofs.Finish.{none-sent, one-sent}
+use Rattle.node.proofs.sending.send_frame.Statement.{statement}
+use Rattle.node.proofs.sending.send_frame.Tie as tie
+
+returns : tie.Need-returns
+returns c =
+    none-sent (c .before .before .before .args .setup .epsilon) (c .before .before .before .args .setup .own) (stampOf (c .before .before .before .args .stamp)) (c .before .before .before .args .send) (c .before .before .before .args .payload .now) (c .before .before .before .args .outgoing .now) (not-true (c .before .before .before .args .send) (c .if1 .taken))
+
+cast-lay : tie.Need-cast-lay
+cast-lay c = search needs
+
+cast-lay-2 : tie.Need-cast-lay-2
+cast-lay-2 c = search needs
+
+lay-requires : tie.Need-lay-requires
+lay-requires c κs = c .before .before .before .before .before .before .pre
+
+same-length : tie.Need-same-length
+same-length c = search needs
+
+returns-2 : tie.Need-returns-2
+returns-2 c =
+    one-sent (c .before .before .before .before .before .before .before .before .before .args .setup .epsilon) (c .before .before .before .before .before .before .before .before .before .args .setup .own) (stampOf (c .before .before .before .before .before .before .before .before .before .args .stamp)) (c .before .before .before .before .before .before .before .before .before .args .send) (c .before .before .before .before .before .before .before .before .before .args .payload .now) (c .before .before .before .before .before .before .before .before .before .args .outgoing .now) (c .before .before .lay .result) _ (not-false (c .before .before .before .before .before .before .before .before .before .args .send) (c .before .before .before .before .before .before .if1 .left)) (c .before .before .lay .ensures)
+
+pub send-frame-spec : {M : Type 1} → statement M
+send-frame-spec = tie.close (tie.spec returns cast-lay cast-lay-2 lay-requires same-length returns-2)

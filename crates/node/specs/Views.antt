@@ -1,0 +1,41 @@
+-- What the code's values say in the model's terms.
+-- Assumes nothing.
+use Prim.Native.Nat.{ℕ}
+use mathlib.Core.Bool.{Bool}
+use mathlib.Core.List.{List, [], _∷_}
+use Rattle.model.specs.Setup as setups
+use Rattle.model.specs.Frame.{Frame}
+use Rattle.model.specs.Question.{Question}
+use Rattle.model.specs.Judge.{taken, refused, askLate, askEarly, askCounts}
+use Rattle.model.specs.Judge as judging
+use Rattle.model.specs.Tick.{Input}
+use Rattle.timestamp.specs.Views.{setupOf, stampOf}
+use Rattle.timestamp.specs.declared.limits.Setup.{Setup}
+use Rattle.timestamp.specs.declared.stamp.Timestamp.{Timestamp}
+use Rattle.node.specs.declared.verdict.Verdict.{Verdict}
+use Rattle.node.specs.declared.verdict.Verdict.the-variants.{Taken, Refused}
+
+-- the arguments of a call
+abbrev pub inputOf : Setup → ℕ → Timestamp → List ℕ → List ℕ → Bool → List ℕ → List ℕ → List ℕ → List ℕ → Input
+inputOf setup clock tables holdback batch send payload outgoing verdicts delivery =
+    record {
+      setup = setupOf setup;
+      clock = clock;
+      tables = stampOf tables;
+      holdback = holdback;
+      batch = batch;
+      send = send;
+      payload = payload;
+      outgoing = outgoing;
+      verdicts = verdicts;
+      delivery = delivery;
+    }
+
+-- 01: "A verdict is either taken, with its place on the shelf, or refused, with the number"
+abbrev pub verdictOf : Verdict → judging.Verdict
+verdictOf (Taken place) = taken place
+verdictOf (Refused number) = refused number
+
+-- 01, 13 to 15: what is asked of a frame's clock and counts
+unfoldable pub timeQuestions : setups.Setup → ℕ → Frame → List Question
+timeQuestions s v f = askLate s v f ∷ askEarly s v f ∷ askCounts s v f ∷ []

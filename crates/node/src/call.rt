@@ -1,0 +1,55 @@
+// 01, "Of the call, in order": questions 1 to 6.
+use timestamp::Setup;
+use timestamp::holdback_length;
+use timestamp::in_limits;
+use timestamp::longest_frame;
+ghost use mathlib.Core.Path.{_≡_};
+ghost use mathlib.Core.Bool.{Bool};
+ghost use Rattle.model.specs.Question.{firstNo};
+ghost use Rattle.model.specs.Tick.{callQuestions};
+ghost use Rattle.timestamp.specs.declared.stamp.Timestamp as stamps;
+ghost use Rattle.node.specs.Views.{inputOf};
+
+// The number of the first no, or 0. Neither the tables nor whether to send is asked about.
+pub fn check_call(
+    setup: Setup,
+    clock: usize,
+    holdback: &[u8],
+    batch: &[u8],
+    payload: &[u8],
+    outgoing: &[u8],
+    verdicts: &[u8],
+    delivery: &[u8],
+) -> u8
+    ensures { λ r. ⌜ ((tables : stamps.Timestamp) (send : Bool) → r ≡ firstNo (callQuestions (inputOf setup clock tables
+        (now (holdback .entry)) (now (batch .entry)) send (now (payload .entry)) (now (outgoing .entry))
+        (now (verdicts .entry)) (now (delivery .entry))))) ⌝ }
+{
+    if !in_limits(setup) {
+        return 1;
+    }
+    let epsilon = setup.epsilon as usize;
+    if setup.modulus as usize <= clock {
+        return 2;
+    }
+    let size = holdback_length(setup.n as usize, epsilon, setup.delta as usize);
+    if holdback.len() != size {
+        return 3;
+    }
+    if 32 < payload.len() {
+        return 4;
+    }
+    if !batch::exact(batch) {
+        return 5;
+    }
+    if outgoing.len() < longest_frame(epsilon) {
+        return 6;
+    }
+    if verdicts.len() < 255 {
+        return 6;
+    }
+    if delivery.len() < size {
+        return 6;
+    }
+    0
+}

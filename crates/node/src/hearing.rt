@@ -1,0 +1,87 @@
+// 01, tick 3: "Each frame of the bundle is judged in turn".
+use crate::judging::judge;
+use crate::queue::place_frame;
+use crate::verdict::Verdict;
+use crate::verdict::number_of;
+use batch::count_of;
+use batch::entry_at;
+use batch::next_at;
+use frame::r_of;
+use frame::stamp_of;
+use holdback::mark;
+use timestamp::Setup;
+use timestamp::Timestamp;
+use timestamp::near;
+ghost use mathlib.Core.Path.{_≡_};
+ghost use Rattle.model.specs.Timestamp.{trimmed, widened};
+ghost use Rattle.timestamp.specs.Views.{setupOf, stampOf};
+ghost use Rattle.node.specs.States.{Timed, Queued, Taking, Took, Listening, HeardAll};
+
+// "A taken frame goes on the shelf, and c and each count become the larger of own and frame's". Its origin is marked.
+fn take(
+    setup: Setup,
+    clock: usize,
+    stamp: Timestamp,
+    place: usize,
+    s: &[u8],
+    holdback: &mut [u8],
+    seen: &mut [u8],
+) -> Timestamp
+    requires { ⌜ Taking (setupOf setup) clock (now holdback) place (now s) ⌝ }
+    requires { ⌜ Queued (setupOf setup) clock (now holdback) (now seen) ⌝ }
+    ensures { λ r. ⌜ Took (setupOf setup) clock (stampOf stamp) place (now (s .entry)) (now (holdback .entry))
+        (stampOf r) (now (holdback .exit)) (now (seen .exit)) ⌝ }
+{
+    let epsilon = setup.epsilon as usize;
+    let modulus = setup.modulus as usize;
+    place_frame(setup, clock, place, s, holdback);
+    mark(setup, clock, s, seen);
+    let reading = near(epsilon, modulus, clock, r_of(s));
+    let other = stamp_of(epsilon, s);
+    stamp.absorb(epsilon, modulus, reading, other)
+}
+
+// What hearing answers beside the buffers.
+pub struct Heard {
+    pub stamp: Timestamp,
+    // how many frames were taken
+    pub taken: usize,
+}
+
+// The hearing loop. A verdict is taken apart for its place; of a refused frame the number is recorded, and it goes on.
+pub fn hear(
+    setup: Setup,
+    clock: usize,
+    stamp: Timestamp,
+    batch: &[u8],
+    holdback: &mut [u8],
+    seen: &mut [u8],
+    verdicts: &mut [u8],
+) -> Heard
+    requires { ⌜ Timed (setupOf setup) clock ⌝ }
+    requires { ⌜ Queued (setupOf setup) clock (now holdback) (now seen) ⌝ }
+    requires { ⌜ Listening (setup .epsilon) (stampOf stamp) (now batch) (now verdicts) ⌝ }
+    ensures { λ r. ⌜ HeardAll (setupOf setup) clock (stampOf stamp) (now (batch .entry)) (now (holdback .entry)) (now (verdicts .entry))
+        (stampOf (r .stamp)) (r .taken) (now (holdback .exit)) (now (seen .exit)) (now (verdicts .exit)) ⌝ }
+{
+    let count = count_of(batch);
+    let mut own = stamp;
+    let mut taken = 0;
+    let mut at = 1;
+    let mut i = 0;
+    while i < count {
+        let s = entry_at(batch, at);
+        at = next_at(batch, at);
+        let verdict = judge(setup, clock, holdback, seen, s);
+        let Verdict::Taken(place) = verdict else {
+            verdicts[i] = number_of(verdict);
+            i += 1;
+            continue;
+        };
+        own = take(setup, clock, own, place, s, holdback, seen);
+        verdicts[i] = 0;
+        taken += 1;
+        i += 1;
+    }
+    Heard { stamp: own, taken }
+}

@@ -1,0 +1,66 @@
+// 01, "Of each frame, in order": questions 10 to 17, and the verdict.
+use crate::verdict::Verdict;
+use frame::c_of;
+use frame::check;
+use frame::r_of;
+use frame::two_at;
+use holdback::place_for;
+use holdback::repeats;
+use timestamp::Setup;
+use timestamp::counts_at_most;
+use timestamp::depth;
+use timestamp::near;
+ghost use mathlib.Core.Path.{_≡_};
+ghost use Rattle.model.specs.Frame.{decode};
+ghost use Rattle.model.specs.Question.{firstNo};
+ghost use Rattle.model.specs.Holdback.{held};
+ghost use Rattle.model.specs.Judge as model;
+ghost use Rattle.timestamp.specs.Views.{setupOf};
+ghost use Rattle.node.specs.Views.{verdictOf, timeQuestions};
+ghost use Rattle.node.specs.States.{Timed, Readable, Queued};
+
+// 01, 13 to 15: the number of the first no, or 0.
+pub fn check_time(setup: Setup, clock: usize, s: &[u8]) -> u8
+    requires { ⌜ Readable (setupOf setup) clock (now s) ⌝ }
+    ensures { λ r. ⌜ r ≡ firstNo (timeQuestions (setupOf setup) clock (decode (setup .epsilon) (now (s .entry)))) ⌝ }
+{
+    let epsilon = setup.epsilon as usize;
+    let modulus = setup.modulus as usize;
+    let reading = near(epsilon, modulus, clock, r_of(s));
+    if reading + (setup.delta as usize + epsilon) < modulus {
+        return 13;
+    }
+    if modulus + (epsilon - 1) < reading + c_of(s) {
+        return 14;
+    }
+    let from = modulus + epsilon - reading;
+    if !counts_at_most(s, 6 + from, 6 + 2 * epsilon, setup.n as usize - 1) {
+        return 15;
+    }
+    0
+}
+
+// One frame judged: the first no's number, or its place in the queue. The table has the origins of the queue's frames.
+pub fn judge(setup: Setup, clock: usize, holdback: &[u8], seen: &[u8], s: &[u8]) -> Verdict
+    requires { ⌜ Timed (setupOf setup) clock ⌝ }
+    requires { ⌜ Queued (setupOf setup) clock (now holdback) (now seen) ⌝ }
+    ensures { λ r. ⌜ verdictOf r ≡ model.judge (setupOf setup) clock (held (setup .epsilon) (now (holdback .entry))) (now (s .entry)) ⌝ }
+{
+    let form = check(setup, s);
+    if form != 0 {
+        return Verdict::Refused(form);
+    }
+    let time = check_time(setup, clock, s);
+    if time != 0 {
+        return Verdict::Refused(time);
+    }
+    if repeats(setup, clock, s, seen) {
+        return Verdict::Refused(16);
+    }
+    let count = two_at(holdback, 0);
+    if depth(setup.n as usize, setup.epsilon as usize, setup.delta as usize) <= count {
+        return Verdict::Refused(17);
+    }
+    let place = place_for(setup, clock, holdback, count, s);
+    Verdict::Taken(place.index)
+}

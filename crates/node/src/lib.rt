@@ -1,0 +1,20 @@
+// One tick of a node: the call's questions, one frame judged, the hearing, sending and delivering.
+mod call;
+mod hearing;
+mod judging;
+mod queue;
+mod sending;
+mod ticking;
+mod verdict;
+
+pub use call::check_call;
+pub use hearing::Heard;
+pub use hearing::hear;
+pub use judging::check_time;
+pub use judging::judge;
+pub use sending::send_frame;
+pub use ticking::Answer;
+pub use ticking::tick;
+pub use verdict::Verdict;
+pub use verdict::number_of;
+pub use verdict::place_of;

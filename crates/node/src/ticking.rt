@@ -1,0 +1,149 @@
+// 01, "One tick at clock v".
+use crate::call::check_call;
+use crate::hearing::hear;
+use crate::queue::deliver;
+use crate::queue::open_queue;
+use crate::sending::send_frame;
+use timestamp::Setup;
+use timestamp::Timestamp;
+ghost use mathlib.Core.Path.{_≡_};
+ghost use Rattle.model.specs.Question.{firstNo};
+ghost use Rattle.model.specs.Tick as model;
+ghost use Rattle.timestamp.specs.Views.{setupOf, stampOf};
+ghost use Rattle.node.specs.Views.{inputOf};
+ghost use Rattle.node.specs.Answers.{outputOf};
+ghost use Rattle.node.specs.States.{Timed, Stored, StampOpened, Attending, ListenedAll};
+
+// The stamp with which hearing starts, and its share of the repair.
+pub struct Opening {
+    pub stamp: Timestamp,
+    // 1 where the tables were replaced
+    pub repair: u8,
+}
+
+// 01, tick 1 and 2: sound tables take a step; "Unsound tables are replaced (mend 1)".
+fn open_stamp(setup: Setup, clock: usize, tables: Timestamp) -> Opening
+    requires { ⌜ Timed (setupOf setup) clock ⌝ }
+    ensures { λ r. ⌜ StampOpened (setupOf setup) clock (stampOf tables) (stampOf (r .stamp)) (r .repair) ⌝ }
+{
+    let n = setup.n as usize;
+    let epsilon = setup.epsilon as usize;
+    let modulus = setup.modulus as usize;
+    if tables.is_sound_for(n, epsilon, modulus, clock) {
+        let stamp = tables.step(epsilon, clock);
+        return Opening { stamp, repair: 0 };
+    }
+    let stamp = Timestamp::replaced(clock);
+    Opening { stamp, repair: 1 }
+}
+
+// What the first three steps of a tick answer beside the buffers.
+pub struct Listened {
+    pub stamp: Timestamp,
+    pub repair: u8,
+    pub taken: usize,
+}
+
+// 01, tick 1 to 3. The table of origins lives here.
+fn listen(
+    setup: Setup,
+    clock: usize,
+    tables: Timestamp,
+    batch: &[u8],
+    holdback: &mut [u8],
+    verdicts: &mut [u8],
+) -> Listened
+    requires { ⌜ Timed (setupOf setup) clock ⌝ }
+    requires { ⌜ Attending (setupOf setup) (now batch) (now holdback) (now verdicts) ⌝ }
+    ensures { λ r. ⌜ ListenedAll (setupOf setup) clock (stampOf tables) (now (batch .entry)) (now (holdback .entry)) (now (verdicts .entry))
+        (stampOf (r .stamp)) (r .repair) (r .taken) (now (holdback .exit)) (now (verdicts .exit)) ⌝ }
+{
+    let mut seen = [0u8; 2048];
+    let opening = open_stamp(setup, clock, tables);
+    let emptied = open_queue(setup, clock, holdback, &mut seen);
+    let stamp = opening.stamp;
+    let heard = hear(setup, clock, stamp, batch, holdback, &mut seen, verdicts);
+    let own = heard.stamp;
+    Listened {
+        stamp: own,
+        repair: opening.repair + emptied,
+        taken: heard.taken,
+    }
+}
+
+// 01: "The answer gives 0, new tables, mend, frames taken, frames handed out, outgoing length (0 if none)".
+pub struct Answer {
+    // 0, or the number of the first no
+    pub number: u8,
+    pub tables: Timestamp,
+    // 01: mend
+    pub repair: u8,
+    pub taken: usize,
+    pub delivered: usize,
+    pub sent: usize,
+}
+
+// An accepted call.
+fn accept(
+    setup: Setup,
+    clock: usize,
+    tables: Timestamp,
+    holdback: &mut [u8],
+    batch: &[u8],
+    send: bool,
+    payload: &[u8],
+    outgoing: &mut [u8],
+    verdicts: &mut [u8],
+    delivery: &mut [u8],
+) -> Answer
+    requires { ⌜ firstNo (model.callQuestions (inputOf setup clock tables (now holdback) (now batch) send (now payload)
+        (now outgoing) (now verdicts) (now delivery))) ≡ 0 ⌝ }
+    ensures { λ r. ⌜ outputOf r (now (holdback .exit)) (now (outgoing .exit)) (now (verdicts .exit)) (now (delivery .exit))
+        ≡ model.tick (inputOf setup clock tables (now (holdback .entry)) (now (batch .entry)) send (now (payload .entry))
+        (now (outgoing .entry)) (now (verdicts .entry)) (now (delivery .entry))) ⌝ }
+{
+    let listened = listen(setup, clock, tables, batch, holdback, verdicts);
+    let own = listened.stamp;
+    let stamp = own.count_own(setup.epsilon as usize, clock);
+    let sent = send_frame(setup, stamp, send, payload, outgoing);
+    let delivered = deliver(setup, clock, holdback, delivery);
+    Answer {
+        number: 0,
+        tables: stamp,
+        repair: listened.repair,
+        taken: listened.taken,
+        delivered,
+        sent,
+    }
+}
+
+// The tick. Any arguments get an answer; a refused call keeps its tables and all buffers.
+pub fn tick(
+    setup: Setup,
+    clock: usize,
+    tables: Timestamp,
+    holdback: &mut [u8],
+    batch: &[u8],
+    send: bool,
+    payload: &[u8],
+    outgoing: &mut [u8],
+    verdicts: &mut [u8],
+    delivery: &mut [u8],
+) -> Answer
+    ensures { λ r. ⌜ outputOf r (now (holdback .exit)) (now (outgoing .exit)) (now (verdicts .exit)) (now (delivery .exit))
+        ≡ model.tick (inputOf setup clock tables (now (holdback .entry)) (now (batch .entry)) send (now (payload .entry))
+        (now (outgoing .entry)) (now (verdicts .entry)) (now (delivery .entry))) ⌝ }
+{
+    let number = check_call(setup, clock, holdback, batch, payload, outgoing, verdicts, delivery);
+    if number != 0 {
+        return Answer {
+            number,
+            tables,
+            repair: 0,
+            taken: 0,
+            delivered: 0,
+            sent: 0,
+        };
+    }
+    accept(setup, clock, tables, holdback, batch, send, payload, outgoing, verdicts, delivery)
+}

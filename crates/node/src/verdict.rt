@@ -1,0 +1,31 @@
+// 01: "A verdict is either taken, with its place on the shelf, or refused, with the number".
+ghost use mathlib.Core.Path.{_≡_};
+ghost use Rattle.model.specs.Judge.{verdictNumber, verdictPlace};
+ghost use Rattle.node.specs.Views.{verdictOf};
+
+pub enum Verdict {
+    // its place in the queue (01: the shelf)
+    Taken(usize),
+    // the number of the first no
+    Refused(u8),
+}
+
+// 01: "the verdict buffer gets 0 or the number".
+pub fn number_of(verdict: Verdict) -> u8
+    ensures { λ r. ⌜ r ≡ verdictNumber (verdictOf verdict) ⌝ }
+{
+    match verdict {
+        Verdict::Taken(_) => 0,
+        Verdict::Refused(number) => number,
+    }
+}
+
+// 01: "its place on the shelf"; 0 of a refused frame.
+pub fn place_of(verdict: Verdict) -> usize
+    ensures { λ r. ⌜ r ≡ verdictPlace (verdictOf verdict) ⌝ }
+{
+    match verdict {
+        Verdict::Taken(place) => place,
+        Verdict::Refused(_) => 0,
+    }
+}

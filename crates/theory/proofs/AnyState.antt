@@ -1,0 +1,55 @@
+-- Demand 2 from any state: verdicts, figures and bounds of every accepted call.
+-- Assumes nothing.
+use Prim.Native.Nat.{ℕ, _+_, _%_}
+use native.Mathlib.Nat.{zero-add}
+use mathlib.Core.Path.{_≡_, refl, ap, _∙_, sym}
+use mathlib.Core.Bool.{true}
+use mathlib.Core.List.{List, [], _∷_, map}
+use lib.ListN.{length, take, length-map}
+use lib.Seq.{take-length}
+use Rattle.laws.specs.Lists.{overlay}
+use Rattle.laws.proofs.Lists.{take-overlay}
+use Rattle.model.specs.Timestamp.{Timestamp, trimmed, widened, soundTables}
+use Rattle.model.specs.Frame.{encode}
+use Rattle.model.specs.Batch.{batchEntries}
+use Rattle.model.specs.Holdback.{heldBytes}
+use Rattle.model.specs.Tick.{Input, Output, heardOf, newStamp, deliveredOf, takenCount, acceptance, tick}
+use Rattle.theory.specs.Demand2.{heardBefore, AnyState, Demand2Any}
+use Rattle.lemmas.proofs.Counts.{trimmed-widened}
+use Rattle.lemmas.proofs.OneTick.{Accepted, accepted-call, opening, hear-length, new-sound, new-tables, tables-are, verdicts-are, verdict-byte, delivered-bytes}
+
+taken-is : (i : Input) → Accepted i → tick i .answer .taken ≡ takenCount (heardOf i .verdicts)
+unfolding acceptance
+taken-is i a = ap (λ (o : Output). o .answer .taken) (a .accepted)
+
+delivered-is : (i : Input) → Accepted i → tick i .answer .delivered ≡ length (deliveredOf i)
+unfolding acceptance
+delivered-is i a = ap (λ (o : Output). o .answer .delivered) (a .accepted)
+
+-- the verdicts stand at the front of their buffer
+verdicts-front : (i : Input) → Accepted i → take (length (batchEntries (i .batch))) (tick i .verdicts) ≡ heardOf i .verdicts
+unfolding heardOf
+verdicts-front i a =
+    ap (take (length (batchEntries (i .batch)))) (verdicts-are i a)
+    ∙ (ap (λ (k : ℕ). take k (overlay (heardOf i .verdicts) (i .verdicts)))
+    (sym (hear-length (i .setup) (i .clock) (opening i) (batchEntries (i .batch)) ∙ zero-add (length (batchEntries (i .batch)))))
+    ∙ take-overlay (heardOf i .verdicts) (i .verdicts))
+
+bounds-kept :
+    (i : Input) → Accepted i
+    → soundTables (i .setup .n) (i .setup .epsilon) (i .setup .modulus) ((i .clock + 1) % i .setup .modulus) (trimmed (i .setup .epsilon) (tick i .answer .tables)) ≡ true
+bounds-kept i a =
+    ap (λ (t : Timestamp). soundTables (i .setup .n) (i .setup .epsilon) (i .setup .modulus) ((i .clock + 1) % i .setup .modulus) t)
+    (ap (trimmed (i .setup .epsilon)) (tables-are i a) ∙ trimmed-widened (i .setup .epsilon) (newStamp i) (a .limits .epsilon-most) (new-sound i a .wide))
+    ∙ new-tables i a
+
+pub demand2-any : Demand2Any
+unfolding heardBefore
+demand2-any i h =
+    let a = accepted-call i h in
+    record {
+      verdict = λ k entry e. verdict-byte i a k entry e;
+      taken = taken-is i a ∙ ap takenCount (sym (verdicts-front i a));
+      delivered = delivered-is i a ∙ sym (ap length (delivered-bytes i a) ∙ length-map (deliveredOf i) encode);
+      bounded = bounds-kept i a;
+    }

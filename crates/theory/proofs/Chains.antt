@@ -1,0 +1,186 @@
+-- Calls that lead to one another are in order: by their station, by what they take, and on through such steps.
+-- Assumes nothing.
+use Prim.Native.Nat.{ℕ, zero, suc, _≤_, _<_, Ordering·lt}
+use native.Mathlib.Omega.{arith}
+use mathlib.Core.Path.{_≡_, refl, sym, ap, subst, _∙_}
+use mathlib.Core.Logic.{_⊎_, inl, inr}
+use mathlib.Core.Bool.{true}
+use mathlib.Core.List.{List, [], _∷_}
+use mathlib.Core.Option.{some}
+use lib.ListN.{take, getElem?}
+use Rattle.laws.specs.Lex.{lexCompare}
+use Rattle.laws.proofs.Numbers.{eq-or-ne}
+use Rattle.laws.proofs.Lists.{getElem?-lt}
+use Rattle.laws.proofs.Lex.{lex-trans}
+use Rattle.model.specs.Setup.{Setup}
+use Rattle.model.specs.Run.{Done, isAccepted}
+use Rattle.theory.specs.Demand3.{Leads, later, takes, on}
+use Rattle.theory.proofs.HearLoop.{some-inj}
+use Rattle.theory.proofs.Stabilize.{sends-accepted}
+use Rattle.theory.proofs.World.{eventKey, AllKept}
+
+-- a list's beginning
+module _ {A : Type 0} where
+  pub of-take : (j : ℕ) (l : List A) (k : ℕ) {x : A} → getElem? (take j l) k ≡ some x → getElem? l k ≡ some x
+  of-take zero l k e = let z : k < 0 = getElem?-lt [] k e in absurd (omega arith)
+  of-take (suc j) [] k e = let z : k < 0 = getElem?-lt [] k e in absurd (omega arith)
+  of-take (suc j) (y ∷ l) zero e = e
+  of-take (suc j) (y ∷ l) (suc k) e = of-take j l k e
+
+  pub in-take : (j : ℕ) (l : List A) (k : ℕ) {x : A} → k < j → getElem? l k ≡ some x → getElem? (take j l) k ≡ some x
+  in-take zero l k h e = absurd (omega arith)
+  in-take (suc j) [] k h e = e
+  in-take (suc j) (y ∷ l) zero h e = e
+  in-take (suc j) (y ∷ l) (suc k) h e = in-take j l k (omega arith) e
+
+  pub below-take : (j : ℕ) (l : List A) (k : ℕ) {x : A} → getElem? (take j l) k ≡ some x → k < j
+  below-take zero l k e = let z : k < 0 = getElem?-lt [] k e in absurd (omega arith)
+  below-take (suc j) [] k e = let z : k < 0 = getElem?-lt [] k e in absurd (omega arith)
+  below-take (suc j) (y ∷ l) zero e = omega arith
+  below-take (suc j) (y ∷ l) (suc k) e = let h : k < j = below-take j l k e in omega arith
+
+-- the later of two accepted calls of a station
+module _ (s : Setup) (from : ℕ) (past : List Done) (kept : AllKept s from past) where
+  abbrev Less : Done → Done → Type 0
+  Less a b = lexCompare (eventKey s a) (eventKey s b) ≡ Ordering·lt
+
+  -- an accepted call and its position
+  record Made : Type 0 where
+    at : ℕ
+    done : Done
+    is : getElem? past at ≡ some done
+    accepted : isAccepted (done .output) ≡ true
+
+  station-order : (a b : Made) → a .done .node ≡ b .done .node → a .at < b .at → Less (a .done) (b .done)
+  station-order a b o h =
+      kept (b .at) (b .done) (b .is) (b .accepted) .later (a .at) (a .done) (in-take (b .at) past (a .at) h (a .is)) (a .accepted) o
+
+  same-made : (a b : Made) → a .at ≡ b .at → a .done ≡ b .done
+  same-made a b e = some-inj (sym (a .is) ∙ (ap (getElem? past) e ∙ b .is))
+
+  not-before : (a b : Made) → a .done .node ≡ b .done .node → a .at ≤ b .at → (c : Done) → Less (b .done) c → Less (a .done) c
+  not-before a b o h c l =
+      elim (eq-or-ne (a .at) (b .at)) [
+        | inl e ↦ subst (λ (d : Done). Less d c) (sym (same-made a b e)) l
+        | inr e ↦ lex-trans (eventKey s (a .done)) (eventKey s (b .done)) (eventKey s c) (station-order a b o (omega arith)) l
+      ]
+
+  not-after : (a b : Made) → a .done .node ≡ b .done .node → a .at ≤ b .at → (c : Done) → Less c (a .done) → Less c (b .done)
+  not-after a b o h c l =
+      elim (eq-or-ne (a .at) (b .at)) [
+        | inl e ↦ subst (Less c) (same-made a b e) l
+        | inr e ↦ lex-trans (eventKey s c) (eventKey s (a .done)) (eventKey s (b .done)) l (station-order a b o (omega arith))
+      ]
+
+  -- an accepted call of the first's station, not before it, comes before one of the second's station, not after it
+  record Jump (i j : ℕ) (a b : Done) : Type 0 where
+    out : Made
+    into : Made
+    out-node : a .node ≡ out .done .node
+    into-node : into .done .node ≡ b .node
+    out-after : i ≤ out .at
+    into-before : into .at ≤ j
+    less : Less (out .done) (into .done)
+
+  jump-wide : {i j i′ j′ : ℕ} {a b a′ b′ : Done} → Jump i j a b → a′ .node ≡ a .node → b .node ≡ b′ .node → i′ ≤ i → j ≤ j′ → Jump i′ j′ a′ b′
+  jump-wide p o q h k =
+      record {
+        out = p .out;
+        into = p .into;
+        out-node = o ∙ p .out-node;
+        into-node = p .into-node ∙ q;
+        out-after = omega (arith, p .out-after);
+        into-before = omega (arith, p .into-before);
+        less = p .less;
+      }
+
+  jump-on : {i j k : ℕ} {a b b′ c : Done} → Jump i j a b → Jump j k b′ c → b .node ≡ b′ .node → Jump i k a c
+  jump-on {c = c} p q o =
+      record {
+        out = p .out;
+        into = q .into;
+        out-node = p .out-node;
+        into-node = q .into-node;
+        out-after = p .out-after;
+        into-before = q .into-before;
+        less =
+            lex-trans (eventKey s (p .out .done)) (eventKey s (p .into .done)) (eventKey s (q .into .done)) (p .less)
+            (not-before (p .into) (q .out) (p .into-node ∙ (o ∙ q .out-node)) (omega (arith, p .into-before, q .out-after)) (q .into .done) (q .less));
+      }
+
+  -- a later call of the same station, or a jump
+  abbrev Way : ℕ → ℕ → Done → Done → Type 0
+  Way i j a b = ((i < j) × (a .node ≡ b .node)) ⊎ Jump i j a b
+
+  record Chain (i j : ℕ) : Type 0 where
+    first : Done
+    second : Done
+    first-is : getElem? past i ≡ some first
+    second-is : getElem? past j ≡ some second
+    way : Way i j first second
+
+  way-on : {i j k : ℕ} {a b b′ c : Done} → b .node ≡ b′ .node → Way i j a b → Way j k b′ c → Way i k a c
+  way-on o (inl p) (inl q) = inl (omega (arith, p .0, q .0), p .1 ∙ (o ∙ q .1))
+  way-on o (inl p) (inr q) = inr (jump-wide q (p .1 ∙ o) refl (omega (arith, p .0)) (omega arith))
+  way-on o (inr p) (inl q) = inr (jump-wide p refl (o ∙ q .1) (omega arith) (omega (arith, q .0)))
+  way-on o (inr p) (inr q) = inr (jump-on p q o)
+
+  chain-on : {i j k : ℕ} → Chain i j → Chain j k → Chain i k
+  chain-on c d =
+      record {
+        first = c .first;
+        second = d .second;
+        first-is = c .first-is;
+        second-is = d .second-is;
+        way = way-on (ap (λ (x : Done). x .node) (some-inj (sym (c .second-is) ∙ d .first-is))) (c .way) (d .way);
+      }
+
+  chain-of : {i j : ℕ} → Leads past i j → Chain i j
+  chain-of (later {i} {j} {a} {b} h p q o) = record { first = a; second = b; first-is = p; second-is = q; way = inl (h, o) }
+  chain-of (takes {i} {j} {b} e q acc at zero-at) =
+      let k = kept j b q acc in
+      let r = k .sent-before e i at in
+      let p : getElem? past i ≡ some (r .0) = of-take j past i (r .1) in
+      record {
+        first = r .0;
+        second = b;
+        first-is = p;
+        second-is = q;
+        way =
+            inr (record {
+              out = record { at = i; done = r .0; is = p; accepted = sends-accepted (r .0) (r .2) };
+              into = record { at = j; done = b; is = q; accepted = acc };
+              out-node = refl;
+              into-node = refl;
+              out-after = omega arith;
+              into-before = omega arith;
+              less = k .takes e i (r .0) at (r .1) zero-at;
+            });
+      }
+  chain-of (on p q) = chain-on (chain-of p) (chain-of q)
+
+  pub leads-less :
+      (i j : ℕ) (a b : Done) → Leads past i j → getElem? past i ≡ some a → getElem? past j ≡ some b → isAccepted (a .output) ≡ true → isAccepted (b .output) ≡ true
+      → Less a b
+  leads-less i j a b l p q x y = go (c .way)
+    where
+      c : Chain i j
+      c = chain-of l
+
+      from-a : Made
+      from-a = record { at = i; done = a; is = p; accepted = x }
+
+      to-b : Made
+      to-b = record { at = j; done = b; is = q; accepted = y }
+
+      e : c .first .node ≡ a .node
+      e = ap (λ (d : Done). d .node) (some-inj (sym (c .first-is) ∙ p))
+
+      f : c .second .node ≡ b .node
+      f = ap (λ (d : Done). d .node) (some-inj (sym (c .second-is) ∙ q))
+
+      go : Way i j (c .first) (c .second) → Less a b
+      go (inl h) = station-order from-a to-b (sym e ∙ (h .1 ∙ f)) (h .0)
+      go (inr h) =
+          not-after (h .into) to-b (h .into-node ∙ f) (h .into-before) a
+          (not-before from-a (h .out) (sym e ∙ h .out-node) (h .out-after) (h .into .done) (h .less))

@@ -1,0 +1,20 @@
+-- Demand 1: a call that fails a check changes nothing, and every other call is accepted.
+-- Assumes nothing.
+use Prim.Native.Nat.{ℕ, zero, suc}
+use mathlib.Core.Path.{_≡_, refl, ap, _∙_, sym}
+use Rattle.model.specs.Question.{firstNo}
+use Rattle.model.specs.Tick.{Input, Output, callQuestions, acceptance, tick}
+use Rattle.theory.specs.Demand1.{Demand1}
+use Rattle.lemmas.proofs.OneTick.{tick-by, refusal-number}
+
+-- the number in the answer is that of the first question that gets a no
+number-is : (i : Input) → tick i .answer .number ≡ firstNo (callQuestions i)
+unfolding acceptance
+number-is i = go (firstNo (callQuestions i)) refl
+  where
+    go : (k : ℕ) → firstNo (callQuestions i) ≡ k → tick i .answer .number ≡ k
+    go zero e = ap (λ (o : Output). o .answer .number) (tick-by i 0 e)
+    go (suc k) e = ap (λ (o : Output). o .answer .number) (tick-by i (suc k) e) ∙ refusal-number i (suc k)
+
+pub demand1 : (i : Input) → Demand1 i
+demand1 i = record { refused = λ k e. tick-by i (suc k) e; accepted = λ e. tick-by i 0 e; number = number-is i }

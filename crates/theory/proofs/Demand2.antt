@@ -1,0 +1,308 @@
+-- Demand 2 from fresh stations: every accepted call does what the published program does, reduced modulo B.
+-- Assumes nothing.
+use Prim.Native.Nat.{ℕ, zero, suc, _+_, _<_}
+use native.Mathlib.Omega.{arith}
+use mathlib.Core.Path.{_≡_, refl, sym, ap, subst, _∙_}
+use mathlib.Core.Logic.{_⊎_, inl, inr}
+use mathlib.Core.Bool.{Bool, true, false, _&&_, _||_, not, cond}
+use mathlib.Core.List.{List, [], _∷_, _++_}
+use mathlib.Core.Option.{Option, none, some}
+use lib.Dec.{eqb·suc-zero}
+use lib.ListN.{length, take, set, getElem?}
+use lib.Seq.{take-append-le, take-append-seam}
+use borrow.Author.Tests.{ne-eqb}
+use Rattle.laws.specs.Lists.{every}
+use Rattle.laws.proofs.Numbers.{eq-or-ne, clash, and-intro, and-left, and-right, or-cases, false-of-not}
+use Rattle.laws.proofs.Lists.{every-mem, every-append-left, every-append-right, getElem?-mem, getElem?-lt, getElem?-set-same, getElem?-set-other, getElem?-snoc-cases}
+use Rattle.model.specs.Setup.{Setup}
+use Rattle.model.specs.Question.{firstNo}
+use Rattle.model.specs.Tick.{callQuestions, refusal, acceptance, tickBy, tick}
+use Rattle.model.specs.Published.{Message, Process, advanced, eventOf, nextEvent, messageOf}
+use Rattle.model.specs.Run.{Node, Origin, sentBy, stale, Call, Done, World, inputOf, isAccepted, outputOf, doneOf, nodeAfter, movedClock, act, actOn, runFrom, atStart, sends}
+use Rattle.theory.specs.Premises.{largestClock, staleUntil, allowed, keeps, isSent, noneStale}
+use Rattle.theory.specs.Demand2.{Published, outcomeOf, publish, publishAll, publishedStart, Matched, Demand2Fresh}
+use Rattle.theory.specs.Demand3.{heardIn}
+use Rattle.theory.proofs.World.{Good, Legal, EntryOk}
+use Rattle.theory.proofs.Event.{done-clock}
+use Rattle.theory.proofs.HearLoop.{some-inj}
+use Rattle.theory.proofs.Stabilize.{sends-accepted, called, step-good, refused-good, act-is, refused-node}
+use Rattle.theory.proofs.Start.{allowed-fact}
+use Rattle.theory.proofs.PublishedRun.{Copies, Twin, Paired, LastAs, settles-fresh, sent-as-snoc, ranked-snoc, twin-stays}
+use Rattle.theory.proofs.PublishedCall.{heardHere, frame-is, same-as, ranked-last, twin-moves}
+use Rattle.theory.proofs.PublishedStart.{paired-fresh}
+
+-- what the call sends in the published program
+abbrev sentHere : Setup → List (Option Message) → Call → Node → Process → Option Message
+sentHere s sent call node p = cond (call .send) (some (messageOf (s .epsilon) (suc (node .clock)) p (heardHere sent call) (call .payload))) none
+
+-- an accepted call
+module _ (s : Setup) (w : World) (u : Published) (call : Call) (node : Node) (paired : Paired s w u) (legal : Legal s 0 w call node)
+    (p : Process) (p-at : getElem? (u .processes) (call .node) ≡ some p) (twin : Twin s (w .past) (u .sent) (call .node) node p) where
+  moved : doneOf node call .clock ≡ suc (node .clock)
+  moved = done-clock s node call (called s 0 0 (settles-fresh s) w call node (paired .good) legal)
+
+  published :
+      publish s u (doneOf node call)
+      ≡ record {
+        processes = set (u .processes) (call .node) (advanced (s .epsilon) (s .delta) (suc (node .clock)) p (heardHere (u .sent) call));
+        sent = u .sent ++ (sentHere s (u .sent) call node p ∷ []);
+      }
+  unfolding publish outcomeOf doneOf
+  published = rw (legal .accepted, p-at, moved) refl
+
+  -- what is sent is the message
+  sent-is : (m : Message) → sentHere s (u .sent) call node p ≡ some m → (call .send ≡ true) × (messageOf (s .epsilon) (suc (node .clock)) p (heardHere (u .sent) call) (call .payload) ≡ m)
+  sent-is m e = go (call .send) refl e
+    where
+      go :
+          (b : Bool) → call .send ≡ b → cond b (some (messageOf (s .epsilon) (suc (node .clock)) p (heardHere (u .sent) call) (call .payload))) none ≡ some m
+          → (call .send ≡ true) × (messageOf (s .epsilon) (suc (node .clock)) p (heardHere (u .sent) call) (call .payload) ≡ m)
+      go true q e = (q, some-inj e)
+      go false q e = let z : _≡_ {A = ℕ} 0 1 = cc in absurd (omega arith)
+
+  sent-event : (m : Message) → sentHere s (u .sent) call node p ≡ some m → m .event ≡ eventOf (s .epsilon) (suc (node .clock)) p (heardHere (u .sent) call)
+  sent-event m e = sym (ap (λ (x : Message). x .event) (sent-is m e .1)) ∙ (unfold messageOf in refl)
+
+  copies : Copies s (messageOf (s .epsilon) (suc (node .clock)) p (heardHere (u .sent) call) (call .payload)) (doneOf node call)
+  copies =
+      record {
+        frame = frame-is s w (u .sent) call node p (paired .good) legal (paired .sent-as) (paired .ranked) twin;
+        clock-is = unfold messageOf eventOf nextEvent in (sym moved);
+      }
+
+  last-as : LastAs s (doneOf node call) (sentHere s (u .sent) call node p)
+  unfolding sends doneOf
+  last-as =
+      record {
+        each = λ h.
+            let send : call .send ≡ true = and-right (isAccepted (outputOf node call)) (call .send) h in (
+              messageOf (s .epsilon) (suc (node .clock)) p (heardHere (u .sent) call) (call .payload),
+              ap (λ (b : Bool). cond b (some (messageOf (s .epsilon) (suc (node .clock)) p (heardHere (u .sent) call) (call .payload))) none) send,
+              copies,
+            );
+        only = λ m e.
+            (and-intro (legal .accepted) (sent-is m e .0), subst (λ (x : Message). Copies s x (doneOf node call)) (sent-is m e .1) copies);
+      }
+
+  abbrev world′ : World
+  world′ = record { nodes = set (w .nodes) (call .node) (nodeAfter node (outputOf node call)); past = w .past ++ (doneOf node call ∷ []) }
+
+  abbrev published′ : Published
+  published′ =
+      record {
+        processes = set (u .processes) (call .node) (advanced (s .epsilon) (s .delta) (suc (node .clock)) p (heardHere (u .sent) call));
+        sent = u .sent ++ (sentHere s (u .sent) call node p ∷ []);
+      }
+
+  abbrev Paired-at : ℕ → Node → Type 0
+  Paired-at j a = (q : Process) × (getElem? (published′ .processes) j ≡ some q) × Twin s (world′ .past) (published′ .sent) j a q
+
+  own-twin : Paired-at (call .node) (nodeAfter node (outputOf node call))
+  own-twin = (
+    advanced (s .epsilon) (s .delta) (suc (node .clock)) p (heardHere (u .sent) call),
+    getElem?-set-same (u .processes) (call .node) (advanced (s .epsilon) (s .delta) (suc (node .clock)) p (heardHere (u .sent) call))
+        (getElem?-lt (u .processes) (call .node) p-at),
+    twin-moves s w (u .sent) call node p (paired .good) legal (paired .sent-as) (paired .ranked) twin (sentHere s (u .sent) call node p) sent-event,
+  )
+
+  quiet : (j : ℕ) → (call .node ≡ j → ⊥) → (k : ℕ) → heardIn j k (doneOf node call) ≡ false
+  unfolding heardIn doneOf
+  quiet j ne k = rw (legal .accepted, ne-eqb (call .node) j ne) refl
+
+  other-twin : (j : ℕ) (a : Node) → (call .node ≡ j → ⊥) → getElem? (w .nodes) j ≡ some a → Paired-at j a
+  other-twin j a ne at =
+      let (q, q-at, t) = paired .twins j a at in (
+        q,
+        getElem?-set-other (u .processes) (call .node) j (advanced (s .epsilon) (s .delta) (suc (node .clock)) p (heardHere (u .sent) call)) ne ∙ q-at,
+        twin-stays s (w .past) (u .sent) j a q (doneOf node call) (sentHere s (u .sent) call node p) (paired .sent-as .same-length) (paired .good .heard-before j)
+            (quiet j ne) (λ m e. unfold doneOf in ne) t,
+      )
+
+  all-twins : (j : ℕ) (a : Node) → getElem? (world′ .nodes) j ≡ some a → Paired-at j a
+  all-twins j a at =
+      elim (eq-or-ne (call .node) j) [
+        | inl e ↦
+            let a-is : a ≡ nodeAfter node (outputOf node call) =
+            some-inj (sym at ∙ (ap (getElem? (world′ .nodes)) (sym e) ∙ getElem?-set-same (w .nodes) (call .node) (nodeAfter node (outputOf node call)) (getElem?-lt (w .nodes) (call .node) (legal .at)))) in
+            subst (λ (i : ℕ). Paired-at i a) e (subst (Paired-at (call .node)) (sym a-is) own-twin)
+        | inr e ↦ other-twin j a e (sym (getElem?-set-other (w .nodes) (call .node) j (nodeAfter node (outputOf node call)) e) ∙ at)
+      ]
+
+  pub paired-accepted : Paired s (act w call) (publish s u (doneOf node call))
+  paired-accepted =
+      subst (λ (y : World). Paired s y (publish s u (doneOf node call))) (sym (act-is w call node (legal .at)))
+      (subst (Paired s world′) (sym published)
+      (record {
+        good = subst (Good s 0 0) (act-is w call node (legal .at)) (step-good s 0 0 (settles-fresh s) w call node (paired .good) legal);
+        sent-as = sent-as-snoc s (w .past) (u .sent) (doneOf node call) (sentHere s (u .sent) call node p) (paired .sent-as) last-as;
+        ranked =
+            ranked-snoc s (w .past) (u .sent) (doneOf node call) (sentHere s (u .sent) call node p) (paired .sent-as .same-length) (paired .ranked)
+            (λ k m m′ d e m-at d-at here.
+            ranked-last s w (u .sent) call node p (paired .good) legal (paired .sent-as) (paired .ranked) twin k m m′ d (sent-event m′ e) m-at d-at
+            (unfold doneOf in here));
+        twins = all-twins;
+      }))
+
+  matched-here : Matched s u (doneOf node call)
+  unfolding doneOf
+  matched-here = (p, p-at, same-as s w (u .sent) call node p (paired .good) legal (paired .sent-as) (paired .ranked) twin)
+
+-- and sends nothing
+module _ (s : Setup) (w : World) (u : Published) (call : Call) (node : Node) (paired : Paired s w u) (at : getElem? (w .nodes) (call .node) ≡ some node)
+    (refused : isAccepted (outputOf node call) ≡ false) where
+  none-sent : (m : Message) → _≡_ {A = Option Message} none (some m) → ⊥
+  none-sent m e = let z : _≡_ {A = ℕ} 0 1 = cc in omega arith
+
+  not-published : publish s u (doneOf node call) ≡ record { processes = u .processes; sent = u .sent ++ (none ∷ []) }
+  unfolding publish doneOf
+  not-published = let (p, p-at, twin) = paired .twins (call .node) node at in rw (refused, p-at) refl
+
+  same-node : (j : ℕ) (a : Node) → getElem? (set (w .nodes) (call .node) (nodeAfter node (outputOf node call))) j ≡ some a → getElem? (w .nodes) j ≡ some a
+  same-node j a a-at =
+      elim (eq-or-ne (call .node) j) [
+        | inl e ↦
+            let a-is : nodeAfter node (outputOf node call) ≡ a =
+            some-inj (sym (getElem?-set-same (w .nodes) (call .node) (nodeAfter node (outputOf node call)) (getElem?-lt (w .nodes) (call .node) at))
+            ∙ (ap (getElem? (set (w .nodes) (call .node) (nodeAfter node (outputOf node call)))) e ∙ a-at)) in
+            ap (getElem? (w .nodes)) (sym e) ∙ (at ∙ ap some (sym (refused-node node call refused) ∙ a-is))
+        | inr e ↦ sym (getElem?-set-other (w .nodes) (call .node) j (nodeAfter node (outputOf node call)) e) ∙ a-at
+      ]
+
+  pub paired-refused : Paired s (act w call) (publish s u (doneOf node call))
+  paired-refused =
+      subst (λ (y : World). Paired s y (publish s u (doneOf node call))) (sym (act-is w call node at))
+      (subst (Paired s (record { nodes = set (w .nodes) (call .node) (nodeAfter node (outputOf node call)); past = w .past ++ (doneOf node call ∷ []) })) (sym not-published)
+      (record {
+        good = subst (Good s 0 0) (act-is w call node at) (refused-good s 0 0 (settles-fresh s) w call node (paired .good) at refused);
+        sent-as =
+            sent-as-snoc s (w .past) (u .sent) (doneOf node call) none (paired .sent-as)
+            (record { each = λ h. absurd (clash (sends-accepted (doneOf node call) h) (unfold doneOf in refused)); only = λ m e. absurd (none-sent m e) });
+        ranked =
+            ranked-snoc s (w .past) (u .sent) (doneOf node call) none (paired .sent-as .same-length) (paired .ranked)
+            (λ k m m′ d e. absurd (none-sent m′ e));
+        twins = λ j a a-at.
+            let (q, q-at, t) = paired .twins j a (same-node j a a-at) in (
+              q,
+              q-at,
+              twin-stays s (w .past) (u .sent) j a q (doneOf node call) none (paired .sent-as .same-length) (paired .good .heard-before j)
+                  (λ k. unfold heardIn doneOf in (rw refused refl)) (λ m e. absurd (none-sent m e)) t,
+            );
+      }))
+
+-- without older frames nothing is left out
+sent-entry :
+    (s : Setup) (floor : ℕ) (past : List Done) (nodes : List Node) (v : ℕ) (bytes : List ℕ) (o : Origin) → isSent o ≡ true
+    → EntryOk s floor past nodes v bytes o → EntryOk s 0 past nodes v bytes o
+unfolding isSent
+sent-entry s floor past nodes v bytes (sentBy k) h entry = entry
+sent-entry s floor past nodes v bytes stale h entry = absurd (clash h refl)
+
+legal-fresh : (s : Setup) (floor : ℕ) (w : World) (call : Call) (node : Node) → Legal s floor w call node → every isSent (call .origins) ≡ true → Legal s 0 w call node
+legal-fresh s floor w call node legal all-sent =
+    record {
+      at = legal .at;
+      accepted = legal .accepted;
+      setup-is = legal .setup-is;
+      clock-is = legal .clock-is;
+      together = legal .together;
+      lengths = legal .lengths;
+      entry = λ e bytes o at o-at.
+          sent-entry s floor (w .past) (act w call .nodes) (suc (node .clock)) bytes o (every-mem isSent all-sent (getElem?-mem (call .origins) e o-at))
+          (legal .entry e bytes o at o-at);
+    }
+
+-- the calls of a list, one after the other
+abbrev AllMatched : Setup → Published → List Done → Type 0
+AllMatched s start past =
+    (j : ℕ) (d : Done) → getElem? past j ≡ some d → isAccepted (d .output) ≡ true → Matched s (publishAll s start (take j past)) d
+
+publish-snoc : (s : Setup) (past : List Done) (u : Published) (d : Done) → publishAll s u (past ++ (d ∷ [])) ≡ publish s (publishAll s u past) d
+unfolding publishAll
+publish-snoc s [] u d = refl
+publish-snoc s (a ∷ past) u d = publish-snoc s past (publish s u a) d
+
+matched-snoc :
+    (s : Setup) (start : Published) (past : List Done) (d : Done) → AllMatched s start past
+    → (isAccepted (d .output) ≡ true → Matched s (publishAll s start past) d) → AllMatched s start (past ++ (d ∷ []))
+matched-snoc s start past d matched last j e at acc =
+    elim (getElem?-snoc-cases past d j at) [
+      | inl q ↦
+          let h : j < length past = getElem?-lt past j q in
+          subst (λ (l : List Done). Matched s (publishAll s start l) e) (sym (take-append-le j past (d ∷ []) (omega arith))) (matched j e q acc)
+      | inr q ↦
+          subst (λ (n : ℕ). Matched s (publishAll s start (take n (past ++ (d ∷ [])))) e) (sym (q .0))
+          (subst (λ (l : List Done). Matched s (publishAll s start l) e) (sym (take-append-seam past (d ∷ [])))
+          (subst (λ (y : Done). Matched s (publishAll s start past) y) (sym (q .1)) (last (ap (λ (y : Done). isAccepted (y .output)) (sym (q .1)) ∙ acc))))
+    ]
+
+none-stale-before : (calls : List Call) (w : World) → noneStale (runFrom w calls .past) ≡ true → noneStale (w .past) ≡ true
+unfolding runFrom
+none-stale-before [] w h = h
+none-stale-before (call ∷ calls) w h = go (getElem? (w .nodes) (call .node)) refl (none-stale-before calls (act w call) h)
+  where
+    go : (o : Option Node) → getElem? (w .nodes) (call .node) ≡ o → noneStale (act w call .past) ≡ true → noneStale (w .past) ≡ true
+    go none e k =
+        let idle : act w call ≡ w = unfold act in (ap (λ (o : Option Node). actOn o w call) e) in
+        subst (λ (y : World). noneStale (y .past) ≡ true) idle k
+    go (some node) e k =
+        unfold noneStale in
+        (every-append-left (λ d. not (isAccepted (d .output)) || every isSent (d .call .origins)) (w .past) (doneOf node call ∷ [])
+        (subst (λ (y : World). noneStale (y .past) ≡ true) (act-is w call node e) k))
+
+-- the entries of the last call
+last-sent : (w : World) (call : Call) (node : Node) → getElem? (w .nodes) (call .node) ≡ some node → isAccepted (outputOf node call) ≡ true → noneStale (act w call .past) ≡ true → every isSent (call .origins) ≡ true
+unfolding noneStale every doneOf
+last-sent w call node at acc h =
+    let test : ((not (isAccepted (outputOf node call)) || every isSent (call .origins)) && true) ≡ true =
+    every-append-right (λ d. not (isAccepted (d .output)) || every isSent (d .call .origins)) (w .past) (doneOf node call ∷ [])
+    (subst (λ (y : World). noneStale (y .past) ≡ true) (act-is w call node at) h) in
+    elim (or-cases (not (isAccepted (outputOf node call))) (every isSent (call .origins)) (and-left (not (isAccepted (outputOf node call)) || every isSent (call .origins)) true test)) [
+      | inl q ↦ absurd (clash acc (false-of-not (isAccepted (outputOf node call)) q))
+      | inr q ↦ q
+    ]
+
+-- one call more
+one-matched :
+    (s : Setup) (x : ℕ) (start : Published) (w : World) (call : Call) → Paired s w (publishAll s start (w .past)) → AllMatched s start (w .past)
+    → allowed s x w call ≡ true → noneStale (act w call .past) ≡ true
+    → Paired s (act w call) (publishAll s start (act w call .past)) × AllMatched s start (act w call .past)
+one-matched s x start w call paired matched ok fresh = go (allowed-fact s x (staleUntil s x + s .epsilon) w call (λ v h. omega arith) ok)
+  where
+    u : Published
+    u = publishAll s start (w .past)
+
+    grown :
+        (node : Node) → getElem? (w .nodes) (call .node) ≡ some node → Paired s (act w call) (publish s u (doneOf node call))
+        → (isAccepted (doneOf node call .output) ≡ true → Matched s u (doneOf node call))
+        → Paired s (act w call) (publishAll s start (act w call .past)) × AllMatched s start (act w call .past)
+    grown node at more last =
+        let past-is : act w call .past ≡ w .past ++ (doneOf node call ∷ []) = ap (λ (y : World). y .past) (act-is w call node at) in (
+          subst (Paired s (act w call)) (sym (ap (publishAll s start) past-is ∙ publish-snoc s (w .past) start (doneOf node call))) more,
+          subst (AllMatched s start) (sym past-is) (matched-snoc s start (w .past) (doneOf node call) matched last),
+        )
+
+    go :
+        (node : Node) × (getElem? (w .nodes) (call .node) ≡ some node)
+        × ((isAccepted (outputOf node call) ≡ false) ⊎ Legal s (staleUntil s x + s .epsilon) w call node)
+        → Paired s (act w call) (publishAll s start (act w call .past)) × AllMatched s start (act w call .past)
+    go (node, at, inl refused) =
+        grown node at (paired-refused s w u call node paired at refused) (λ acc. absurd (clash acc (unfold doneOf in refused)))
+    go (node, at, inr legal) =
+        let here = legal-fresh s (staleUntil s x + s .epsilon) w call node legal (last-sent w call node at (legal .accepted) fresh) in
+        let (p, p-at, twin) = paired .twins (call .node) node at in
+        grown node at (paired-accepted s w u call node paired here p p-at twin) (λ acc. matched-here s w u call node paired here p p-at twin)
+
+all-matched :
+    (s : Setup) (x : ℕ) (start : Published) (calls : List Call) (w : World) → Paired s w (publishAll s start (w .past)) → AllMatched s start (w .past)
+    → keeps s x w calls ≡ true → noneStale (runFrom w calls .past) ≡ true → AllMatched s start (runFrom w calls .past)
+unfolding runFrom keeps
+all-matched s x start [] w paired matched kept fresh = matched
+all-matched s x start (call ∷ calls) w paired matched kept fresh =
+    let r = one-matched s x start w call paired matched (and-left (allowed s x w call) (keeps s x (act w call) calls) kept) (none-stale-before calls (act w call) fresh) in
+    all-matched s x start calls (act w call) (r .0) (r .1) (and-right (allowed s x w call) (keeps s x (act w call) calls) kept) fresh
+
+pub demand2-fresh : Demand2Fresh
+unfolding atStart publishAll
+demand2-fresh s nodes calls start fresh kept none-old j d at acc =
+    all-matched s (largestClock nodes) (publishedStart s nodes) calls (atStart nodes) (paired-fresh s nodes start fresh)
+    (λ k e e-at. let z : k < 0 = getElem?-lt [] k e-at in absurd (omega arith)) kept none-old j d at acc

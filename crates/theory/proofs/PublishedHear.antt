@@ -1,0 +1,289 @@
+-- Hearing a batch: the tick takes the messages that are new to the process, and no others.
+-- Assumes nothing.
+use Prim.Native.Nat.{ℕ, suc, _+_, _%_, _≤_, _<_}
+use native.Mathlib.Omega.{arith}
+use native.Mathlib.Nat.{add-zero}
+use mathlib.Core.Path.{_≡_, refl, sym, ap, subst, _∙_}
+use mathlib.Core.Logic.{inl, inr}
+use mathlib.Core.Bool.{Bool, true, false, _||_}
+use mathlib.Core.List.{List, [], _∷_, _++_, map, append-assoc, append-nil}
+use mathlib.Core.List.{List·Memᴰ, List·Memᴰ·head, List·Memᴰ·tail, List·Memᴰ·not-nil, List·Memᴰ·cases-cons, List·Memᴰ·append-cases, List·Memᴰ·eq-of-singleton, Memᴰ·append-left, Memᴰ·append-right}
+use mathlib.Core.Option.{Option, some}
+use lib.Dec.{eqb}
+use lib.ListN.{length, getElem?, length-append}
+use borrow.Author.Tests.{eqb-true, eq-eqb, ne-eqb}
+use Rattle.laws.specs.Lists.{any, select, insertAt, apart}
+use Rattle.laws.proofs.Numbers.{true-or-false, clash, and-intro, or-left, or-right, or-cases, or-false-left, or-false-right, or-false-intro, false-of-no, eq-or-ne}
+use Rattle.laws.proofs.Lists.{any-of-mem, any-of-false, getElem?-lt, select-append, mem-insertAt-new, mem-insertAt-old, mem-of-insertAt}
+use Rattle.laws.proofs.Sorted.{apart-cons}
+use Rattle.model.specs.Setup.{Setup}
+use Rattle.model.specs.Timestamp.{Timestamp, near, absorb}
+use Rattle.model.specs.Frame.{Frame, encode, decode}
+use Rattle.model.specs.Question.{firstNo}
+use Rattle.model.specs.Judge.{Heard, hear, hearOne, judge, judgeQuestions, placeFor, readingOf}
+use Rattle.model.specs.Tick.{takenCount}
+use Rattle.model.specs.Published.{Message, sameMessage, newOnes}
+use Rattle.model.specs.Run.{Origin, sentBy}
+use Rattle.theory.specs.Demand2.{reduced, reducedFrame, messagesHeard}
+use Rattle.theory.specs.Demand3.{isFrom}
+use Rattle.lemmas.proofs.Bounds.{FrameOk}
+use Rattle.lemmas.proofs.RoundTrip.{decode-encode}
+use Rattle.lemmas.proofs.OneTick.{hear-one-verdict}
+use Rattle.theory.proofs.HearLoop.{some-inj, hear-refused}
+use Rattle.theory.proofs.PublishedEvent.{absorbAll}
+use Rattle.theory.proofs.PublishedQueue.{SameMembers}
+
+pub same-self : (m : Message) → sameMessage m m ≡ true
+unfolding sameMessage
+same-self m = and-intro (eq-eqb (m .sender) (m .sender) refl) (eq-eqb (m .event .r) (m .event .r) refl)
+
+-- the message that call k sent, as an entry of a call for v
+pub record Incoming (s : Setup) (v : ℕ) (sent : List (Option Message)) (k : ℕ) (m : Message) (bytes : List ℕ) : Type 0 where
+  pub at : getElem? sent k ≡ some (some m)
+  pub bytes-are : bytes ≡ encode (reducedFrame (s .modulus) m)
+  pub frame : FrameOk s (reducedFrame (s .modulus) m)
+  pub not-ahead : m .event .r < v + s .epsilon
+  pub not-late : v ≤ m .event .r + s .delta + s .epsilon
+
+-- sender and clock tell which call sent a message
+abbrev pub Told : List (Option Message) → Type 0
+Told sent =
+    (k l : ℕ) (m m′ : Message) → getElem? sent k ≡ some (some m) → getElem? sent l ≡ some (some m′) → sameMessage m m′ ≡ true → k ≡ l
+
+-- the messages seen are those of the calls heard
+pub record SeenIs (sent : List (Option Message)) (heard : ℕ → Bool) (seen : List Message) : Type 0 where
+  pub into : (m : Message) → List·Memᴰ m seen → (k : ℕ) × (getElem? sent k ≡ some (some m)) × (heard k ≡ true)
+  pub back : (k : ℕ) (m : Message) → getElem? sent k ≡ some (some m) → heard k ≡ true → List·Memᴰ m seen
+
+-- one entry more has been heard
+abbrev pub also : (ℕ → Bool) → ℕ → ℕ → Bool
+also heard k j = heard j || eqb j k
+
+-- what is new in a batch, entry by entry, and what the tick does with it
+pub data News (s : Setup) (v : ℕ) (sent : List (Option Message)) : (ℕ → Bool) → Heard → List (List ℕ) → List Origin → List Message → Type 0 where
+  none-left : {heard : ℕ → Bool} {h : Heard} → News s v sent heard h [] [] []
+  again :
+      {heard : ℕ → Bool} {h : Heard} {bytes : List ℕ} {entries : List (List ℕ)} {origins : List Origin} {fresh : List Message}
+      (k : ℕ) (m : Message) → Incoming s v sent k m bytes → heard k ≡ true
+      → firstNo (judgeQuestions s (v % s .modulus) (h .queue) bytes) ≡ 16
+      → News s v sent (also heard k) (hearOne s (v % s .modulus) h bytes) entries origins fresh
+      → News s v sent heard h (bytes ∷ entries) (sentBy k ∷ origins) fresh
+  new :
+      {heard : ℕ → Bool} {h : Heard} {bytes : List ℕ} {entries : List (List ℕ)} {origins : List Origin} {fresh : List Message}
+      (k : ℕ) (m : Message) → Incoming s v sent k m bytes → heard k ≡ false
+      → firstNo (judgeQuestions s (v % s .modulus) (h .queue) bytes) ≡ 0
+      → News s v sent (also heard k) (hearOne s (v % s .modulus) h bytes) entries origins fresh
+      → News s v sent heard h (bytes ∷ entries) (sentBy k ∷ origins) (m ∷ fresh)
+
+-- one entry, by its verdict
+take-message :
+    (s : Setup) (v : ℕ) (h : Heard) (bytes : List ℕ) (m : Message) → decode (s .epsilon) bytes ≡ reducedFrame (s .modulus) m
+    → firstNo (judgeQuestions s v (h .queue) bytes) ≡ 0
+    → (hearOne s v h bytes .stamp ≡ absorb (s .epsilon) (s .modulus) (h .stamp) (near (s .epsilon) (s .modulus) v (m .event .r % s .modulus)) (reduced (s .modulus) (m .event)))
+    × (hearOne s v h bytes .queue ≡ insertAt (placeFor s v (h .queue) (reducedFrame (s .modulus) m)) (reducedFrame (s .modulus) m) (h .queue))
+unfolding hearOne judge readingOf reducedFrame reduced
+take-message s v h bytes m f e = rw (e, f) (refl, refl)
+
+-- one message more in buffer and queue
+members-insert :
+    (B i : ℕ) (m : Message) (queue : List Frame) (buffer : List Message) → SameMembers B queue buffer
+    → SameMembers B (insertAt i (reducedFrame B m) queue) (buffer ++ (m ∷ []))
+members-insert B i m queue buffer same =
+    record {
+      into = λ f t.
+          elim (mem-of-insertAt i (reducedFrame B m) queue t) [
+            | inl e ↦ (m, Memᴰ·append-right buffer (List·Memᴰ·head refl), e)
+            | inr q ↦ let (x, there, e) = same .into f q in (x, Memᴰ·append-left (m ∷ []) there, e)
+          ];
+      back = λ x t.
+          elim (List·Memᴰ·append-cases buffer t) [
+            | inl q ↦ mem-insertAt-old i (reducedFrame B m) (same .back x q)
+            | inr q ↦ rw (List·Memᴰ·eq-of-singleton q) (mem-insertAt-new i (reducedFrame B m) queue)
+          ];
+    }
+
+-- a verdict more
+taken-no : (l : List ℕ) → takenCount (l ++ (16 ∷ [])) ≡ takenCount l
+unfolding takenCount select
+taken-no l = ap length (select-append (λ x. eqb x 0) l (16 ∷ []) ∙ append-nil (select (λ x. eqb x 0) l))
+
+taken-yes : (l : List ℕ) → takenCount (l ++ (0 ∷ [])) ≡ takenCount l + 1
+unfolding takenCount select
+taken-yes l = ap length (select-append (λ x. eqb x 0) l (0 ∷ [])) ∙ length-append (select (λ x. eqb x 0) l) (0 ∷ [])
+
+module _ (s : Setup) (v : ℕ) (sent : List (Option Message)) where
+  decoded : (k : ℕ) (m : Message) (bytes : List ℕ) → Incoming s v sent k m bytes → decode (s .epsilon) bytes ≡ reducedFrame (s .modulus) m
+  decoded k m bytes a = rw (a .bytes-are) (decode-encode (s .epsilon) (reducedFrame (s .modulus) m) (a .frame .sound .wide))
+
+  -- the stamp takes the new messages in turn
+  pub news-stamp :
+      {heard : ℕ → Bool} {h : Heard} {entries : List (List ℕ)} {origins : List Origin} {fresh : List Message}
+      → News s v sent heard h entries origins fresh
+      → hear s (v % s .modulus) h entries .stamp ≡ absorbAll (s .epsilon) (s .modulus) (v % s .modulus) (h .stamp) (map (λ (m : Message). m .event) fresh)
+  unfolding hear absorbAll
+  news-stamp none-left = refl
+  news-stamp (again {h} {bytes} {fresh} k m a old e rest) =
+      news-stamp rest
+      ∙ ap (λ (t : Timestamp). absorbAll (s .epsilon) (s .modulus) (v % s .modulus) t (map (λ (x : Message). x .event) fresh)) (hear-refused s (v % s .modulus) h bytes 15 e .0)
+  news-stamp (new {h} {bytes} {fresh} k m a old e rest) =
+      news-stamp rest
+      ∙ ap (λ (t : Timestamp). absorbAll (s .epsilon) (s .modulus) (v % s .modulus) t (map (λ (x : Message). x .event) fresh))
+      (take-message s (v % s .modulus) h bytes m (decoded k m bytes a) e .0)
+
+  -- the queue gets their frames
+  pub news-queue :
+      {heard : ℕ → Bool} {h : Heard} {entries : List (List ℕ)} {origins : List Origin} {fresh : List Message}
+      (buffer : List Message) → News s v sent heard h entries origins fresh → SameMembers (s .modulus) (h .queue) buffer
+      → SameMembers (s .modulus) (hear s (v % s .modulus) h entries .queue) (buffer ++ fresh)
+  unfolding hear
+  news-queue buffer none-left same = rw (append-nil buffer) same
+  news-queue buffer (again {h} {bytes} {fresh} k m a old e rest) same =
+      news-queue buffer rest (subst (λ (q : List Frame). SameMembers (s .modulus) q buffer) (sym (hear-refused s (v % s .modulus) h bytes 15 e .1)) same)
+  news-queue buffer (new {h} {bytes} {entries} {fresh} k m a old e rest) same =
+      subst (λ (l : List Message). SameMembers (s .modulus) (hear s (v % s .modulus) (hearOne s (v % s .modulus) h bytes) entries .queue) l) (append-assoc buffer (m ∷ []) fresh)
+      (news-queue (buffer ++ (m ∷ [])) rest
+      (subst (λ (q : List Frame). SameMembers (s .modulus) q (buffer ++ (m ∷ []))) (sym (take-message s (v % s .modulus) h bytes m (decoded k m bytes a) e .1))
+      (members-insert (s .modulus) (placeFor s (v % s .modulus) (h .queue) (reducedFrame (s .modulus) m)) m (h .queue) buffer same)))
+
+  -- each is counted as taken
+  pub news-taken :
+      {heard : ℕ → Bool} {h : Heard} {entries : List (List ℕ)} {origins : List Origin} {fresh : List Message}
+      → News s v sent heard h entries origins fresh
+      → takenCount (hear s (v % s .modulus) h entries .verdicts) ≡ takenCount (h .verdicts) + length fresh
+  unfolding hear
+  news-taken {h} none-left = sym (add-zero (takenCount (h .verdicts)))
+  news-taken (again {h} {bytes} {fresh} k m a old e rest) =
+      let one : takenCount (hearOne s (v % s .modulus) h bytes .verdicts) ≡ takenCount (h .verdicts) =
+      ap takenCount (hear-one-verdict s (v % s .modulus) h bytes ∙ ap (λ (n : ℕ). h .verdicts ++ (n ∷ [])) e) ∙ taken-no (h .verdicts) in
+      news-taken rest ∙ ap (λ (n : ℕ). n + length fresh) one
+  news-taken (new {h} {bytes} {entries} {fresh} k m a old e rest) =
+      let one : takenCount (hearOne s (v % s .modulus) h bytes .verdicts) ≡ takenCount (h .verdicts) + 1 =
+      ap takenCount (hear-one-verdict s (v % s .modulus) h bytes ∙ ap (λ (n : ℕ). h .verdicts ++ (n ∷ [])) e) ∙ taken-yes (h .verdicts) in
+      let more : takenCount (hear s (v % s .modulus) (hearOne s (v % s .modulus) h bytes) entries .verdicts) ≡ takenCount (hearOne s (v % s .modulus) h bytes .verdicts) + length fresh = news-taken rest in
+      omega arith
+
+  -- where a new message comes from
+  pub news-from :
+      {heard : ℕ → Bool} {h : Heard} {entries : List (List ℕ)} {origins : List Origin} {fresh : List Message}
+      → News s v sent heard h entries origins fresh → (m : Message) → List·Memᴰ m fresh
+      → (k : ℕ) × (bytes : List ℕ) × Incoming s v sent k m bytes × (heard k ≡ false) × (any (isFrom k) origins ≡ true)
+  unfolding any isFrom
+  news-from none-left x t = absurd (List·Memᴰ·not-nil t)
+  news-from (again {heard} k m a old e rest) x t =
+      let (j, bytes, b, first, there) = news-from rest x t in
+      (j, bytes, b, or-false-left (heard j) (eqb j k) first, or-right (eqb j k) there)
+  news-from (new {heard} {bytes} {origins} k m a old e rest) x t =
+      elim (List·Memᴰ·cases-cons t) [
+        | inl q ↦ (k, bytes, rw q a, old, or-left (any (isFrom k) origins) (eq-eqb k k refl))
+        | inr q ↦
+            let (j, bytes′, b, first, there) = news-from rest x q in
+            (j, bytes′, b, or-false-left (heard j) (eqb j k) first, or-right (eqb j k) there)
+      ]
+
+  -- a message heard for the first time is new
+  pub news-all :
+      {heard : ℕ → Bool} {h : Heard} {entries : List (List ℕ)} {origins : List Origin} {fresh : List Message}
+      → News s v sent heard h entries origins fresh → (j : ℕ) (x : Message) → getElem? sent j ≡ some (some x) → heard j ≡ false
+      → any (isFrom j) origins ≡ true → List·Memᴰ x fresh
+  unfolding any isFrom
+  news-all none-left j x at first there = absurd (clash there refl)
+  news-all (again {heard} {origins} k m a old e rest) j x at first there =
+      elim (eq-or-ne j k) [
+        | inl q ↦ absurd (clash old (ap heard (sym q) ∙ first))
+        | inr q ↦ news-all rest j x at (or-false-intro first (ne-eqb j k q)) (rw (ne-eqb j k q) at there)
+      ]
+  news-all (new {heard} {origins} k m a old e rest) j x at first there =
+      elim (eq-or-ne j k) [
+        | inl q ↦ List·Memᴰ·head (some-inj (some-inj (sym at ∙ (ap (getElem? sent) q ∙ a .at))))
+        | inr q ↦ List·Memᴰ·tail (news-all rest j x at (or-false-intro first (ne-eqb j k q)) (rw (ne-eqb j k q) at there))
+      ]
+
+  -- what is heard was sent
+  pub news-sent :
+      {heard : ℕ → Bool} {h : Heard} {entries : List (List ℕ)} {origins : List Origin} {fresh : List Message}
+      → News s v sent heard h entries origins fresh → (j : ℕ) → any (isFrom j) origins ≡ true → j < length sent
+  unfolding any isFrom
+  news-sent none-left j there = absurd (clash there refl)
+  news-sent (again {origins} k m a old e rest) j there =
+      elim (or-cases (eqb j k) (any (isFrom j) origins) there) [
+        | inl q ↦ rw (eqb-true j k q) (getElem?-lt sent k (a .at))
+        | inr q ↦ news-sent rest j q
+      ]
+  news-sent (new {origins} k m a old e rest) j there =
+      elim (or-cases (eqb j k) (any (isFrom j) origins) there) [
+        | inl q ↦ rw (eqb-true j k q) (getElem?-lt sent k (a .at))
+        | inr q ↦ news-sent rest j q
+      ]
+
+  -- no two of them are alike
+  pub news-apart :
+      {heard : ℕ → Bool} {h : Heard} {entries : List (List ℕ)} {origins : List Origin} {fresh : List Message}
+      → Told sent → News s v sent heard h entries origins fresh → apart sameMessage fresh ≡ true
+  unfolding apart
+  news-apart told none-left = refl
+  news-apart told (again k m a old e rest) = news-apart told rest
+  news-apart told (new {heard} {fresh} k m a old e rest) =
+      apart-cons sameMessage m fresh
+      (any-of-false (sameMessage m) fresh
+      (λ x t.
+      let (j, bytes, b, first, there) = news-from rest x t in
+      false-of-no (sameMessage m x)
+      (λ q. clash (eq-eqb j k (sym (told k j m x (a .at) (b .at) q))) (or-false-right (heard j) (eqb j k) first))))
+      (news-apart told rest)
+
+-- passing over a repeat: what is seen is what was heard
+pub seen-any :
+    (sent : List (Option Message)) (heard : ℕ → Bool) (seen : List Message) → Told sent → SeenIs sent heard seen
+    → (k : ℕ) (m : Message) → getElem? sent k ≡ some (some m) → any (sameMessage m) seen ≡ heard k
+seen-any sent heard seen told is k m at =
+    elim (true-or-false (heard k)) [
+      | inl e ↦ any-of-mem (sameMessage m) (is .back k m at e) (same-self m) ∙ sym e
+      | inr e ↦
+          any-of-false (sameMessage m) seen
+          (λ x t.
+          let (j, there, old) = is .into x t in
+          false-of-no (sameMessage m x) (λ q. clash old (ap heard (sym (told k j m x at there q)) ∙ e)))
+          ∙ sym e
+    ]
+
+-- one more heard: known before, or new
+pub seen-again : (sent : List (Option Message)) (heard : ℕ → Bool) (seen : List Message) (k : ℕ) → heard k ≡ true → SeenIs sent heard seen → SeenIs sent (also heard k) seen
+seen-again sent heard seen k old is =
+    record {
+      into = λ m t. let (j, at, e) = is .into m t in (j, at, or-left (eqb j k) e);
+      back = λ j m at e.
+          elim (or-cases (heard j) (eqb j k) e) [
+            | inl q ↦ is .back j m at q
+            | inr q ↦ is .back j m at (ap heard (eqb-true j k q) ∙ old)
+          ];
+    }
+
+pub seen-new :
+    (sent : List (Option Message)) (heard : ℕ → Bool) (seen : List Message) (k : ℕ) (m : Message) → getElem? sent k ≡ some (some m)
+    → SeenIs sent heard seen → SeenIs sent (also heard k) (m ∷ seen)
+seen-new sent heard seen k m at is =
+    record {
+      into = λ x t.
+          elim (List·Memᴰ·cases-cons t) [
+            | inl q ↦ (k, at ∙ ap (λ (y : Message). some (some y)) (sym q), or-right (heard k) (eq-eqb k k refl))
+            | inr q ↦ let (j, there, e) = is .into x q in (j, there, or-left (eqb j k) e)
+          ];
+      back = λ j x there e.
+          elim (or-cases (heard j) (eqb j k) e) [
+            | inl q ↦ List·Memᴰ·tail (is .back j x there q)
+            | inr q ↦ List·Memᴰ·head (some-inj (some-inj (sym there ∙ (ap (getElem? sent) (eqb-true j k q) ∙ at))))
+          ];
+    }
+
+-- the heads of the two lists of messages
+pub heard-cons : (sent : List (Option Message)) (k : ℕ) (m : Message) (origins : List Origin) → getElem? sent k ≡ some (some m) → messagesHeard sent (sentBy k ∷ origins) ≡ m ∷ messagesHeard sent origins
+unfolding messagesHeard
+heard-cons sent k m origins e = rw e
+
+pub new-ones-again : (seen : List Message) (m : Message) (ms : List Message) → any (sameMessage m) seen ≡ true → newOnes seen (m ∷ ms) ≡ newOnes seen ms
+unfolding newOnes
+new-ones-again seen m ms e = rw e
+
+pub new-ones-new : (seen : List Message) (m : Message) (ms : List Message) → any (sameMessage m) seen ≡ false → newOnes seen (m ∷ ms) ≡ m ∷ newOnes (m ∷ seen) ms
+unfolding newOnes
+new-ones-new seen m ms e = rw e

@@ -1,0 +1,201 @@
+-- Reader and writer are inverse to one another, and so are the encodings of the queue and of the delivery.
+-- Assumes nothing.
+use Prim.Native.Nat.{ℕ, zero, suc, _+_, _*_, _-_, _/_, _%_, _≤_, _<_}
+use native.Mathlib.Omega.{arith}
+use mathlib.Core.Path.{_≡_, refl, sym, ap, _∙_}
+use mathlib.Core.Bool.{true}
+use mathlib.Core.List.{List, [], _∷_, _++_, map, append-assoc, List·Memᴰ}
+use lib.Dec.{leb, ltb}
+use lib.ListN.{length, take, drop, replicate, length-map, take-append-drop}
+use lib.Seq.{drop-append-seam}
+use borrow.Author.Tests.{le-leb, lt-ltb, leb-true, ltb-true}
+use Rattle.laws.specs.Lists.{every, joined, overlay, padded}
+use Rattle.laws.proofs.Numbers.{and-left, and-right}
+use Rattle.laws.proofs.Lists.{every-take, every-drop, every-mono, take-overlay}
+use Rattle.model.specs.Setup.{Setup, width, inLimits, depth, holdbackLength, longestPayload}
+use Rattle.model.specs.Timestamp.{Timestamp, trimmed, widened}
+use Rattle.model.specs.Frame.{Frame, encode, decode, wellFormed, frameEnd, twoAt, twoBytes}
+use Rattle.model.specs.Question.{ask, firstNo, askSetup, askRange, askStamp, frameQuestions}
+use Rattle.model.specs.Codec.{askPayload, readQuestions, readBy, read, frameOf, writeQuestions, writeBy, write}
+use Rattle.model.specs.Holdback.{cutFrames, heldBytes, held, passes, soundHoldback, encodeFrames, encodeHoldback}
+use Rattle.model.specs.Tick.{holdbackSize}
+use Rattle.lemmas.proofs.Bounds.{FrameOk}
+use Rattle.lemmas.proofs.Questions.{limits-from, first-yes}
+use Rattle.lemmas.proofs.Counts.{sound-to, trimmed-wide, trimmed-widened}
+use Rattle.lemmas.proofs.RoundTrip.{none-no, bounds-passed, form-passed, passes-formed, decode-encode, encode-decode, frame-passes, frame-passed, held-frames}
+
+-- the writer accepts what is in its bounds and fits, and nothing else
+pub record Written (s : Setup) (f : Frame) (buffer : List ℕ) : Type 0 where
+  pub setup : inLimits s ≡ true
+  pub frame : FrameOk s f
+  pub fits : length (encode f) ≤ length buffer
+
+pub written-from : (s : Setup) (f : Frame) (buffer : List ℕ) → length (f .stamp .kn) ≡ width (s .epsilon) → firstNo (writeQuestions s f buffer) ≡ 0 → Written s f buffer
+unfolding writeQuestions askSetup askPayload askRange askStamp
+written-from s f buffer wide e =
+    let room = ask (leb (length (encode f)) (length buffer)) 6 in
+    let q1 = none-no (inLimits s) 0 (askPayload (f .payload) ∷ askRange s f ∷ askStamp s f ∷ room ∷ []) e in
+    let q4 = none-no (leb (length (f .payload)) longestPayload) 3 (askRange s f ∷ askStamp s f ∷ room ∷ []) (q1 .1) in
+    let q12 = bounds-passed s f (room ∷ []) (limits-from s (q1 .0)) wide (leb-true (length (f .payload)) longestPayload (q4 .0)) (q4 .1) in
+    record {
+      setup = q1 .0;
+      frame = q12 .0;
+      fits = leb-true (length (encode f)) (length buffer) (first-yes (leb (length (encode f)) (length buffer)) 5 [] (q12 .1));
+    }
+
+pub written-to : (s : Setup) (f : Frame) (buffer : List ℕ) → Written s f buffer → write s f buffer ≡ writeBy 0 f buffer
+unfolding write writeQuestions askSetup askPayload askRange askStamp firstNo
+written-to s f buffer o =
+    rw (
+      o .setup,
+      le-leb (length (f .payload)) longestPayload (o .frame .short),
+      lt-ltb (f .station) (s .n) (o .frame .station-below),
+      lt-ltb (f .stamp .r) (s .modulus) (o .frame .r-below),
+      sound-to (s .n) (s .epsilon) (f .stamp) (o .frame .sound),
+      le-leb (length (encode f)) (length buffer) (o .fits),
+    )
+
+-- a number 0 says that no question got a no
+write-number : (s : Setup) (f : Frame) (buffer : List ℕ) → write s f buffer .number ≡ 0 → firstNo (writeQuestions s f buffer) ≡ 0
+unfolding write
+write-number s f buffer = go (firstNo (writeQuestions s f buffer))
+  where
+    go : (k : ℕ) → writeBy k f buffer .number ≡ 0 → k ≡ 0
+    go zero e = refl
+    go (suc k) e = e
+
+read-number : (s : Setup) (bytes : List ℕ) → read s bytes .number ≡ 0 → firstNo (readQuestions s bytes) ≡ 0
+unfolding read
+read-number s bytes = go (firstNo (readQuestions s bytes))
+  where
+    go : (k : ℕ) → readBy k (decode (s .epsilon) bytes) .number ≡ 0 → k ≡ 0
+    go zero e = refl
+    go (suc k) e = e
+
+-- the reader accepts what the writer makes
+pub read-encoded : (s : Setup) (f : Frame) → inLimits s ≡ true → FrameOk s f → read s (encode f) ≡ readBy 0 f
+unfolding read readQuestions askSetup firstNo frameQuestions
+read-encoded s f setup ok =
+    rw (setup, frame-passes s f [] ok, decode-encode (s .epsilon) f (ok .sound .wide))
+
+-- a written frame reads back the same
+pub read-written :
+    (s : Setup) (f : Frame) (buffer : List ℕ) → length (f .stamp .kn) ≡ width (s .epsilon) → write s f buffer .number ≡ 0
+    → read s (take (write s f buffer .size) (write s f buffer .buffer)) ≡ readBy 0 f
+read-written s f buffer wide e =
+    let o = written-from s f buffer wide (write-number s f buffer e) in
+    rw (written-to s f buffer o, take-overlay (encode f) buffer) (read-encoded s f (o .setup) (o .frame))
+
+-- the writer's station, stamp and ticket come back; the places past the 2ε counts come back 0
+pub read-of-write :
+    (s : Setup) (station : ℕ) (t : Timestamp) (payload buffer : List ℕ)
+    → write s (frameOf (s .epsilon) station t payload) buffer .number ≡ 0
+    → read s (take (write s (frameOf (s .epsilon) station t payload) buffer .size) (write s (frameOf (s .epsilon) station t payload) buffer .buffer))
+    ≡ record { number = 0; station = station; stamp = widened (trimmed (s .epsilon) t); payload = payload }
+unfolding frameOf
+read-of-write s station t payload buffer e =
+    read-written s (frameOf (s .epsilon) station t payload) buffer (trimmed-wide (s .epsilon) t) e
+
+-- an accepted frame, its bytes below 256, is what the writer makes of its contents, in any buffer that is long enough
+pub write-of-read :
+    (s : Setup) (bytes buffer : List ℕ) → every (λ b. ltb b 256) bytes ≡ true → read s bytes .number ≡ 0 → length bytes ≤ length buffer
+    → write s (frameOf (s .epsilon) (read s bytes .station) (read s bytes .stamp) (read s bytes .payload)) buffer
+    ≡ record { number = 0; size = length bytes; buffer = overlay bytes buffer }
+unfolding read readQuestions askSetup frameQuestions frameOf
+write-of-read s bytes buffer below e fits =
+    let z = read-number s bytes e in
+    let q1 = none-no (inLimits s) 0 (frameQuestions s bytes) z in
+    let limits = limits-from s (q1 .0) in
+    let f = decode (s .epsilon) bytes in
+    let ok = frame-passed s bytes [] limits (q1 .1) .0 in
+    let same : encode f ≡ bytes = encode-decode (s .epsilon) bytes below (form-passed s bytes [] (q1 .1)) in
+    let again : frameOf (s .epsilon) (f .station) (widened (f .stamp)) (f .payload) ≡ f =
+    ap (λ (t : Timestamp). record { station = f .station; stamp = t; payload = f .payload }) (trimmed-widened (s .epsilon) (f .stamp) (limits .epsilon-most) (ok .sound .wide)) in
+    rw (z, again, written-to s f buffer (record { setup = q1 .0; frame = ok; fits = rw same fits }), same)
+
+-- the other way round for the frames of a queue or a delivery: k frames of which each is well formed, and the rest
+cut-front :
+    (epsilon k : ℕ) (s : List ℕ) → every (λ b. ltb b 256) s ≡ true → every (wellFormed epsilon) (cutFrames epsilon k s) ≡ true
+    → (rest : List ℕ) × (joined encode (map (decode epsilon) (cutFrames epsilon k s)) ++ rest ≡ s)
+unfolding cutFrames joined every
+cut-front epsilon zero s below formed = (s, refl)
+cut-front epsilon (suc k) s below formed =
+    let n = frameEnd epsilon s in
+    let h = and-left (wellFormed epsilon (take n s)) _ formed in
+    let t = cut-front epsilon k (drop n s) (every-drop (λ b. ltb b 256) n s below) (and-right (wellFormed epsilon (take n s)) _ formed) in (
+      t .0,
+      rw (encode-decode epsilon (take n s) (every-take (λ b. ltb b 256) n s below) h, append-assoc (take n s) (joined encode (map (decode epsilon) (cutFrames epsilon k (drop n s)))) (t .0), t .1)
+          (take-append-drop n s),
+    )
+
+length-cut : (epsilon k : ℕ) (s : List ℕ) → length (cutFrames epsilon k s) ≡ k
+unfolding cutFrames
+length-cut epsilon zero s = refl
+length-cut epsilon (suc k) s = ap suc (length-cut epsilon k (drop (frameEnd epsilon s) s))
+
+-- a two-byte number, written again
+two-front : (s : List ℕ) → 2 ≤ length s → every (λ b. ltb b 256) s ≡ true → twoBytes (twoAt s 0) ++ drop 2 s ≡ s
+unfolding twoBytes twoAt every
+two-front [] h below = absurd (omega arith)
+two-front (x ∷ []) h below = absurd (omega arith)
+two-front (x ∷ (y ∷ s)) h below =
+    let low : x < 256 = ltb-true x 256 (and-left (ltb x 256) _ below) in
+    let e : (x + 256 * y) % 256 ≡ x = omega arith in
+    let q : (x + 256 * y) / 256 ≡ y = omega arith in
+    rw (e, q)
+
+-- general: what a list begins with can be laid over it
+overlay-front : (e rest l : List ℕ) → e ++ rest ≡ l → overlay e l ≡ l
+unfolding overlay
+overlay-front e rest l h = rw (← h, drop-append-seam e rest)
+
+-- bytes that hold well-formed frames begin with what is made of these frames
+pub frames-front :
+    (epsilon : ℕ) (bytes : List ℕ) → 2 ≤ length bytes → every (λ b. ltb b 256) bytes ≡ true → every (wellFormed epsilon) (heldBytes epsilon bytes) ≡ true
+    → overlay (encodeFrames (held epsilon bytes)) bytes ≡ bytes
+unfolding encodeFrames held heldBytes
+frames-front epsilon bytes long below formed =
+    let pieces = cutFrames epsilon (twoAt bytes 0) (drop 2 bytes) in
+    let body = joined encode (map (decode epsilon) pieces) in
+    let t = cut-front epsilon (twoAt bytes 0) (drop 2 bytes) (every-drop (λ b. ltb b 256) 2 bytes below) formed in
+    let count : length (map (decode epsilon) pieces) ≡ twoAt bytes 0 = length-map pieces (decode epsilon) ∙ length-cut epsilon (twoAt bytes 0) (drop 2 bytes) in
+    overlay-front (twoBytes (length (map (decode epsilon) pieces)) ++ body) (t .0) bytes
+    (rw (count, append-assoc (twoBytes (twoAt bytes 0)) body (t .0), t .1) (two-front bytes long below))
+
+-- the frames of a sound queue, encoded, are the front of its bytes
+pub holdback-front :
+    (s : Setup) (v : ℕ) (bytes : List ℕ) → 2 ≤ length bytes → every (λ b. ltb b 256) bytes ≡ true → soundHoldback s v bytes ≡ true
+    → overlay (encodeFrames (held (s .epsilon) bytes)) bytes ≡ bytes
+unfolding soundHoldback
+holdback-front s v bytes long below h =
+    let h₁ = and-right (leb (twoAt bytes 0) (depth (s .n) (s .epsilon) (s .delta))) _ h in
+    let all = and-left (every (passes s) (heldBytes (s .epsilon) bytes)) _ h₁ in
+    frames-front (s .epsilon) bytes long below
+    (every-mono (passes s) (wellFormed (s .epsilon)) (heldBytes (s .epsilon) bytes) (λ b p. passes-formed s b p) all)
+
+pub take-holdback :
+    (s : Setup) (v : ℕ) (bytes : List ℕ) → length bytes ≡ holdbackSize s → every (λ b. ltb b 256) bytes ≡ true → soundHoldback s v bytes ≡ true
+    → take (length (encodeFrames (held (s .epsilon) bytes))) bytes ≡ encodeFrames (held (s .epsilon) bytes)
+unfolding holdbackLength
+take-holdback s v bytes size below h =
+    let front = holdback-front s v bytes (omega arith) below h in
+    let e = encodeFrames (held (s .epsilon) bytes) in
+    rw front at (take-overlay e bytes)
+
+-- and where zeros stand behind them, the whole of it is what the tick writes
+pub holdback-whole :
+    (s : Setup) (v : ℕ) (bytes : List ℕ) → length bytes ≡ holdbackSize s → every (λ b. ltb b 256) bytes ≡ true → soundHoldback s v bytes ≡ true
+    → drop (length (encodeFrames (held (s .epsilon) bytes))) bytes ≡ replicate (holdbackSize s - length (encodeFrames (held (s .epsilon) bytes))) 0
+    → encodeHoldback (holdbackSize s) (held (s .epsilon) bytes) ≡ bytes
+unfolding encodeHoldback padded overlay holdbackLength
+holdback-whole s v bytes size below h zeros =
+    let e = encodeFrames (held (s .epsilon) bytes) in
+    ap (λ (l : List ℕ). e ++ l) (sym zeros) ∙ holdback-front s v bytes (omega arith) below h
+
+-- the frames of a delivery, laid over the caller's buffer
+pub held-delivery :
+    (epsilon : ℕ) (queue : List Frame) (old : List ℕ)
+    → ((f : Frame) → List·Memᴰ f queue → length (f .stamp .kn) ≡ width epsilon) → length queue < 65536
+    → held epsilon (overlay (encodeFrames queue) old) ≡ queue
+unfolding overlay
+held-delivery epsilon queue old wide few = held-frames epsilon queue (drop (length (encodeFrames queue)) old) wide few

@@ -1,0 +1,207 @@
+//! The proved static library behind safe functions, and how its answers are packed.
+
+use oracle::Answer;
+
+/// Where a number lies in an answer: its lowest bit and how many bits it has.
+pub struct Field {
+    low: u32,
+    bits: u32,
+}
+
+impl Field {
+    const fn new(low: u32, bits: u32) -> Self {
+        Field { low, bits }
+    }
+
+    fn put(&self, value: u64) -> u64 {
+        assert!(value >> self.bits == 0, "{value} has more than {} bits", self.bits);
+        value << self.low
+    }
+
+    fn get(&self, word: u64) -> u64 {
+        (word >> self.low) & ((1 << self.bits) - 1)
+    }
+}
+
+/// The number, in every answer: 0 or that of the question that got a no.
+pub const NUMBER: Field = Field::new(0, 8);
+
+const TICK_REPAIR: Field = Field::new(8, 8);
+const TICK_TAKEN: Field = Field::new(16, 8);
+const TICK_OUTGOING: Field = Field::new(24, 8);
+const TICK_DELIVERED: Field = Field::new(32, 16);
+
+const READ_NODE: Field = Field::new(8, 8);
+const READ_PAYLOAD_AT: Field = Field::new(16, 8);
+const READ_PAYLOAD_LEN: Field = Field::new(24, 8);
+
+const WRITE_LEN: Field = Field::new(8, 8);
+
+/// The number in any answer.
+pub fn number(word: u64) -> u8 {
+    NUMBER.get(word) as u8
+}
+
+/// The tick's answer.
+pub fn pack_tick(answer: &Answer) -> u64 {
+    NUMBER.put(answer.number.into())
+        | TICK_REPAIR.put(answer.repair.into())
+        | TICK_TAKEN.put(answer.taken.into())
+        | TICK_OUTGOING.put(answer.outgoing.into())
+        | TICK_DELIVERED.put(answer.delivered.into())
+}
+
+/// The tick's answer from its packed form.
+pub fn unpack_tick(word: u64) -> Answer {
+    Answer {
+        number: number(word),
+        repair: TICK_REPAIR.get(word) as u8,
+        taken: TICK_TAKEN.get(word) as u8,
+        outgoing: TICK_OUTGOING.get(word) as u8,
+        delivered: TICK_DELIVERED.get(word) as u16,
+    }
+}
+
+/// The reader's answer: the sender, and where the payload lies in the frame.
+pub fn pack_read(node: u64, payload_at: u64, payload_len: u64) -> u64 {
+    READ_NODE.put(node) | READ_PAYLOAD_AT.put(payload_at) | READ_PAYLOAD_LEN.put(payload_len)
+}
+
+/// The writer's answer: the frame's length.
+pub fn pack_write(length: u64) -> u64 {
+    WRITE_LEN.put(length)
+}
+
+/// The answer of a refused reader or writer.
+pub fn pack_refusal(number: u8) -> u64 {
+    NUMBER.put(number.into())
+}
+
+#[cfg(feature = "abi")]
+pub mod library {
+    //! The calls themselves.
+
+    use oracle::generate::{ReadCase, TickCase, WriteCase};
+    use oracle::{ClockState, Setup};
+
+    #[link(name = "abi", kind = "static")]
+    extern "C" {
+        fn yarngravel_tick(
+            n: u32,
+            epsilon: u32,
+            delta: u32,
+            modulus: u32,
+            own: u32,
+            clock: u32,
+            state: *mut ClockState,
+            holdback: *mut u8,
+            holdback_len: usize,
+            batch: *const u8,
+            batch_len: usize,
+            send: bool,
+            payload: *const u8,
+            payload_len: usize,
+            outgoing: *mut u8,
+            outgoing_len: usize,
+            verdicts: *mut u8,
+            verdicts_len: usize,
+            delivery: *mut u8,
+            delivery_len: usize,
+        ) -> u64;
+
+        fn yarngravel_read(
+            n: u32,
+            epsilon: u32,
+            delta: u32,
+            modulus: u32,
+            own: u32,
+            frame: *const u8,
+            frame_len: usize,
+            state: *mut ClockState,
+        ) -> u64;
+
+        fn yarngravel_write(
+            n: u32,
+            epsilon: u32,
+            delta: u32,
+            modulus: u32,
+            own: u32,
+            node: u32,
+            state: *const ClockState,
+            payload: *const u8,
+            payload_len: usize,
+            out: *mut u8,
+            out_len: usize,
+        ) -> u64;
+    }
+
+    /// A setup's numbers as the calls take them: n, ε, δ, B, own.
+    fn numbers(setup: &Setup) -> [u32; 5] {
+        let Setup { n, epsilon, delta, modulus, own } = *setup;
+        [n, epsilon, delta, modulus, own].map(narrow)
+    }
+
+    fn narrow(number: i64) -> u32 {
+        u32::try_from(number).expect("a number that a call can take")
+    }
+
+    /// The tick.
+    pub fn tick(case: &mut TickCase) -> u64 {
+        let [n, epsilon, delta, modulus, own] = numbers(&case.setup);
+        // SAFETY: every pointer comes with the length of the slice it was taken from, and no
+        // two slices overlap.
+        unsafe {
+            yarngravel_tick(
+                n,
+                epsilon,
+                delta,
+                modulus,
+                own,
+                narrow(case.clock),
+                &mut case.state,
+                case.holdback.as_mut_ptr(),
+                case.holdback.len(),
+                case.batch.as_ptr(),
+                case.batch.len(),
+                case.send,
+                case.payload.as_ptr(),
+                case.payload.len(),
+                case.outgoing.as_mut_ptr(),
+                case.outgoing.len(),
+                case.verdicts.as_mut_ptr(),
+                case.verdicts.len(),
+                case.delivery.as_mut_ptr(),
+                case.delivery.len(),
+            )
+        }
+    }
+
+    /// The reader.
+    pub fn read(case: &mut ReadCase) -> u64 {
+        let [n, epsilon, delta, modulus, own] = numbers(&case.setup);
+        let (frame, length) = (case.frame.as_ptr(), case.frame.len());
+        // SAFETY: as in `tick`.
+        unsafe { yarngravel_read(n, epsilon, delta, modulus, own, frame, length, &mut case.state) }
+    }
+
+    /// The writer.
+    pub fn write(case: &mut WriteCase) -> u64 {
+        let [n, epsilon, delta, modulus, own] = numbers(&case.setup);
+        // SAFETY: as in `tick`.
+        unsafe {
+            yarngravel_write(
+                n,
+                epsilon,
+                delta,
+                modulus,
+                own,
+                narrow(case.node),
+                &case.state,
+                case.payload.as_ptr(),
+                case.payload.len(),
+                case.out.as_mut_ptr(),
+                case.out.len(),
+            )
+        }
+    }
+}

@@ -1,0 +1,151 @@
+//! Compares the oracle with the proved library and its `replay`, call by call.
+//!
+//! ```text
+//! compare --replay PATH [--seed S] [--calls N] [--traces N] [--plant K]
+//! compare selfcheck [--seed S] [--calls N] [--traces N]
+//! ```
+//!
+//! The first form needs the feature `abi`; `--plant K` (feature `plant`) puts fault K into the
+//! oracle, and the comparison should then fail. The second form (feature `plant`) needs no
+//! library: it compares the oracle with itself, and then with itself and each fault in turn.
+
+mod abi;
+mod coverage;
+mod run;
+mod subject;
+
+use oracle::fault;
+use oracle::generate::Prng;
+use run::Comparison;
+use std::process::ExitCode;
+use std::time::Instant;
+use subject::{Oracle, Subject};
+
+/// The command line.
+struct Options {
+    selfcheck: bool,
+    seed: u64,
+    calls: u64,
+    traces: u64,
+    fault: u8,
+    replay: Option<String>,
+}
+
+impl Options {
+    fn parse(mut words: impl Iterator<Item = String>) -> Result<Self, String> {
+        let mut options = Options {
+            selfcheck: false,
+            seed: 1,
+            calls: 200_000,
+            traces: 2_000,
+            fault: 0,
+            replay: None,
+        };
+        while let Some(word) = words.next() {
+            if word == "selfcheck" {
+                options.selfcheck = true;
+                continue;
+            }
+            let value = words.next().ok_or_else(|| format!("{word}: a value is missing"))?;
+            let number = || value.parse::<u64>().map_err(|_| format!("{word}: not a number"));
+            match word.as_str() {
+                "--seed" => options.seed = number()?,
+                "--calls" => options.calls = number()?,
+                "--traces" => options.traces = number()?,
+                "--plant" => options.fault = number()?.min(255) as u8,
+                "--replay" => options.replay = Some(value),
+                _ => return Err(format!("{word}: not known")),
+            }
+        }
+        options.check()
+    }
+
+    fn check(self) -> Result<Self, String> {
+        if self.fault > fault::COUNT {
+            return Err(format!("--plant: faults are 1 to {}", fault::COUNT));
+        }
+        if (self.selfcheck || self.fault > 0) && !cfg!(feature = "plant") {
+            return Err("planting faults needs the feature plant".into());
+        }
+        Ok(self)
+    }
+}
+
+fn main() -> ExitCode {
+    let result =
+        Options::parse(std::env::args().skip(1)).and_then(|options| match options.selfcheck {
+            true => selfcheck(&options),
+            false => compare_with_library(&options),
+        });
+    match result {
+        Ok(()) => ExitCode::SUCCESS,
+        Err(error) => {
+            eprintln!("compare: {error}");
+            ExitCode::FAILURE
+        }
+    }
+}
+
+/// Compares two subjects by calls and traces: what was met, and any difference.
+fn compare<'s>(
+    options: &Options,
+    left: &'s mut dyn Subject,
+    right: &'s mut dyn Subject,
+) -> (Comparison<'s>, Result<(), String>) {
+    let mut rng = Prng::new(options.seed);
+    let mut comparison = Comparison::new(left, right);
+    let result = comparison
+        .run_calls(&mut rng, options.calls)
+        .and_then(|()| comparison.run_traces(&mut rng, options.traces));
+    (comparison, result.map_err(|difference| format!("seed {}, {difference}", options.seed)))
+}
+
+/// A comparison that should find nothing and meet every number.
+fn compare_alike(
+    options: &Options,
+    left: &mut dyn Subject,
+    right: &mut dyn Subject,
+) -> Result<(), String> {
+    let start = Instant::now();
+    let (done, result) = compare(options, left, right);
+    result?;
+    println!("{}", done.coverage);
+    let (seconds, seed) = (start.elapsed().as_secs_f64(), options.seed);
+    println!("{} calls and {} traces alike, seed {seed}, {seconds:.1} s", done.calls, done.traces);
+    match done.coverage.gaps() {
+        gaps if gaps.is_empty() => Ok(()),
+        gaps => Err(format!("met too rarely: {}", gaps.join(", "))),
+    }
+}
+
+#[cfg(feature = "abi")]
+fn compare_with_library(options: &Options) -> Result<(), String> {
+    let replay = match &options.replay {
+        Some(path) => path.clone(),
+        None if options.traces == 0 => String::new(),
+        None => return Err("--replay is missing".into()),
+    };
+    let mut oracle = Oracle { fault: options.fault };
+    compare_alike(options, &mut oracle, &mut subject::Proved { replay })
+}
+
+#[cfg(not(feature = "abi"))]
+fn compare_with_library(options: &Options) -> Result<(), String> {
+    let replay = options.replay.as_deref().unwrap_or("the library");
+    Err(format!("{replay}: comparing with it needs the feature abi"))
+}
+
+/// The oracle against itself, then against itself with each fault.
+fn selfcheck(options: &Options) -> Result<(), String> {
+    compare_alike(options, &mut Oracle { fault: 0 }, &mut Oracle { fault: 0 })?;
+    for fault in 1..=fault::COUNT {
+        let (mut sound, mut faulty) = (Oracle { fault: 0 }, Oracle { fault });
+        let (done, result) = compare(options, &mut sound, &mut faulty);
+        match result {
+            Ok(()) => return Err(format!("fault {fault} was not found")),
+            Err(_) if done.traces > 0 => println!("fault {fault} found by trace {}", done.traces),
+            Err(_) => println!("fault {fault} found by call {}", done.calls),
+        }
+    }
+    Ok(())
+}

@@ -1,0 +1,187 @@
+//! Makes the same random calls to two programs and compares all they leave.
+
+use crate::abi;
+use crate::coverage::Coverage;
+use crate::subject::Subject;
+use oracle::generate::{self, spoil, Group, Habits, Prng, ReadCase, TickCase, WriteCase};
+use oracle::replay::hex;
+use oracle::Answer;
+
+/// How many bytes of a buffer a report shows; zeros at its end are never shown.
+const SHOWN: usize = 1_000;
+
+/// A call that any subject can make.
+trait Case: Clone {
+    fn call(&mut self, subject: &mut dyn Subject) -> u64;
+    /// The arguments that are not buffers.
+    fn numbers(&self) -> String;
+    /// Every buffer, also those that are only read.
+    fn buffers(&self) -> Vec<(&'static str, &[u8])>;
+}
+
+impl Case for TickCase {
+    fn call(&mut self, subject: &mut dyn Subject) -> u64 {
+        subject.tick(self)
+    }
+
+    fn numbers(&self) -> String {
+        format!("tick: {:?} clock {} send {}", self.setup, self.clock, self.send)
+    }
+
+    fn buffers(&self) -> Vec<(&'static str, &[u8])> {
+        vec![
+            ("tables", &self.state),
+            ("shelf", &self.holdback),
+            ("bundle", &self.batch),
+            ("ticket", &self.payload),
+            ("outgoing", &self.outgoing),
+            ("verdicts", &self.verdicts),
+            ("hand-out", &self.delivery),
+        ]
+    }
+}
+
+impl Case for ReadCase {
+    fn call(&mut self, subject: &mut dyn Subject) -> u64 {
+        subject.read(self)
+    }
+
+    fn numbers(&self) -> String {
+        format!("reader: {:?}", self.setup)
+    }
+
+    fn buffers(&self) -> Vec<(&'static str, &[u8])> {
+        vec![("frame", &self.frame), ("tables", &self.state)]
+    }
+}
+
+impl Case for WriteCase {
+    fn call(&mut self, subject: &mut dyn Subject) -> u64 {
+        subject.write(self)
+    }
+
+    fn numbers(&self) -> String {
+        format!("writer: {:?} station {}", self.setup, self.node)
+    }
+
+    fn buffers(&self) -> Vec<(&'static str, &[u8])> {
+        vec![("tables", &self.state), ("ticket", &self.payload), ("out", &self.out)]
+    }
+}
+
+/// Two programs, and what was met so far. An error describes a difference.
+pub struct Comparison<'s> {
+    pub left: &'s mut dyn Subject,
+    pub right: &'s mut dyn Subject,
+    pub coverage: Coverage,
+    pub calls: u64,
+    pub traces: u64,
+}
+
+impl<'s> Comparison<'s> {
+    pub fn new(left: &'s mut dyn Subject, right: &'s mut dyn Subject) -> Self {
+        Comparison { left, right, coverage: Coverage::default(), calls: 0, traces: 0 }
+    }
+
+    /// Plays groups until at least this many calls are made.
+    pub fn run_calls(&mut self, rng: &mut Prng, count: u64) -> Result<(), String> {
+        while self.calls < count {
+            let setup = generate::setup(rng);
+            let habits =
+                Habits { noise: !rng.one_in(4), dips: rng.one_in(2), deafness: rng.range(1, 4) };
+            let mut group = Group::fresh(rng, setup, habits);
+            let rounds = setup.delta + 4 * setup.epsilon;
+            for _ in 0..rng.range(1, (setup.n * rounds).min(300)) {
+                self.step(rng, &mut group)?;
+            }
+        }
+        Ok(())
+    }
+
+    /// One call of a group, with other calls before it that leave the group as it is.
+    fn step(&mut self, rng: &mut Prng, group: &mut Group) -> Result<(), String> {
+        let (node, case) = group.next_case(rng);
+        if rng.one_in(4) {
+            let mut wrong = case.clone();
+            spoil::spoil(rng, &mut wrong);
+            self.tick(wrong)?;
+        }
+        if rng.one_in(16) {
+            let clock = rng.below(case.setup.modulus);
+            self.tick(TickCase { clock, ..case.clone() })?;
+        }
+        if rng.one_in(4) {
+            let (_, word) = self.case(ReadCase::random(rng, case.setup, case.clock))?;
+            self.coverage.meet("reader", abi::number(word));
+            let (_, word) = self.case(WriteCase::random(rng, case.setup, case.clock))?;
+            self.coverage.meet("writer", abi::number(word));
+        }
+        let (case, answer) = self.tick(case)?;
+        group.settle(node, case, &answer);
+        Ok(())
+    }
+
+    fn tick(&mut self, case: TickCase) -> Result<(TickCase, Answer), String> {
+        let (case, word) = self.case(case)?;
+        let answer = abi::unpack_tick(word);
+        self.coverage.meet("call", answer.number);
+        if answer.number == 0 {
+            self.coverage.meet("mend", answer.repair);
+            for &number in &case.verdicts[..case.batch[0].into()] {
+                self.coverage.meet("frame", number);
+            }
+        }
+        Ok((case, answer))
+    }
+
+    /// Makes one call to both; what it left, and the answer.
+    fn case<C: Case>(&mut self, case: C) -> Result<(C, u64), String> {
+        let (mut left, mut right) = (case.clone(), case.clone());
+        let answers = [left.call(self.left), right.call(self.right)];
+        self.calls += 1;
+        if answers[0] == answers[1] && left.buffers() == right.buffers() {
+            return Ok((left, answers[0]));
+        }
+        let mut text = format!("call {}: {}\n{}", self.calls, case.numbers(), given(&case));
+        text += &format!("  answers {:#x} and {:#x}\n", answers[0], answers[1]);
+        for ((name, ours), (_, theirs)) in left.buffers().into_iter().zip(right.buffers()) {
+            if let Some(difference) = first_difference(ours, theirs) {
+                text += &format!("  {name} {difference}\n");
+            }
+        }
+        Err(text)
+    }
+
+    /// Replays this many traces.
+    pub fn run_traces(&mut self, rng: &mut Prng, count: u64) -> Result<(), String> {
+        for _ in 0..count {
+            let trace = generate::traces::random(rng);
+            let (left, right) = (self.left.replay(&trace)?, self.right.replay(&trace)?);
+            self.traces += 1;
+            if left != right {
+                let given = format!("trace {}: {}\n", self.traces, hex(&trace));
+                return Err(format!("{given}  one writes\n{left}  the other\n{right}"));
+            }
+            let last = left.lines().last().unwrap_or_default();
+            let number = last.strip_prefix("refused ").map_or(Ok(0), str::parse);
+            self.coverage.meet("trace", number.expect("a number after refused"));
+        }
+        Ok(())
+    }
+}
+
+/// The buffers as they were given, long ones cut.
+fn given(case: &impl Case) -> String {
+    let line = |(name, bytes): (&str, &[u8])| {
+        let used = bytes.iter().rposition(|&byte| byte != 0).map_or(0, |last| last + 1);
+        let shown = hex(&bytes[..used.min(SHOWN)]);
+        let more = if used > SHOWN { " and more" } else { "" };
+        format!("  given {name}, {} bytes: {shown}{more}\n", bytes.len())
+    };
+    case.buffers().into_iter().map(line).collect()
+}
+
+fn first_difference(ours: &[u8], theirs: &[u8]) -> Option<String> {
+    let at = ours.iter().zip(theirs).position(|(a, b)| a != b)?;
+    Some(format!("differ first at byte {at}: {} and {}", ours[at], theirs[at]))
+}

@@ -1,0 +1,104 @@
+//! The programs that are compared.
+
+use crate::abi;
+use oracle::generate::{ReadCase, TickCase, WriteCase};
+use oracle::{fault, replay};
+
+/// Something that makes the calls and replays traces. Answers are packed as the library's.
+pub trait Subject {
+    fn tick(&mut self, case: &mut TickCase) -> u64;
+    fn read(&mut self, case: &mut ReadCase) -> u64;
+    fn write(&mut self, case: &mut WriteCase) -> u64;
+    fn replay(&mut self, trace: &[u8]) -> Result<String, String>;
+}
+
+/// The oracle, with a planted fault if the number is not 0.
+pub struct Oracle {
+    pub fault: u8,
+}
+
+impl Oracle {
+    /// Runs something with the fault planted, which is taken out again afterwards.
+    fn faulty<T>(&self, run: impl FnOnce() -> T) -> T {
+        fault::plant(self.fault);
+        let result = run();
+        fault::plant(0);
+        result
+    }
+}
+
+impl Subject for Oracle {
+    fn tick(&mut self, case: &mut TickCase) -> u64 {
+        abi::pack_tick(&self.faulty(|| case.run()))
+    }
+
+    fn read(&mut self, case: &mut ReadCase) -> u64 {
+        let frame = match self.faulty(|| oracle::read(&case.setup, &case.frame)) {
+            Ok(frame) => frame,
+            Err(number) => return abi::pack_refusal(number),
+        };
+        case.state = frame.timestamp.to_state();
+        let payload_at = frame.bytes.len() - frame.payload.len();
+        abi::pack_read(frame.node as u64, payload_at as u64, frame.payload.len() as u64)
+    }
+
+    fn write(&mut self, case: &mut WriteCase) -> u64 {
+        let WriteCase { setup, node, state, payload, out } = case;
+        match self.faulty(|| oracle::write(setup, *node, state, payload, out)) {
+            Ok(length) => abi::pack_write(length as u64),
+            Err(number) => abi::pack_refusal(number),
+        }
+    }
+
+    fn replay(&mut self, trace: &[u8]) -> Result<String, String> {
+        Ok(self.faulty(|| replay::replay_text(trace)))
+    }
+}
+
+/// The proved library and the proved `replay` program.
+#[cfg(feature = "abi")]
+pub struct Proved {
+    pub replay: String,
+}
+
+#[cfg(feature = "abi")]
+impl Subject for Proved {
+    fn tick(&mut self, case: &mut TickCase) -> u64 {
+        abi::library::tick(case)
+    }
+
+    fn read(&mut self, case: &mut ReadCase) -> u64 {
+        abi::library::read(case)
+    }
+
+    fn write(&mut self, case: &mut WriteCase) -> u64 {
+        abi::library::write(case)
+    }
+
+    fn replay(&mut self, trace: &[u8]) -> Result<String, String> {
+        run_program(&self.replay, trace).map_err(|error| format!("{}: {error}", self.replay))
+    }
+}
+
+/// What a program writes when it is given these bytes.
+#[cfg(feature = "abi")]
+fn run_program(path: &str, input: &[u8]) -> std::io::Result<String> {
+    use std::io::{ErrorKind, Write};
+    use std::process::{Command, Stdio};
+    let mut child = Command::new(path).stdin(Stdio::piped()).stdout(Stdio::piped()).spawn()?;
+    let mut stdin = child.stdin.take().expect("a piped standard input");
+    let output = std::thread::scope(|scope| {
+        let writer = scope.spawn(move || stdin.write_all(input));
+        let output = child.wait_with_output()?;
+        match writer.join().expect("the writing thread") {
+            // A program that refuses may stop before it has read all.
+            Err(error) if error.kind() != ErrorKind::BrokenPipe => Err(error),
+            _ => Ok(output),
+        }
+    })?;
+    // 01 leaves the exit status open; a program that crashed has none.
+    if output.status.code().is_none() {
+        return Err(std::io::Error::other(output.status.to_string()));
+    }
+    String::from_utf8(output.stdout).map_err(std::io::Error::other)
+}

@@ -1,0 +1,53 @@
+//! Ten small faults that can be planted in the oracle, to show that a comparison finds them.
+//! Without the feature `plant` nothing of this is left in the code.
+//!
+//!  1. the writer alone refuses a buffer of exactly the frame's length
+//!  2. a clock ε − 1 ahead is read as behind
+//!  3. check 13 lets a frame be one tick older
+//!  4. check 15 lets counts be n
+//!  5. the order leaves out its last count
+//!  6. tables with n counted ahead of their clock pass as sound
+//!  7. the step leaves c as it is
+//!  8. a frame's counts are taken in one clock too late
+//!  9. the byte after the last shelved frame is not cleared
+//! 10. replay lets an overlong trace pass
+
+/// How many faults there are.
+pub const COUNT: u8 = 10;
+
+#[cfg(feature = "plant")]
+mod switch {
+    use std::cell::Cell;
+
+    thread_local!(static PLANTED: Cell<u8> = const { Cell::new(0) });
+
+    /// Plants the fault with this number in this thread; 0 for none.
+    pub fn plant(fault: u8) {
+        PLANTED.set(fault);
+    }
+
+    /// Is this fault planted?
+    pub fn planted(fault: u8) -> bool {
+        PLANTED.get() == fault
+    }
+}
+
+#[cfg(not(feature = "plant"))]
+mod switch {
+    /// Without the feature there is none to plant.
+    pub fn plant(fault: u8) {
+        assert!(fault == 0, "built without the feature plant");
+    }
+
+    /// Always no without the feature.
+    pub const fn planted(_fault: u8) -> bool {
+        false
+    }
+}
+
+pub use switch::{plant, planted};
+
+/// 1 where the fault is planted, otherwise 0: the wrong part of a limit.
+pub(crate) fn skew(fault: u8) -> i64 {
+    planted(fault).into()
+}

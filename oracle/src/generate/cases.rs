@@ -1,0 +1,116 @@
+//! One call with all its arguments and buffers.
+
+use super::Prng;
+use crate::{Answer, Buffers, Call, ClockState, Setup};
+
+/// A call of the tick.
+#[derive(Clone, Debug, PartialEq, Eq)]
+pub struct TickCase {
+    pub setup: Setup,
+    pub clock: i64,
+    pub state: ClockState,
+    pub holdback: Vec<u8>,
+    pub batch: Vec<u8>,
+    pub send: bool,
+    pub payload: Vec<u8>,
+    pub outgoing: Vec<u8>,
+    pub verdicts: Vec<u8>,
+    pub delivery: Vec<u8>,
+}
+
+impl TickCase {
+    /// A call that hears and sends nothing, with random bytes in its buffers, which are long
+    /// enough and often not longer.
+    pub fn idle(
+        rng: &mut Prng,
+        setup: Setup,
+        clock: i64,
+        state: ClockState,
+        holdback: Vec<u8>,
+    ) -> Self {
+        let mut buffer = |least: usize| {
+            let more = rng.range(-2, 2).max(0) as usize;
+            rng.bytes(least + more)
+        };
+        TickCase {
+            setup,
+            clock,
+            state,
+            holdback,
+            batch: vec![0],
+            send: false,
+            payload: Vec::new(),
+            outgoing: buffer(setup.longest_frame()),
+            verdicts: buffer(crate::setup::VERDICTS),
+            delivery: buffer(setup.holdback_len()),
+        }
+    }
+
+    /// Calls the oracle.
+    pub fn run(&mut self) -> Answer {
+        let call = Call {
+            setup: self.setup,
+            clock: self.clock,
+            batch: &self.batch,
+            send: self.send,
+            payload: &self.payload,
+        };
+        let mut buffers = Buffers {
+            holdback: &mut self.holdback,
+            outgoing: &mut self.outgoing,
+            verdicts: &mut self.verdicts,
+            delivery: &mut self.delivery,
+        };
+        crate::tick(&call, &mut self.state, &mut buffers)
+    }
+}
+
+/// A call of the reader alone.
+#[derive(Clone, Debug, PartialEq, Eq)]
+pub struct ReadCase {
+    pub setup: Setup,
+    pub frame: Vec<u8>,
+    pub state: ClockState,
+}
+
+impl ReadCase {
+    /// A call for some frame near v, the setup rarely wrong.
+    pub fn random(rng: &mut Prng, mut setup: Setup, v: i64) -> Self {
+        let frame = super::frames::any(rng, &setup, v);
+        if rng.one_in(16) {
+            super::spoil::spoil_setup(rng, &mut setup);
+        }
+        ReadCase { setup, frame, state: random_state(rng) }
+    }
+}
+
+/// A call of the writer alone.
+#[derive(Clone, Debug, PartialEq, Eq)]
+pub struct WriteCase {
+    pub setup: Setup,
+    pub node: i64,
+    pub state: ClockState,
+    pub payload: Vec<u8>,
+    pub out: Vec<u8>,
+}
+
+impl WriteCase {
+    /// A call for some clock state, each argument sometimes wrong.
+    pub fn random(rng: &mut Prng, mut setup: Setup, v: i64) -> Self {
+        let state = super::memory::state(rng, &setup, v);
+        let node = if rng.one_in(8) { setup.n } else { rng.below(setup.n) };
+        let payload = if rng.one_in(8) { rng.bytes(33) } else { rng.payload() };
+        let exact = 7 + setup.width() as i64 + payload.len() as i64;
+        let length = rng.pick(&[exact, exact + 1, exact - 1, 71]);
+        if rng.one_in(16) {
+            super::spoil::spoil_setup(rng, &mut setup);
+        }
+        WriteCase { setup, node, state, payload, out: rng.bytes(length as usize) }
+    }
+}
+
+/// A clock state of random bytes.
+pub fn random_state(rng: &mut Prng) -> ClockState {
+    let bytes = rng.bytes(size_of::<ClockState>());
+    bytes.try_into().expect("as many bytes as asked for")
+}

@@ -1,0 +1,103 @@
+//! Random frames, sound and damaged.
+
+use super::Prng;
+use crate::{frame, Setup, Timestamp};
+
+/// How the counts of a frame are chosen.
+#[derive(Clone, Copy)]
+struct Style {
+    /// All counts alike where they can be, so that the order has ties.
+    flat: bool,
+    /// Counts for v or later at most n − 1 where they can be, so that 15 is passed.
+    tame: bool,
+}
+
+/// A frame of a node that passes 10 to 12, its r `ahead` of v.
+pub fn sound(rng: &mut Prng, setup: &Setup, v: i64, node: i64, ahead: i64, c: i64) -> Vec<u8> {
+    let style = Style { flat: rng.one_in(2), tame: !rng.one_in(4) };
+    let r = (v + ahead).rem_euclid(setup.modulus);
+    let kn = counts(rng, setup, ahead, c, style);
+    let payload = rng.payload();
+    encode(node, &Timestamp { r, c, kn: &kn }, &payload)
+}
+
+/// Counts that are sound with c.
+fn counts(rng: &mut Prng, setup: &Setup, ahead: i64, c: i64, style: Style) -> Vec<u8> {
+    let top = rng.range(1, setup.n);
+    let odd_one = rng.range(-setup.epsilon, setup.epsilon - 1);
+    let count = |offset: i64| {
+        let least = i64::from(offset == c);
+        let tamed = style.tame && offset + ahead >= 0;
+        let most = (setup.n - i64::from(tamed)).max(least);
+        let any = rng.range(least, most);
+        let flat = style.flat && offset != odd_one;
+        match offset > c {
+            true => 0,
+            false if flat => top.clamp(least, most) as u8,
+            false => any as u8,
+        }
+    };
+    (-setup.epsilon..setup.epsilon).map(count).collect()
+}
+
+/// The bytes of a frame.
+pub fn encode(node: i64, timestamp: &Timestamp, payload: &[u8]) -> Vec<u8> {
+    let mut bytes = vec![0; 7 + timestamp.kn.len() + payload.len()];
+    frame::put(node, timestamp, payload, &mut bytes);
+    bytes
+}
+
+/// A frame that passes 10 to 12 and may fail each later check, mostly by little.
+pub fn near(rng: &mut Prng, setup: &Setup, v: i64) -> Vec<u8> {
+    let oldest = -(setup.delta + setup.epsilon);
+    let any = rng.range(oldest - 1, setup.epsilon);
+    let ahead = rng.pick(&[any, any, any, 0, oldest, oldest - 1, setup.epsilon - 1]);
+    let any = rng.below(setup.epsilon);
+    let highest = (setup.epsilon - 1 - ahead).clamp(0, setup.epsilon - 1);
+    let c = rng.pick(&[0, any, highest]);
+    let node = rng.below(setup.n);
+    sound(rng, setup, v, node, ahead, c)
+}
+
+/// Changes a frame so that it mostly fails one of 10 to 12.
+pub fn damage(rng: &mut Prng, setup: &Setup, frame: &mut Vec<u8>) {
+    let [low, high] = (setup.modulus as u16).wrapping_add(rng.range(-1, 1) as u16).to_le_bytes();
+    let width = setup.width();
+    let c_at = 5;
+    let length_at = 6 + width;
+    match rng.below(10) {
+        0 => frame.truncate(rng.place(frame.len())),
+        1 => frame.push(rng.bits() as u8),
+        2 => frame[1] = rng.pick(&[setup.n, setup.n + 1, 255]) as u8,
+        3 => frame[2..4].copy_from_slice(&[low, high]),
+        4 => frame[c_at] = rng.pick(&[0, setup.epsilon - 1, setup.epsilon, 255]) as u8,
+        5 => frame[6 + rng.place(width)] = rng.pick(&[0, setup.n, setup.n + 1, 255]) as u8,
+        6 => frame[length_at] = frame[length_at].wrapping_add(rng.pick(&[1, 255])),
+        7 => {
+            frame.truncate(length_at);
+            frame.push(33);
+            frame.extend(rng.bytes(33));
+        }
+        8 => {
+            let at = rng.pick(&[0, 4]);
+            frame[at] = frame[at].wrapping_add(rng.pick(&[1, 255]));
+        }
+        _ => {
+            let at = rng.place(frame.len());
+            frame[at] ^= 1 << rng.below(8);
+        }
+    }
+}
+
+/// Any bytes for a batch's entry: mostly a frame near v, damaged now and then.
+pub fn any(rng: &mut Prng, setup: &Setup, v: i64) -> Vec<u8> {
+    if rng.one_in(12) {
+        let length = rng.pick(&[0, 1, 7, setup.longest_frame(), 71, 255]);
+        return rng.bytes(length);
+    }
+    let mut frame = near(rng, setup, v);
+    if rng.one_in(3) {
+        damage(rng, setup, &mut frame);
+    }
+    frame
+}

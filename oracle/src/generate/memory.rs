@@ -1,0 +1,141 @@
+//! What a node's memory may hold: sound, nearly sound, and plain junk.
+
+use super::cases::random_state;
+use super::{frames, Prng};
+use crate::holdback::Entry;
+use crate::{ClockState, Frame, Setup};
+
+/// Any clock state for a tick at v.
+pub fn state(rng: &mut Prng, setup: &Setup, v: i64) -> ClockState {
+    if rng.one_in(8) {
+        return random_state(rng);
+    }
+    let mut state = sound_state(rng, setup, v);
+    if rng.one_in(2) {
+        damage_state(rng, setup, &mut state);
+    }
+    state
+}
+
+/// A clock state that is sound for v, with junk past its counts.
+pub fn sound_state(rng: &mut Prng, setup: &Setup, v: i64) -> ClockState {
+    let any = rng.below(setup.epsilon);
+    // With one node no clock ahead can have been counted.
+    let c = if setup.n == 1 { 0 } else { rng.pick(&[0, any, any]) };
+    let frame = frames::sound(rng, setup, v, 0, -1, c);
+    let frame = Frame::parse(setup, &frame).expect("a sound frame");
+    let mut state = random_state(rng);
+    let sound = frame.timestamp.to_state();
+    let used = 3 + setup.width();
+    state[..used].copy_from_slice(&sound[..used]);
+    for count in &mut state[3 + setup.epsilon as usize + 1..used] {
+        *count = (*count).min(setup.n as u8 - 1);
+    }
+    state
+}
+
+/// Changes a sound clock state by little, at a limit if there is one.
+fn damage_state(rng: &mut Prng, setup: &Setup, state: &mut ClockState) {
+    let r = i64::from(u16::from_le_bytes([state[0], state[1]]));
+    let width = setup.width();
+    match rng.below(5) {
+        0 => {
+            let r = r + rng.pick(&[-1, 1, setup.modulus]);
+            state[..2].copy_from_slice(&(r as u16).to_le_bytes());
+        }
+        1 => state[2] = rng.pick(&[0, setup.epsilon - 1, setup.epsilon]) as u8,
+        2 => state[3 + rng.place(width)] = rng.pick(&[0, setup.n, setup.n + 1]) as u8,
+        3 => {
+            // n events at the largest known clock: sound as a stamp, not for tables.
+            let c = usize::from(state[2]);
+            state[3 + setup.epsilon as usize + c] = setup.n as u8;
+        }
+        _ => state[rng.place(3 + width)] ^= 1 << rng.below(8),
+    }
+}
+
+/// Any hold-back queue for a tick at v.
+pub fn holdback(rng: &mut Prng, setup: &Setup, v: i64) -> Vec<u8> {
+    if rng.one_in(12) {
+        return rng.bytes(setup.holdback_len());
+    }
+    let away = if rng.one_in(8) { rng.pick(&[-1, 1]) } else { 0 };
+    let mut frames = sound_frames(rng, setup, v + away);
+    if rng.one_in(3) {
+        damage_frames(rng, setup, v, &mut frames);
+    }
+    let mut bytes = assemble(rng, setup, &frames);
+    if rng.one_in(6) {
+        let used = 2 + frames.iter().map(Vec::len).sum::<usize>();
+        bytes[rng.place(used.min(setup.holdback_len()))] ^= 1 << rng.below(8);
+    }
+    if rng.one_in(8) {
+        bytes[0] = bytes[0].wrapping_add(rng.pick(&[1, 255]));
+    }
+    bytes
+}
+
+/// Frames that make a sound queue for v: few, or as many as there can be.
+pub fn sound_frames(rng: &mut Prng, setup: &Setup, v: i64) -> Vec<Vec<u8>> {
+    let scarcity = rng.pick(&[1, 3, 1 + setup.capacity() as i64 / 4, setup.capacity() as i64]);
+    let mut frames = Vec::new();
+    for node in 0..setup.n {
+        for ahead in 1 - setup.delta - 2 * setup.epsilon..setup.epsilon {
+            if rng.one_in(scarcity) {
+                frames.push(held_frame(rng, setup, v, node, ahead));
+            }
+        }
+    }
+    sort(setup, v, &mut frames);
+    frames
+}
+
+/// A sound frame that may be held at v: its sum not too far ahead, its due clock not past.
+fn held_frame(rng: &mut Prng, setup: &Setup, v: i64, node: i64, ahead: i64) -> Vec<u8> {
+    let least = (-setup.delta - setup.epsilon - ahead).max(0);
+    let most = (setup.epsilon - 1 - ahead).min(setup.epsilon - 1);
+    let any = rng.range(least, most);
+    let c = rng.pick(&[least, most, any]);
+    frames::sound(rng, setup, v, node, ahead, c)
+}
+
+/// Sorts sound frames into delivery order.
+fn sort(setup: &Setup, v: i64, frames: &mut [Vec<u8>]) {
+    fn entry<'a>(setup: &Setup, v: i64, bytes: &'a [u8]) -> Entry<'a> {
+        Entry::near(setup, v, Frame::parse(setup, bytes).expect("a sound frame"))
+    }
+    frames.sort_by(|a, b| entry(setup, v, a).order(&entry(setup, v, b)));
+}
+
+/// Breaks the order, or gives a node and r twice.
+fn damage_frames(rng: &mut Prng, setup: &Setup, v: i64, frames: &mut Vec<Vec<u8>>) {
+    if frames.is_empty() {
+        return;
+    }
+    let (at, other) = (rng.place(frames.len()), rng.place(frames.len()));
+    let next = (at + 1).min(frames.len() - 1);
+    match rng.below(4) {
+        0 => frames.swap(at, other),
+        1 => frames.insert(other, frames[at].clone()),
+        2 => frames.swap(at, next),
+        _ => {
+            // The same node and r with another c, in order.
+            let frame = Frame::parse(setup, &frames[at]).expect("a sound frame");
+            let ahead = setup.near(frame.timestamp.r, v);
+            if (1 - setup.delta - 2 * setup.epsilon..setup.epsilon).contains(&ahead) {
+                frames.push(held_frame(rng, setup, v, frame.node, ahead));
+                sort(setup, v, frames);
+            }
+        }
+    }
+}
+
+/// The queue's bytes, with zeros or junk after the frames.
+pub fn assemble(rng: &mut Prng, setup: &Setup, frames: &[Vec<u8>]) -> Vec<u8> {
+    let mut bytes = (frames.len() as u16).to_le_bytes().to_vec();
+    bytes.extend(frames.iter().flatten());
+    bytes.truncate(setup.holdback_len());
+    let left = setup.holdback_len() - bytes.len();
+    bytes.extend(if rng.one_in(2) { vec![0; left] } else { rng.bytes(left) });
+    bytes
+}

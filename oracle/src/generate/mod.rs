@@ -1,0 +1,35 @@
+//! Random calls and traces, good and bad, for comparing programs and for tests.
+
+pub mod cases;
+pub mod frames;
+pub mod group;
+pub mod memory;
+pub mod prng;
+pub mod spoil;
+pub mod traces;
+
+pub use cases::{ReadCase, TickCase, WriteCase};
+pub use group::{Group, Habits};
+pub use prng::Prng;
+
+use crate::Setup;
+
+/// A valid setup: often small, sometimes the smallest or the largest, B often at its least.
+pub fn setup(rng: &mut Prng) -> Setup {
+    let (n, epsilon, delta) = match rng.below(40) {
+        0 => (16, 16, 64),
+        1 => (rng.range(1, 16), rng.range(1, 16), rng.range(0, 64)),
+        2..=5 => (1, 1, 0),
+        6..=10 => (rng.range(1, 16), rng.range(1, 3), rng.range(0, 4)),
+        _ => (rng.range(1, 4), rng.range(1, 4), rng.range(0, 6)),
+    };
+    let mut setup = Setup { n, epsilon, delta, modulus: 0, own: rng.below(n) };
+    let least = setup.least_modulus();
+    setup.modulus = match rng.below(8) {
+        0..=3 => least,
+        4..=5 => least + rng.range(1, 8),
+        6 => rng.range(least, 65_535),
+        _ => 65_535,
+    };
+    setup
+}

@@ -1,0 +1,36 @@
+//! A second program for the group's nodes, written from the paper "Word between the stations"
+//! (01) and the decided readings of it. It shares no code with the proved crates, so that the
+//! two can be compared. Numbers are signed here, and every reading of a clock is relative to
+//! the tick's clock v: 0 is v, 1 is one ahead, −1 one behind.
+
+pub mod batch;
+pub mod fault;
+pub mod frame;
+pub mod generate;
+pub mod holdback;
+pub mod node;
+pub mod replay;
+pub mod setup;
+pub mod timestamp;
+pub mod trace;
+
+pub use frame::{read, write, Frame};
+pub use node::{tick, Answer, Buffers, Call};
+pub use replay::replay;
+pub use setup::Setup;
+pub use timestamp::{ClockState, Timestamp};
+
+/// One of 01's questions: a no gives its number.
+pub(crate) fn ask(yes: bool, number: u8) -> Result<(), u8> {
+    if yes {
+        Ok(())
+    } else {
+        Err(number)
+    }
+}
+
+/// A section of bytes after its one-byte count, and what follows it.
+pub(crate) fn section(bytes: &[u8]) -> Option<(&[u8], &[u8])> {
+    let (&count, rest) = bytes.split_first()?;
+    rest.split_at_checked(count.into())
+}

@@ -1,0 +1,67 @@
+//! The setup, its limits and the sizes that follow from it.
+
+/// The longest payload (01's ticket).
+pub const MAX_PAYLOAD: usize = 32;
+/// The verdict buffer's least length: one byte for each frame a batch can have.
+pub const VERDICTS: usize = 255;
+
+/// The setup of a call, as given. Only a valid one is used beyond `is_valid`.
+#[derive(Clone, Copy, Debug, PartialEq, Eq)]
+pub struct Setup {
+    /// Number of nodes (01's stations).
+    pub n: i64,
+    /// ε, the drift limit.
+    pub epsilon: i64,
+    /// δ, the delay limit.
+    pub delta: i64,
+    /// B; clocks are given modulo this.
+    pub modulus: i64,
+    /// The node's own number.
+    pub own: i64,
+}
+
+impl Setup {
+    /// The least B for these limits.
+    pub fn least_modulus(&self) -> i64 {
+        6 * self.epsilon + self.delta + 1
+    }
+
+    /// Check 1: is the setup in its limits?
+    pub fn is_valid(&self) -> bool {
+        (1..=16).contains(&self.n)
+            && (1..=16).contains(&self.epsilon)
+            && (0..=64).contains(&self.delta)
+            && (self.least_modulus()..=65_535).contains(&self.modulus)
+            && (0..self.n).contains(&self.own)
+    }
+
+    /// How many counts a timestamp has.
+    pub fn width(&self) -> usize {
+        2 * self.epsilon as usize
+    }
+
+    /// The length of the longest frame.
+    pub fn longest_frame(&self) -> usize {
+        39 + self.width()
+    }
+
+    /// How many frames the hold-back queue may have.
+    pub fn capacity(&self) -> usize {
+        (self.n * (self.delta + 3 * self.epsilon)) as usize
+    }
+
+    /// The exact length of the hold-back queue's buffer.
+    pub fn holdback_len(&self) -> usize {
+        2 + self.longest_frame() * self.capacity()
+    }
+
+    /// A modular clock r read near v: how far it is ahead of v, negative if behind.
+    pub fn near(&self, r: i64, v: i64) -> i64 {
+        let u = (r - v).rem_euclid(self.modulus);
+        if u <= self.epsilon - 1 - crate::fault::skew(2) {
+            u
+        } else {
+            u - self.modulus
+        }
+    }
+}

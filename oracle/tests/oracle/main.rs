@@ -1,0 +1,11 @@
+//! Tests of the oracle against the words of 01.
+
+mod checks;
+mod common;
+mod group;
+mod memory;
+mod order;
+mod programs;
+mod replaying;
+mod round_trips;
+mod samples;

@@ -1,0 +1,68 @@
+//! The programs themselves.
+
+use crate::replaying::sample;
+use std::io::{BufRead, BufReader, Read, Write};
+use std::process::{Child, Command, Stdio};
+
+fn start(program: &str) -> Child {
+    let mut command = Command::new(program);
+    command.stdin(Stdio::piped()).stdout(Stdio::piped()).stderr(Stdio::piped());
+    command.spawn().expect("a program that starts")
+}
+
+#[test]
+fn replay_prints_a_tick_before_it_reads_the_next() {
+    let mut child = start(env!("CARGO_BIN_EXE_replay"));
+    let mut stdin = child.stdin.take().unwrap();
+    let mut stdout = BufReader::new(child.stdout.take().unwrap());
+    let trace = sample();
+    let (first, rest) = trace.split_at(27);
+    stdin.write_all(first).unwrap();
+    let mut line = String::new();
+    stdout.read_line(&mut line).unwrap();
+    assert_eq!(line, "tick 1 mend 0 c 1 took 1 sent 1 gave 0\n");
+    stdin.write_all(rest).unwrap();
+    drop(stdin);
+    let mut text = String::new();
+    stdout.read_to_string(&mut text).unwrap();
+    assert!(text.ends_with("gave 2\ngive 1 2 41\ngive 0 1 42\n"));
+    assert!(child.wait().unwrap().success());
+}
+
+#[test]
+fn replay_judges_the_setup_before_it_reads_on() {
+    let mut child = start(env!("CARGO_BIN_EXE_replay"));
+    let mut stdin = child.stdin.take().unwrap();
+    stdin.write_all(&[2, 2, 1, 13, 0, 0]).unwrap();
+    let mut text = String::new();
+    child.stdout.take().unwrap().read_to_string(&mut text).unwrap();
+    assert_eq!(text, "refused 1\n");
+    drop(stdin);
+    assert!(child.wait().unwrap().success());
+}
+
+#[test]
+fn trace_writes_the_sample_and_reports_a_bad_line() {
+    let run = |text: &str| {
+        let mut child = start(env!("CARGO_BIN_EXE_trace"));
+        child.stdin.take().unwrap().write_all(text.as_bytes()).unwrap();
+        child.wait_with_output().unwrap()
+    };
+    let good = run(include_str!("../../samples/sample.txt"));
+    assert!(good.status.success());
+    assert_eq!(good.stdout, sample());
+    let bad = run("setup 2 2 1 14 0\nsing");
+    assert!(!bad.status.success());
+    assert_eq!(bad.stderr, b"trace: line 2: a tick comes first\n");
+}
+
+#[cfg(feature = "plant")]
+#[test]
+fn compare_meets_every_number_and_finds_every_fault() {
+    let mut command = Command::new(env!("CARGO_BIN_EXE_compare"));
+    let output = command.args(["selfcheck", "--calls", "30000", "--traces", "500"]).output();
+    let output = output.unwrap();
+    let text = String::from_utf8(output.stdout).unwrap();
+    assert!(output.status.success(), "{text}");
+    assert_eq!(text.lines().filter(|line| line.starts_with("fault ")).count(), 10);
+}
