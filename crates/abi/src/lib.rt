@@ -45,7 +45,18 @@ pub extern "C" fn yarngravel_tick(
         own,
     };
     let given = tables_of(tables);
-    let answer = tick(setup, clock as usize, given, holdback, batch, send, payload, outgoing, verdicts, delivery);
+    let answer = tick(
+        setup,
+        clock as usize,
+        given,
+        holdback,
+        batch,
+        send,
+        payload,
+        outgoing,
+        verdicts,
+        delivery,
+    );
     if answer.number != 0 {
         return answer.number as u64;
     }

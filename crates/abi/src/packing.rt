@@ -37,7 +37,10 @@ pub fn pack_answer(a: Answer) -> u64
     requires { ⌜ (a .taken < 256) × ((a .sent < 256) × (a .delivered < 65536)) ⌝ }
     ensures { λ r. ⌜ r ≡ answerWord (answerOf a) ⌝ }
 {
-    a.number as u64 + 256 * (a.repair as u64 + 256 * (a.taken as u64 + 256 * (a.sent as u64 + 256 * (a.delivered as u64))))
+    a.number as u64
+        + 256
+            * (a.repair as u64
+                + 256 * (a.taken as u64 + 256 * (a.sent as u64 + 256 * (a.delivered as u64))))
 }
 
 // What the reader found as one number.

@@ -18,7 +18,7 @@ use Rattle.model.specs.Setup.{Setup, width}
 use Rattle.model.specs.Frame.{twoAt, twoBytes, encode, wellFormed, payloadCountAt, frameEnd, decode}
 use Rattle.model.specs.Holdback.{cutFrames, heldBytes, held}
 use Rattle.holdback.specs.Queue.{frameStart, bytesAt, frameAt}
-use Rattle.frame.proofs.Shape.{formed}
+use Rattle.holdback.proofs.Shapes.{formed}
 use Rattle.holdback.proofs.RoundTrip.{Bytes, encode-decode, front-two}
 
 pub start-zero : (epsilon : ℕ) (s : List ℕ) → frameStart epsilon s 0 ≡ 2

@@ -23,7 +23,7 @@ use Rattle.model.specs.Order.{key, keyNear, compareFrames, before, countsDown}
 use Rattle.model.specs.Judge.{readingOf, placeFor}
 use Rattle.model.specs.Holdback.{heldBytes, held, passes, notEarly, notOverdue, sameOrigin, soundHoldback, encodeFrames, encodeHoldback}
 use Rattle.timestamp.proofs.InLimits.{Limits}
-use Rattle.frame.proofs.Shape.{formed}
+use Rattle.holdback.proofs.Shapes.{formed}
 use Rattle.holdback.specs.Queue.{frameStart, bytesAt, frameAt}
 use Rattle.holdback.specs.Seen.{InWindow, isMarked, slotOf, seenTable}
 use Rattle.holdback.proofs.Reading.{near-injective}

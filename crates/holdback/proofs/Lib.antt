@@ -1,3 +1,5 @@
+-- The form of a frame.
+pub mod Shapes
 -- What is written reads back the same.
 pub mod RoundTrip
 -- The frames of a queue by their index, and soundness frame by frame.

@@ -18,7 +18,7 @@ use Rattle.model.specs.Timestamp.{soundTimestamp}
 use Rattle.model.specs.Frame.{Frame, section, twoBytes, twoAt, encode, decode, payloadCountAt, wellFormed, frameEnd}
 use Rattle.model.specs.Question.{Question, ask, firstNo, askForm, askRange, askStamp, frameQuestions}
 use Rattle.model.specs.Holdback.{cutFrames, heldBytes, held, passes, encodeFrames}
-use Rattle.frame.proofs.Shape.{Formed, formed}
+use Rattle.holdback.proofs.Shapes.{Formed, formed}
 
 -- a list of bytes
 abbrev pub Bytes : List ℕ → Type 0

@@ -24,7 +24,7 @@ use Rattle.timestamp.specs.declared.ordering.Rank.{Rank}
 use Rattle.timestamp.specs.Ranks.{orderOf, rankedFrame, Ranked}
 use Rattle.timestamp.proofs.InLimits.{Limits}
 use Rattle.timestamp.proofs.Ordered.{Tags}
-use Rattle.frame.proofs.Shape.{Formed, formed}
+use Rattle.holdback.proofs.Shapes.{Formed, formed}
 use Rattle.holdback.specs.Queue.{rankOf}
 use Rattle.holdback.specs.Sound.{fits, Summed}
 use Rattle.holdback.proofs.Reading.{near-high}

@@ -66,7 +66,7 @@ module _ (s : Setup) (v : ℕ) (t : Timestamp) where
       → ListenedAll s v t batch buffer verdicts t₂ (repair + emptied) count buffer₂ verdicts₂
   listened batch buffer verdicts t₁ repair emptied buffer₁ table₁ t₂ count buffer₂ table₂ verdicts₂ lim o q h =
       let from : heardFrom (s .epsilon) t₁ buffer₁ ≡ openedHeard s v t buffer =
-          rw (o .stamp, opened-kept lim, q .queue) in
+      rw (o .stamp, opened-kept lim, q .queue) in
       let all : heardAll s v t₁ batch buffer₁ ≡ listenedAll s v t batch buffer = ap (λ (x : Heard). hear s v x (batchEntries batch)) from in
       record {
         stamp = h .stamp ∙ ap (λ (x : Heard). widened (x .stamp)) all;
@@ -134,7 +134,7 @@ unfolding widened
 own-room i t repair count buffer verdicts c h =
     let e : t ≡ widened (heardOf i .stamp) = h .stamp ∙ ap (λ (x : Heard). widened (x .stamp)) (heard-same i) in
     let same : getD (t .kn) (i .setup .epsilon) 0 ≡ getD (heardOf i .stamp .kn) (i .setup .epsilon) 0 =
-        ap (λ (x : Timestamp). getD (x .kn) (i .setup .epsilon) 0) e ∙ getD-padded 32 (heardOf i .stamp .kn) (i .setup .epsilon) in
+    ap (λ (x : Timestamp). getD (x .kn) (i .setup .epsilon) 0) e ∙ getD-padded 32 (heardOf i .stamp .kn) (i .setup .epsilon) in
     omega (arith, hearing-end i (c .accepted) .opened .most (i .setup .epsilon), c .accepted .limits .n-most)
 
 -- the new stamp
@@ -144,7 +144,7 @@ unfolding newStamp
 own-counted i t t′ repair count buffer verdicts c h e =
     let e₁ : t ≡ widened (heardOf i .stamp) = h .stamp ∙ ap (λ (x : Heard). widened (x .stamp)) (heard-same i) in
     let kept : trimmed (i .setup .epsilon) t ≡ heardOf i .stamp =
-        ap (trimmed (i .setup .epsilon)) e₁ ∙ trimmed-widened (i .setup .epsilon) (heardOf i .stamp) (c .accepted .limits .epsilon-most) (hearing-end i (c .accepted) .opened .wide) in
+    ap (trimmed (i .setup .epsilon)) e₁ ∙ trimmed-widened (i .setup .epsilon) (heardOf i .stamp) (c .accepted .limits .epsilon-most) (hearing-end i (c .accepted) .opened .wide) in
     e ∙ ap (λ (x : Timestamp). widened (countOwn (i .setup .epsilon) (i .clock) x)) kept
 
 -- it can be sent
@@ -172,7 +172,7 @@ unfolding sentBy sentBytes frameOf
 sent-same i t c e =
     let wide = new-sound i (c .accepted) .wide in
     let kept : trimmed (i .setup .epsilon) t ≡ newStamp i =
-        ap (trimmed (i .setup .epsilon)) e ∙ trimmed-widened (i .setup .epsilon) (newStamp i) (c .accepted .limits .epsilon-most) wide in
+    ap (trimmed (i .setup .epsilon)) e ∙ trimmed-widened (i .setup .epsilon) (newStamp i) (c .accepted .limits .epsilon-most) wide in
     let same : trimmed (i .setup .epsilon) t ≡ trimmed (i .setup .epsilon) (newStamp i) = kept ∙ sym (trimmed-same (i .setup .epsilon) (newStamp i) wide) in
     ap (λ (x : Timestamp). cond (i .send) (encode (record { station = i .setup .own; stamp = x; payload = i .payload })) []) same
 
@@ -182,18 +182,17 @@ call-closing i t repair count buffer verdicts c h =
 
 -- all of it
 module _ (i : Input) (e : firstNo (callQuestions i) ≡ 0) (t t′ : Timestamp) (repair count : ℕ) (buffer verdicts : List ℕ) (h : Heeded i t repair count buffer verdicts)
-  (size : ℕ) (outgoing : List ℕ) (delivered : ℕ) (holdback delivery : List ℕ) where
-
+    (size : ℕ) (outgoing : List ℕ) (delivered : ℕ) (holdback delivery : List ℕ) where
   pub accepted-output : t′ ≡ widened (newStamp i)
       → Sent (i .setup .epsilon) (i .setup .own) t′ (i .send) (i .payload) (i .outgoing) size outgoing
       → Delivered (i .setup) (i .clock) buffer (i .delivery) delivered holdback delivery
       → record {
-            answer = record { number = 0; tables = t′; repair = repair; taken = count; delivered = delivered; sent = size };
-            holdback = holdback;
-            outgoing = outgoing;
-            verdicts = verdicts;
-            delivery = delivery;
-          } ≡ tick i
+        answer = record { number = 0; tables = t′; repair = repair; taken = count; delivered = delivered; sent = size };
+        holdback = holdback;
+        outgoing = outgoing;
+        verdicts = verdicts;
+        delivery = delivery;
+      } ≡ tick i
   unfolding acceptance repairOf deliveredOf keptOf tablesSound queueSound ownStamp stampSound
   accepted-output own sent given =
       let c : Call i = call-passed i e in

@@ -81,8 +81,7 @@ walk-more batch at i h =
     rw e
 
 module _ (s : Setup) (v : ℕ) (t₀ : Timestamp) (batch buffer₀ verdicts₀ : List ℕ) (t : Timestamp) (count at i : ℕ) (buffer table verdicts : List ℕ)
-  (u : Turning s v t₀ batch buffer₀ verdicts₀ t count at i buffer table verdicts) (more : i < countOf batch) (few : countOf batch ≤ length verdicts₀) where
-
+    (u : Turning s v t₀ batch buffer₀ verdicts₀ t count at i buffer table verdicts) (more : i < countOf batch) (few : countOf batch ≤ length verdicts₀) where
   abbrev now : Heard
   now = sofar (s .epsilon) t buffer (take i verdicts)
 
@@ -126,7 +125,7 @@ module _ (s : Setup) (v : ℕ) (t₀ : Timestamp) (batch buffer₀ verdicts₀ :
       let inside : i < length verdicts = omega (arith, u .long) in
       let next : take (i + 1) (set verdicts i 0) ≡ take i verdicts ++ (0 ∷ []) = done-more verdicts i 0 inside in
       let kept : trimmed (s .epsilon) t′ ≡ a =
-          ap (trimmed (s .epsilon)) (k .stamp) ∙ trimmed-widened (s .epsilon) a small (absorb-wide (s .epsilon) (s .modulus) (readingOf s v f) (trimmed (s .epsilon) t) (f .stamp)) in
+      ap (trimmed (s .epsilon)) (k .stamp) ∙ trimmed-widened (s .epsilon) a small (absorb-wide (s .epsilon) (s .modulus) (readingOf s v f) (trimmed (s .epsilon) t) (f .stamp)) in
       let same : hearBy s v (taken place) f now ≡ sofar (s .epsilon) t′ buffer′ (take (i + 1) (set verdicts i 0)) = rw (kept, k .queue, next) in
       record {
         within = omega arith;

@@ -58,7 +58,13 @@ pub fn judge(setup: Setup, clock: usize, holdback: &[u8], seen: &[u8], s: &[u8])
         return Verdict::Refused(16);
     }
     let count = two_at(holdback, 0);
-    if depth(setup.n as usize, setup.epsilon as usize, setup.delta as usize) <= count {
+    if depth(
+        setup.n as usize,
+        setup.epsilon as usize,
+        setup.delta as usize,
+    )
+        <= count
+    {
         return Verdict::Refused(17);
     }
     let place = place_for(setup, clock, holdback, count, s);

@@ -49,10 +49,8 @@ pub fn open_queue(setup: Setup, clock: usize, holdback: &mut [u8], seen: &mut [u
 // 01, tick 3: "A taken frame goes on the shelf", at its place.
 pub fn place_frame(setup: Setup, clock: usize, place: usize, s: &[u8], holdback: &mut [u8])
     requires { ⌜ Taking (setupOf setup) clock (now holdback) place (now s) ⌝ }
-    ensures {
-        λ _. ⌜ now (holdback .exit)
-        ≡ overlay (encodeFrames (insertAt place (decode (setup .epsilon) (now (s .entry))) (held (setup .epsilon) (now (holdback .entry))))) (now (holdback .entry)) ⌝
-    }
+    ensures { λ _. ⌜ now (holdback .exit)
+        ≡ overlay (encodeFrames (insertAt place (decode (setup .epsilon) (now (s .entry))) (held (setup .epsilon) (now (holdback .entry))))) (now (holdback .entry)) ⌝ }
 {
     let epsilon = setup.epsilon as usize;
     let count = two_at(holdback, 0);

@@ -7,12 +7,24 @@ ghost use Rattle.frame.specs.Lay.{Room};
 ghost use Rattle.node.specs.States.{Sent};
 
 // Lays the frame down in the outgoing buffer, if one is to be sent. Answers its length, 0 if none.
-pub fn send_frame(setup: Setup, stamp: Timestamp, send: bool, payload: &[u8], outgoing: &mut [u8]) -> usize
+pub fn send_frame(
+    setup: Setup,
+    stamp: Timestamp,
+    send: bool,
+    payload: &[u8],
+    outgoing: &mut [u8],
+) -> usize
     requires { ⌜ Room (setup .epsilon) (setup .own) (stampOf stamp) (now payload) (now outgoing) ⌝ }
     ensures { λ r. ⌜ Sent (setup .epsilon) (setup .own) (stampOf stamp) send (now (payload .entry)) (now (outgoing .entry)) r (now (outgoing .exit)) ⌝ }
 {
     if !send {
         return 0;
     }
-    lay(setup.epsilon as usize, setup.own as usize, stamp, payload, outgoing)
+    lay(
+        setup.epsilon as usize,
+        setup.own as usize,
+        stamp,
+        payload,
+        outgoing,
+    )
 }

@@ -134,7 +134,16 @@ pub fn tick(
         ≡ model.tick (inputOf setup clock tables (now (holdback .entry)) (now (batch .entry)) send (now (payload .entry))
         (now (outgoing .entry)) (now (verdicts .entry)) (now (delivery .entry))) ⌝ }
 {
-    let number = check_call(setup, clock, holdback, batch, payload, outgoing, verdicts, delivery);
+    let number = check_call(
+        setup,
+        clock,
+        holdback,
+        batch,
+        payload,
+        outgoing,
+        verdicts,
+        delivery,
+    );
     if number != 0 {
         return Answer {
             number,
@@ -145,5 +154,16 @@ pub fn tick(
             sent: 0,
         };
     }
-    accept(setup, clock, tables, holdback, batch, send, payload, outgoing, verdicts, delivery)
+    accept(
+        setup,
+        clock,
+        tables,
+        holdback,
+        batch,
+        send,
+        payload,
+        outgoing,
+        verdicts,
+        delivery,
+    )
 }

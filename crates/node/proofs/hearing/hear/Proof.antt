@@ -78,14 +78,15 @@ loop-again c =
     (turn-refused (setupOf (c .before .before .before .before .before .before .before .before .before .before .before .before .before .before .before .args .setup)) (c .before .before .before .before .before .before .before .before .before .before .before .before .before .before .before .args .clock) (stampOf (c .before .before .before .before .before .before .before .before .before .before .before .before .before .before .before .args .stamp)) (c .before .before .before .before .before .before .before .before .before .before .before .before .before .before .before .args .batch .now) (c .before .before .before .before .before .before .before .before .before .before .before .before .before .before .before .args .holdback .now) (c .before .before .before .before .before .before .before .before .before .before .before .before .before .before .before .args .verdicts .now) (stampOf (c .before .before .before .before .before .before .before .before .before .loop .own)) (c .before .before .before .before .before .before .before .before .before .loop .taken) (c .before .before .before .before .before .before .before .before .before .loop .at) (c .before .before .before .before .before .before .before .before .before .loop .i) (c .before .before .before .before .before .before .before .before .before .loop .holdback) (c .before .before .before .before .before .before .before .before .before .loop .seen) (c .before .before .before .before .before .before .before .before .before .loop .verdicts) (c .before .before .before .before .before .before .before .before .before .loop .inv) (more (c .before .before .before .before .before .before .before .before)) (few (c .before .before .before .before .before .before .before .before .before .before) .1) (verdictNumber (verdictOf (c .before .before .before .judge .result))) (c .number-of .result) (judged (c .before .before .before) ∙ is-refused tags (c .before .before .before .judge .result) (c .before .before .match .keys2)) (c .number-of .ensures))
 
 take-requires : tie.Need-take-requires Inv-loop μ-loop
-take-requires c κs =
-    ( record {
-        timed = c .before .before .before .before .before .before .before .before .before .before .before .before .before .before .before .before .before .pre .0;
-        size = c .before .before .before .before .before .before .before .before .before .before .before .loop .inv .queued .size;
-        sound = c .before .before .before .before .before .before .before .before .before .before .before .loop .inv .queued .sound;
-        judged = sym (c .before .before .before .before .before .judge .ensures) ∙ ap verdictOf (c .before .before .before .verdict .given .1);
-      },
-      c .before .before .before .before .before .before .before .before .before .before .before .loop .inv .queued)
+take-requires c κs = (
+  record {
+    timed = c .before .before .before .before .before .before .before .before .before .before .before .before .before .before .before .before .before .pre .0;
+    size = c .before .before .before .before .before .before .before .before .before .before .before .loop .inv .queued .size;
+    sound = c .before .before .before .before .before .before .before .before .before .before .before .loop .inv .queued .sound;
+    judged = sym (c .before .before .before .before .before .judge .ensures) ∙ ap verdictOf (c .before .before .before .verdict .given .1);
+  },
+  c .before .before .before .before .before .before .before .before .before .before .before .loop .inv .queued,
+)
 
 slice-write-verdicts-2 : tie.Need-slice-write-verdicts-2 Inv-loop μ-loop
 slice-write-verdicts-2 c = omega (arith, few (c .before .before .before .before .before .before .before .before .before .before .before .before .before .before .before .before .before), more (c .before .before .before .before .before .before .before .before .before .before .before .before .before .before .before), c .before .before .before .before .before .before .before .before .before .before .before .before .before .before .before .before .loop .inv .long)

@@ -32,9 +32,10 @@ place-frame-requires : tie.Need-place-frame-requires
 place-frame-requires c κs = c .before .before .before .before .before .before .pre .0
 
 mark-requires : tie.Need-mark-requires
-mark-requires c κs =
-    ( (c .before .before .before .before .before .before .before .before .before .before .pre .0 .timed .limits, c .before .before .before .before .before .before .before .before .before .before .pre .0 .timed .below),
-      (here (c .before .before .before .before .before .before .before .before .before .before) .window, ap length (c .before .before .before .before .before .before .before .before .before .before .pre .1 .table-is) ∙ table-long (setupOf (c .before .before .before .before .before .before .before .before .before .before .args .setup)) (c .before .before .before .before .before .before .before .before .before .before .args .clock) (held (c .before .before .before .before .before .before .before .before .before .before .args .setup .epsilon) (c .before .before .before .before .before .before .before .before .before .before .args .holdback .now))))
+mark-requires c κs = (
+  (c .before .before .before .before .before .before .before .before .before .before .pre .0 .timed .limits, c .before .before .before .before .before .before .before .before .before .before .pre .0 .timed .below),
+  (here (c .before .before .before .before .before .before .before .before .before .before) .window, ap length (c .before .before .before .before .before .before .before .before .before .before .pre .1 .table-is) ∙ table-long (setupOf (c .before .before .before .before .before .before .before .before .before .before .args .setup)) (c .before .before .before .before .before .before .before .before .before .before .args .clock) (held (c .before .before .before .before .before .before .before .before .before .before .args .setup .epsilon) (c .before .before .before .before .before .before .before .before .before .before .args .holdback .now))),
+)
 
 r-of-requires : tie.Need-r-of-requires
 r-of-requires c κs = search needs

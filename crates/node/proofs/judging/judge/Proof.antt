@@ -63,9 +63,10 @@ window c =
     (time-late (setupOf (c .before .before .before .before .before .before .before .args .setup)) (c .before .before .before .before .before .before .before .args .clock) (frame (c .before .before .before .before .before .before .before)) (timely c))
 
 repeats-requires : tie.Need-repeats-requires
-repeats-requires c κs =
-    ( (c .before .before .before .before .before .before .before .pre .0 .limits, c .before .before .before .before .before .before .before .pre .0 .below),
-      (window c, ap length (c .before .before .before .before .before .before .before .pre .1 .table-is) ∙ table-long (setupOf (c .before .before .before .before .before .before .before .args .setup)) (c .before .before .before .before .before .before .before .args .clock) (queue (c .before .before .before .before .before .before .before))))
+repeats-requires c κs = (
+  (c .before .before .before .before .before .before .before .pre .0 .limits, c .before .before .before .before .before .before .before .pre .0 .below),
+  (window c, ap length (c .before .before .before .before .before .before .before .pre .1 .table-is) ∙ table-long (setupOf (c .before .before .before .before .before .before .before .args .setup)) (c .before .before .before .before .before .before .before .args .clock) (queue (c .before .before .before .before .before .before .before))),
+)
 
 repeated : (c : tie.After-repeats) → c .repeats .result ≡ any (sameOrigin (frame (c .before .before .before .before .before .before .before .before))) (queue (c .before .before .before .before .before .before .before .before))
 repeated c = c .repeats .ensures ∙ marked-is (setupOf (c .before .before .before .before .before .before .before .before .args .setup)) (c .before .before .before .before .before .before .before .before .args .clock) (c .before .before .before .before .before .before .before .before .args .holdback .now) (c .before .before .before .before .before .before .before .before .args .seen .now) (frame (c .before .before .before .before .before .before .before .before)) (c .before .before .before .before .before .before .before .before .pre .0) (c .before .before .before .before .before .before .before .before .pre .1) (window (c .before))
@@ -107,9 +108,10 @@ unfolding passes
 passes-all c = eq-eqb (firstNo (frameQuestions (setupOf (c .before .before .before .before .before .args .setup)) (c .before .before .before .before .before .args .s .now))) 0 (passed c)
 
 place-for-requires : tie.Need-place-for-requires
-place-for-requires c κs =
-    ( (c .before .before .before .before .before .before .before .before .before .before .before .before .before .before .before .pre .0 .limits, c .before .before .before .before .before .before .before .before .before .before .before .before .before .before .before .pre .0 .below),
-      ((c .before .before .before .before .before .before .before .before .before .before .before .before .before .before .before .pre .1 .sound, (size-two (setupOf (c .before .before .before .before .before .before .before .before .before .before .before .before .before .before .before .args .setup)) (length (c .before .before .before .before .before .before .before .before .before .before .before .before .before .before .before .args .holdback .now)) (c .before .before .before .before .before .before .before .before .before .before .before .before .before .before .before .pre .1 .size), c .before .before .before .before .before .two-at .ensures)), passes-all (c .before .before .before .before .before .before .before .before .before .before)))
+place-for-requires c κs = (
+  (c .before .before .before .before .before .before .before .before .before .before .before .before .before .before .before .pre .0 .limits, c .before .before .before .before .before .before .before .before .before .before .before .before .before .before .before .pre .0 .below),
+  ((c .before .before .before .before .before .before .before .before .before .before .before .before .before .before .before .pre .1 .sound, (size-two (setupOf (c .before .before .before .before .before .before .before .before .before .before .before .before .before .before .before .args .setup)) (length (c .before .before .before .before .before .before .before .before .before .before .before .before .before .before .before .args .holdback .now)) (c .before .before .before .before .before .before .before .before .before .before .before .before .before .before .before .pre .1 .size), c .before .before .before .before .before .two-at .ensures)), passes-all (c .before .before .before .before .before .before .before .before .before .before)),
+)
 
 returns-5 : tie.Need-returns-5
 returns-5 c =

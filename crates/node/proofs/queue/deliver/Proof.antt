@@ -42,9 +42,10 @@ room : (c : tie.Start) → length (c .args .holdback .now) ≤ length (c .args .
 room c = omega (arith, c .pre .size, c .pre .room)
 
 cut-due-requires : tie.Need-cut-due-requires
-cut-due-requires c κs =
-    ( (c .before .before .before .before .before .before .before .before .before .pre .timed .limits, c .before .before .before .before .before .before .before .before .before .pre .timed .below),
-      ((c .before .before .before .before .before .before .before .before .before .pre .sound, (two (c .before .before .before .before .before .before .before .before .before), c .before .before .before .before .two-at .ensures)), (c .before .before .start-of .ensures, room (c .before .before .before .before .before .before .before .before .before))))
+cut-due-requires c κs = (
+  (c .before .before .before .before .before .before .before .before .before .pre .timed .limits, c .before .before .before .before .before .before .before .before .before .pre .timed .below),
+  ((c .before .before .before .before .before .before .before .before .before .pre .sound, (two (c .before .before .before .before .before .before .before .before .before), c .before .before .before .before .two-at .ensures)), (c .before .before .start-of .ensures, room (c .before .before .before .before .before .before .before .before .before))),
+)
 
 same-length : tie.Need-same-length
 same-length c = search needs

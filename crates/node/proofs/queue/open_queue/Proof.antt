@@ -12,9 +12,10 @@ use Rattle.node.proofs.queue.open_queue.Statement.{statement}
 use Rattle.node.proofs.queue.open_queue.Tie as tie
 
 sound-requires : tie.Need-sound-requires
-sound-requires c κs =
-    ( (c .before .before .before .before .pre .0 .limits, c .before .before .before .before .pre .0 .below),
-      (size-two (setupOf (c .before .before .before .before .args .setup)) (length (c .before .before .before .before .args .holdback .now)) (c .before .before .before .before .pre .1 .0 .size), c .before .before .before .before .pre .1 .1))
+sound-requires c κs = (
+  (c .before .before .before .before .pre .0 .limits, c .before .before .before .before .pre .0 .below),
+  (size-two (setupOf (c .before .before .before .before .args .setup)) (length (c .before .before .before .before .args .holdback .now)) (c .before .before .before .before .pre .1 .0 .size), c .before .before .before .before .pre .1 .1),
+)
 
 same-length : tie.Need-same-length
 same-length c = search needs

@@ -46,16 +46,17 @@ inside : (c : tie.After-start-of2) → c .before .before .before .before .before
 inside c = omega (arith, c .before .before .before .before .two-at .ensures, here (c .before .before .before .before .before .before .before .before .before) .inside)
 
 put-requires : tie.Need-put-requires
-put-requires c κs =
-    ( record {
-        formed = here (c .before .before .before .before .before .before .before .before .before .before) .formed;
-        two = here (c .before .before .before .before .before .before .before .before .before .before) .two;
-        counted = c .before .before .before .before .before .two-at .ensures;
-        ends = c .before .start-of2 .ensures;
-        inside = inside (c .before);
-        starts = c .before .before .before .start-of .ensures;
-      },
-      (here (c .before .before .before .before .before .before .before .before .before .before) .form, (room (c .before), few (c .before))))
+put-requires c κs = (
+  record {
+    formed = here (c .before .before .before .before .before .before .before .before .before .before) .formed;
+    two = here (c .before .before .before .before .before .before .before .before .before .before) .two;
+    counted = c .before .before .before .before .before .two-at .ensures;
+    ends = c .before .start-of2 .ensures;
+    inside = inside (c .before);
+    starts = c .before .before .before .start-of .ensures;
+  },
+  (here (c .before .before .before .before .before .before .before .before .before .before) .form, (room (c .before), few (c .before))),
+)
 
 same-length : tie.Need-same-length
 same-length c = search needs

@@ -27,9 +27,10 @@ cast-count-own : tie.Need-cast-count-own
 cast-count-own c = search needs
 
 count-own-requires : tie.Need-count-own-requires
-count-own-requires c κs =
-    ( call (c .before .before .before .before .before .before .before .before .before .before .before .before .before .before .before) .accepted .limits .epsilon-pos,
-      (call (c .before .before .before .before .before .before .before .before .before .before .before .before .before .before .before) .accepted .limits .epsilon-most, own-room (input (c .before .before .before .before .before .before .before .before .before .before .before .before .before .before .before)) (stampOf (c .before .before .before .before .before .before .listen .result .stamp)) (c .before .before .before .before .before .before .listen .result .repair) (c .before .before .before .before .before .before .listen .result .taken) _ _ (call (c .before .before .before .before .before .before .before .before .before .before .before .before .before .before .before)) (c .before .before .before .before .before .before .listen .ensures)))
+count-own-requires c κs = (
+  call (c .before .before .before .before .before .before .before .before .before .before .before .before .before .before .before) .accepted .limits .epsilon-pos,
+  (call (c .before .before .before .before .before .before .before .before .before .before .before .before .before .before .before) .accepted .limits .epsilon-most, own-room (input (c .before .before .before .before .before .before .before .before .before .before .before .before .before .before .before)) (stampOf (c .before .before .before .before .before .before .listen .result .stamp)) (c .before .before .before .before .before .before .listen .result .repair) (c .before .before .before .before .before .before .listen .result .taken) _ _ (call (c .before .before .before .before .before .before .before .before .before .before .before .before .before .before .before)) (c .before .before .before .before .before .before .listen .ensures)),
+)
 
 stamped : (c : tie.After-count-own) → stampOf (c .count-own .result) ≡ widened (newStamp (input (c .before .before .before .before .before .before .before .before .before .before .before .before .before .before .before .before)))
 stamped c =

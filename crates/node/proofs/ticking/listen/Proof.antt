@@ -31,10 +31,13 @@ slice-aggregate-hear : tie.Need-slice-aggregate-hear
 slice-aggregate-hear c = sym (ap length (c .before .before .before .before .before .before .open-queue .ensures .queued .table-is) ∙ table-long (setupOf (c .before .before .before .before .before .before .before .before .before .before .before .before .before .args .setup)) (c .before .before .before .before .before .before .before .before .before .before .before .before .before .args .clock) _)
 
 hear-requires : tie.Need-hear-requires
-hear-requires c κs =
-    ( c .before .before .before .before .before .before .before .before .before .before .before .before .before .before .pre .0,
-      (c .before .before .before .before .before .before .before .open-queue .ensures .queued,
-      listening (setupOf (c .before .before .before .before .before .before .before .before .before .before .before .before .before .before .args .setup)) (c .before .before .before .before .before .before .before .before .before .before .before .before .before .before .args .clock) (stampOf (c .before .before .before .before .before .before .before .before .before .before .before .before .before .before .args .tables)) (stampOf (c .before .before .before .before .before .before .before .before .before .before .open-stamp .result .stamp)) (c .before .before .before .before .before .before .before .before .before .before .open-stamp .result .repair) (c .before .before .before .before .before .before .before .before .before .before .before .before .before .before .args .batch .now) (c .before .before .before .before .before .before .before .before .before .before .before .before .before .before .args .verdicts .now) (limits (c .before .before .before .before .before .before .before .before .before .before .before .before .before .before)) (c .before .before .before .before .before .before .before .before .before .before .open-stamp .ensures) (c .before .before .before .before .before .before .before .before .before .before .before .before .before .before .pre .1 .exact) (c .before .before .before .before .before .before .before .before .before .before .before .before .before .before .pre .1 .room)))
+hear-requires c κs = (
+  c .before .before .before .before .before .before .before .before .before .before .before .before .before .before .pre .0,
+  (
+    c .before .before .before .before .before .before .before .open-queue .ensures .queued,
+    listening (setupOf (c .before .before .before .before .before .before .before .before .before .before .before .before .before .before .args .setup)) (c .before .before .before .before .before .before .before .before .before .before .before .before .before .before .args .clock) (stampOf (c .before .before .before .before .before .before .before .before .before .before .before .before .before .before .args .tables)) (stampOf (c .before .before .before .before .before .before .before .before .before .before .open-stamp .result .stamp)) (c .before .before .before .before .before .before .before .before .before .before .open-stamp .result .repair) (c .before .before .before .before .before .before .before .before .before .before .before .before .before .before .args .batch .now) (c .before .before .before .before .before .before .before .before .before .before .before .before .before .before .args .verdicts .now) (limits (c .before .before .before .before .before .before .before .before .before .before .before .before .before .before)) (c .before .before .before .before .before .before .before .before .before .before .open-stamp .ensures) (c .before .before .before .before .before .before .before .before .before .before .before .before .before .before .pre .1 .exact) (c .before .before .before .before .before .before .before .before .before .before .before .before .before .before .pre .1 .room),
+  ),
+)
 
 add-t23 : tie.Need-add-t23
 add-t23 c = omega (arith, repair-small (c .before .before .before .before .before .before .before .before .before .before .before .before .before .before .before .before .before .before .open-stamp .result .repair) (c .before .before .before .before .before .before .before .before .before .before .before .before .before .before .before .open-queue .result) (stampSound (setupOf (c .before .before .before .before .before .before .before .before .before .before .before .before .before .before .before .before .before .before .before .before .before .before .args .setup)) (c .before .before .before .before .before .before .before .before .before .before .before .before .before .before .before .before .before .before .before .before .before .before .args .clock) (stampOf (c .before .before .before .before .before .before .before .before .before .before .before .before .before .before .before .before .before .before .before .before .before .before .args .tables))) (soundHoldback (setupOf (c .before .before .before .before .before .before .before .before .before .before .before .before .before .before .before .before .before .before .before .before .before .before .args .setup)) (c .before .before .before .before .before .before .before .before .before .before .before .before .before .before .before .before .before .before .before .before .before .before .args .clock) (c .before .before .before .before .before .before .before .before .before .before .before .before .before .before .before .before .before .before .before .before .before .before .args .holdback .now)) (c .before .before .before .before .before .before .before .before .before .before .before .before .before .before .before .before .before .before .open-stamp .ensures .repaired) (c .before .before .before .before .before .before .before .before .before .before .before .before .before .before .before .open-queue .ensures .repaired))
