@@ -21,7 +21,7 @@ use Rattle.model.specs.Judge.{placeFor, readingOf, judgeQuestions}
 use Rattle.model.specs.Tick.{holdbackSize}
 use Rattle.lemmas.proofs.Bounds.{Limits, FrameOk, QueueOk}
 use Rattle.lemmas.proofs.Questions.{limits-from}
-use Rattle.frame.proofs.Shape.{formed}
+use Rattle.holdback.proofs.Shapes.{formed}
 use Rattle.lemmas.proofs.RoundTrip.{form-passed, passes-formed, passes-encode, two-at-encode, held-encode, held-frames, held-holdback, frame-fits, length-holdback}
 use Rattle.lemmas.proofs.Queue.{Passed, judged-passed, sound-queue, queue-none, queue-take, queue-room, queue-few, queue-sound}
 use Rattle.holdback.specs.Queue.{frameStart, bytesAt, Figures}

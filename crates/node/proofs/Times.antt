@@ -18,7 +18,7 @@ use Rattle.model.specs.Judge.{readingOf, askLate, askEarly, askCounts}
 use Rattle.lemmas.proofs.Bounds.{Limits, FrameOk}
 use Rattle.lemmas.proofs.Questions.{first-yes, yes-cons, no-cons, limits-from}
 use Rattle.lemmas.proofs.RoundTrip.{passes-decode}
-use Rattle.frame.proofs.Shape.{formed}
+use Rattle.holdback.proofs.Shapes.{formed}
 use Rattle.lemmas.proofs.Reading.{near-high}
 use Rattle.node.specs.Views.{timeQuestions}
 use Rattle.node.specs.States.{Timed, Readable}
