@@ -26,7 +26,7 @@ use Rattle.timestamp.proofs.InLimits.{Limits}
 use Rattle.holdback.proofs.Shapes.{formed}
 use Rattle.holdback.specs.Queue.{frameStart, bytesAt, frameAt}
 use Rattle.holdback.specs.Seen.{InWindow, isMarked, slotOf, seenTable}
-use Rattle.holdback.proofs.Reading.{near-injective}
+use Rattle.lemmas.proofs.Reading.{near-injective}
 use Rattle.holdback.proofs.RoundTrip.{Bytes, Wide, Passing, passing, encode-decode, decode-wide, count-encode, heldBytes-encode, held-encode}
 use Rattle.holdback.proofs.Frames.{FormedUpTo, held-tab, encode-frame, start-zero, start-longest}
 use Rattle.holdback.proofs.Judging.{Fitting, fitting, frame-fits, same-origin-sym, sound-by, sound-few, sound-ordered, sound-single, sound-early, sound-overdue, sound-frames, sound-formed}
@@ -76,7 +76,7 @@ module _ (s : Setup) (v : ℕ) (b : List ℕ) (sound : soundHoldback s v b ≡ t
   unfolding frameAt
   held-wide g m =
       let r = member-at m in
-      rw (← r .2) (decode-wide (s .epsilon) (bytesAt (s .epsilon) b (r .0)) (formed (s .epsilon) (bytesAt (s .epsilon) b (r .0)) (well-at (r .0) (r .1))))
+      rw (← r .2) (decode-wide (s .epsilon) (bytesAt (s .epsilon) b (r .0)) (well-at (r .0) (r .1)))
 
   -- question 16 by the table
   pub repeat-found : (f : Frame) → Limits s → v < s .modulus → InWindow s v f
@@ -143,7 +143,7 @@ module _ (s : Setup) (v : ℕ) (b frame : List ℕ) (limits : Limits s) (below :
   more-wide g m = go (mem-of-insertAt place new old m)
     where
       go : (g ≡ new) ⊎ List·Memᴰ g old → length (g .stamp .kn) ≡ width (s .epsilon)
-      go (inl e) = rw e (decode-wide (s .epsilon) frame (formed (s .epsilon) frame (passing s frame ok .well)))
+      go (inl e) = rw e (decode-wide (s .epsilon) frame (passing s frame ok .well))
       go (inr n) = held-wide s v b sound g n
 
   pub placed-held : held (s .epsilon) (overlay (encodeFrames more) b) ≡ more

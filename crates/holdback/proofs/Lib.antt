@@ -5,8 +5,7 @@ pub mod RoundTrip
 -- The frames of a queue by their index, and soundness frame by frame.
 pub mod Frames
 pub mod Judging
--- Readings near v, the table of origins, the order of frames.
-pub mod Reading
+-- The table of origins, the order of frames.
 pub mod Seen
 pub mod Order
 -- Changes of the bytes; the tests and walks as the code makes them; what is due.

@@ -19,7 +19,7 @@ use Rattle.model.specs.Holdback.{sameOrigin}
 use Rattle.holdback.specs.Seen.{InWindow, isMarked, rowLength, tableLength, slotOf, seenTable, marked}
 use Rattle.timestamp.proofs.InLimits.{Limits}
 use Rattle.holdback.proofs.RoundTrip.{Passing, passing}
-use Rattle.holdback.proofs.Reading.{near-high, near-injective}
+use Rattle.lemmas.proofs.Reading.{near-high, near-injective}
 use Rattle.splice.specs.Bytes.{cleared, zeros}
 use Rattle.holdback.proofs.Changes.{all-cleared}
 use Rattle.holdback.proofs.Judging.{Fitting, not-overdue, same-origin-sym}

@@ -27,7 +27,7 @@ use Rattle.timestamp.proofs.Ordered.{Tags}
 use Rattle.holdback.proofs.Shapes.{Formed, formed}
 use Rattle.holdback.specs.Queue.{rankOf}
 use Rattle.holdback.specs.Sound.{fits, Summed}
-use Rattle.holdback.proofs.Reading.{near-high}
+use Rattle.lemmas.proofs.Reading.{near-high}
 use Rattle.holdback.proofs.RoundTrip.{Passing, passing}
 
 -- ---- 10 to 12 by their number

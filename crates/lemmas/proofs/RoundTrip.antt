@@ -204,7 +204,7 @@ unfolding passes frameQuestions
 passes-formed s bytes h = form-passed s bytes [] (eqb-true (firstNo (frameQuestions s bytes)) 0 h)
 
 -- the frames of a queue or a delivery, whatever stands behind them
-cut-joined :
+pub cut-joined :
     (epsilon : ℕ) (queue : List Frame) (rest : List ℕ)
     → ((f : Frame) → List·Memᴰ f queue → length (f .stamp .kn) ≡ width epsilon)
     → cutFrames epsilon (length queue) (joined encode queue ++ rest) ≡ map encode queue
