@@ -3,6 +3,7 @@ mod form;
 mod reader;
 mod writer;
 
+pub use form::byte_at;
 pub use form::c_of;
 pub use form::check;
 pub use form::frame_end;

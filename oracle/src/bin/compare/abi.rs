@@ -32,10 +32,10 @@ const TICK_OUTGOING: Field = Field::new(24, 8);
 const TICK_DELIVERED: Field = Field::new(32, 16);
 
 const READ_NODE: Field = Field::new(8, 8);
-const READ_PAYLOAD_AT: Field = Field::new(16, 8);
-const READ_PAYLOAD_LEN: Field = Field::new(24, 8);
+const READ_PAYLOAD_AT: Field = Field::new(16, 16);
+const READ_PAYLOAD_LEN: Field = Field::new(32, 16);
 
-const WRITE_LEN: Field = Field::new(8, 8);
+const WRITE_LEN: Field = Field::new(8, 16);
 
 /// The number in any answer.
 pub fn number(word: u64) -> u8 {

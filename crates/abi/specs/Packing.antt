@@ -1,0 +1,81 @@
+-- The boundary to C: the tables are 35 bytes (r low byte first, c, 32 counts), and an answer is one number of 64 bits.
+-- Assumes nothing.
+use Prim.Native.Nat.{ℕ, _+_, _*_}
+use mathlib.Core.Bool.{Bool, cond}
+use mathlib.Core.List.{List, _∷_, _++_}
+use lib.Dec.{eqb}
+use lib.ListN.{length, take, drop, getD}
+use Rattle.model.specs.Setup.{Setup, widest}
+use Rattle.model.specs.Timestamp.{Timestamp}
+use Rattle.model.specs.Frame.{twoBytes, twoAt, payloadCountAt}
+use Rattle.model.specs.Codec.{ReadAnswer, WriteAnswer, read, write, frameOf}
+use Rattle.model.specs.Tick.{Input, Answer, Output}
+
+-- how many bytes the tables have
+abbrev pub tablesLength : ℕ
+tablesLength = 35
+
+-- the tables that stand in those bytes
+unfoldable pub tablesAt : List ℕ → Timestamp
+tablesAt s = record { r = twoAt s 0; c = getD s 2 0; kn = take widest (drop 3 s) }
+
+-- the bytes of tables
+unfoldable pub tablesBytes : Timestamp → List ℕ
+tablesBytes t = twoBytes (t .r) ++ (t .c ∷ t .kn)
+
+-- a setup of the numbers of a call
+abbrev pub setupBy : ℕ → ℕ → ℕ → ℕ → ℕ → Setup
+setupBy n epsilon delta modulus own = record { n = n; epsilon = epsilon; delta = delta; modulus = modulus; own = own }
+
+-- the arguments of a tick
+abbrev pub inputBy : Setup → ℕ → List ℕ → List ℕ → List ℕ → Bool → List ℕ → List ℕ → List ℕ → List ℕ → Input
+inputBy setup clock tables holdback batch send payload outgoing verdicts delivery =
+    record {
+      setup = setup;
+      clock = clock;
+      tables = tablesAt tables;
+      holdback = holdback;
+      batch = batch;
+      send = send;
+      payload = payload;
+      outgoing = outgoing;
+      verdicts = verdicts;
+      delivery = delivery;
+    }
+
+-- the number in bits 0 to 7, 01's mend in 8 to 15, frames taken in 16 to 23, the outgoing length in 24 to 31, frames handed out from 32 on
+unfoldable pub answerWord : Answer → ℕ
+answerWord a = a .number + 256 * (a .repair + 256 * (a .taken + 256 * (a .sent + 256 * a .delivered)))
+
+-- what a tick gives back: one number, and the tables and buffers as it left them
+pub record Returned : Type 0 where
+  pub word : ℕ
+  pub tables : List ℕ
+  pub holdback : List ℕ
+  pub outgoing : List ℕ
+  pub verdicts : List ℕ
+  pub delivery : List ℕ
+
+abbrev pub returned : ℕ → List ℕ → List ℕ → List ℕ → List ℕ → List ℕ → Returned
+returned word tables holdback outgoing verdicts delivery =
+    record { word = word; tables = tables; holdback = holdback; outgoing = outgoing; verdicts = verdicts; delivery = delivery }
+
+-- the packing of a tick's output
+unfoldable pub packed : Output → Returned
+packed o = returned (answerWord (o .answer)) (tablesBytes (o .answer .tables)) (o .holdback) (o .outgoing) (o .verdicts) (o .delivery)
+
+-- where the payload of a frame that was read starts; 0 of a refused one
+unfoldable pub placeOf : ℕ → ReadAnswer → ℕ
+placeOf epsilon a = cond (eqb (a .number) 0) (payloadCountAt epsilon + 1) 0
+
+-- the number in bits 0 to 7, the station in 8 to 15, the place of the payload in 16 to 31, its length in 32 to 47
+unfoldable pub readWord : ℕ → ReadAnswer → ℕ
+readWord epsilon a = a .number + 256 * (a .station + 256 * (placeOf epsilon a + 65536 * length (a .payload)))
+
+-- what the reader leaves in the tables; a refused one "writes nothing"
+unfoldable pub readTables : ReadAnswer → List ℕ → List ℕ
+readTables a tables = cond (eqb (a .number) 0) (tablesBytes (a .stamp)) tables
+
+-- the number in bits 0 to 7, the frame's length in 8 to 23
+unfoldable pub writeWord : WriteAnswer → ℕ
+writeWord a = a .number + 256 * a .size

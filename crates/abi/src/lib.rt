@@ -1,0 +1,131 @@
+// The boundary to C: the tick, the reader and the writer over numbers and byte slices. A slice is a pointer and a length;
+// the tables are a pointer to 35 bytes (r low, r high, c, 32 counts); the answer is one number. Any arguments get an answer.
+mod packing;
+
+use node::tick;
+use packing::pack_answer;
+use packing::pack_reading;
+use packing::pack_written;
+use packing::put_tables;
+use packing::tables_of;
+use timestamp::Setup;
+ghost use mathlib.Core.Path.{_≡_};
+ghost use Rattle.model.specs.Codec as codec;
+ghost use Rattle.model.specs.Tick as model;
+ghost use Rattle.abi.specs.Packing.{setupBy, inputBy, tablesAt, returned, packed, readWord, readTables, writeWord};
+
+// One tick. The number in bits 0 to 7, 01's mend in 8 to 15, frames taken in 16 to 23, the outgoing length in 24 to 31,
+// frames handed out in 32 to 47. A refusal is the number alone, and changes nothing.
+#[no_mangle]
+pub extern "C" fn yarngravel_tick(
+    n: u32,
+    epsilon: u32,
+    delta: u32,
+    modulus: u32,
+    own: u32,
+    clock: u32,
+    tables: &mut [u8; 35],
+    holdback: &mut [u8],
+    batch: &[u8],
+    send: bool,
+    payload: &[u8],
+    outgoing: &mut [u8],
+    verdicts: &mut [u8],
+    delivery: &mut [u8],
+) -> u64
+    ensures { λ r. ⌜ returned r (now (tables .exit)) (now (holdback .exit)) (now (outgoing .exit)) (now (verdicts .exit)) (now (delivery .exit))
+        ≡ packed (model.tick (inputBy (setupBy n epsilon delta modulus own) clock (now (tables .entry)) (now (holdback .entry))
+        (now (batch .entry)) send (now (payload .entry)) (now (outgoing .entry)) (now (verdicts .entry)) (now (delivery .entry)))) ⌝ }
+{
+    let setup = Setup {
+        n,
+        epsilon,
+        delta,
+        modulus,
+        own,
+    };
+    let given = tables_of(tables);
+    let answer = tick(
+        setup,
+        clock as usize,
+        given,
+        holdback,
+        batch,
+        send,
+        payload,
+        outgoing,
+        verdicts,
+        delivery,
+    );
+    if answer.number != 0 {
+        return answer.number as u64;
+    }
+    let stamp = answer.tables;
+    put_tables(tables, stamp);
+    pack_answer(answer)
+}
+
+// The reader. The number in bits 0 to 7, the station in 8 to 15, the place of the payload in the frame in 16 to 31, its
+// length in 32 to 47; the tables get r, c and the counts. A refusal is the number alone, and writes nothing.
+#[no_mangle]
+pub extern "C" fn yarngravel_read(
+    n: u32,
+    epsilon: u32,
+    delta: u32,
+    modulus: u32,
+    own: u32,
+    frame: &[u8],
+    tables: &mut [u8; 35],
+) -> u64
+    ensures { λ r. ⌜ r ≡ readWord epsilon (codec.read (setupBy n epsilon delta modulus own) (now (frame .entry))) ⌝ }
+    ensures { λ _. ⌜ now (tables .exit)
+        ≡ readTables (codec.read (setupBy n epsilon delta modulus own) (now (frame .entry))) (now (tables .entry)) ⌝ }
+{
+    let setup = Setup {
+        n,
+        epsilon,
+        delta,
+        modulus,
+        own,
+    };
+    let reading = frame::read(setup, frame);
+    if reading.number != 0 {
+        return reading.number as u64;
+    }
+    let stamp = reading.stamp;
+    put_tables(tables, stamp);
+    let at = 7 + 2 * epsilon as usize;
+    pack_reading(reading.station, at, frame.len() - at)
+}
+
+// The writer. The number in bits 0 to 7, the frame's length in 8 to 23. A refusal is the number alone, and writes nothing.
+#[no_mangle]
+pub extern "C" fn yarngravel_write(
+    n: u32,
+    epsilon: u32,
+    delta: u32,
+    modulus: u32,
+    own: u32,
+    station: u32,
+    tables: &[u8; 35],
+    payload: &[u8],
+    out: &mut [u8],
+) -> u64
+    ensures { λ r. ⌜ r ≡ writeWord (codec.write (setupBy n epsilon delta modulus own)
+        (codec.frameOf epsilon station (tablesAt (now (tables .entry))) (now (payload .entry)))
+        (now (out .entry))) ⌝ }
+    ensures { λ _. ⌜ now (out .exit) ≡ codec.write (setupBy n epsilon delta modulus own)
+        (codec.frameOf epsilon station (tablesAt (now (tables .entry))) (now (payload .entry)))
+        (now (out .entry)) .buffer ⌝ }
+{
+    let setup = Setup {
+        n,
+        epsilon,
+        delta,
+        modulus,
+        own,
+    };
+    let stamp = tables_of(tables);
+    let written = frame::write(setup, station as usize, stamp, payload, out);
+    pack_written(written.number, written.size)
+}

@@ -1,0 +1,61 @@
+// Tables in 35 bytes, and answers in one number.
+use node::Answer;
+use timestamp::Timestamp;
+use timestamp::counts_of;
+ghost use mathlib.Core.Path.{_≡_};
+ghost use Prim.Native.Nat.{_+_, _*_, _<_};
+ghost use lib.ListN.{length};
+ghost use Rattle.timestamp.specs.Views.{stampOf};
+ghost use Rattle.node.specs.Answers.{answerOf};
+ghost use Rattle.abi.specs.Packing.{tablesLength, tablesAt, tablesBytes, answerWord};
+
+// The tables that stand in the bytes: r in two, the low one first, c, and 32 counts. Written back they are those bytes.
+pub fn tables_of(s: &[u8]) -> Timestamp
+    requires { ⌜ length (now s) ≡ tablesLength ⌝ }
+    ensures { λ r. ⌜ stampOf r ≡ tablesAt (now (s .entry)) ⌝ }
+    ensures { λ r. ⌜ tablesBytes (stampOf r) ≡ now (s .entry) ⌝ }
+{
+    let kn = counts_of(s, 3, 32);
+    let r = frame::two_at(s, 0);
+    let c = frame::byte_at(s, 2) as usize;
+    Timestamp { r, c, kn }
+}
+
+// Writes tables into their bytes.
+pub fn put_tables(s: &mut [u8], stamp: Timestamp)
+    requires { ⌜ length (now s) ≡ tablesLength ⌝ }
+    requires { ⌜ (stamp .r < 65536) × (stamp .c < 256) ⌝ }
+    ensures { λ _. ⌜ now (s .exit) ≡ tablesBytes (stampOf stamp) ⌝ }
+{
+    let kn = stamp.kn;
+    splice::put_u16(s, 0, stamp.r);
+    s[2] = stamp.c as u8;
+    splice::copy_into(s, 3, &kn);
+}
+
+// An answer as one number.
+pub fn pack_answer(a: Answer) -> u64
+    requires { ⌜ (a .taken < 256) × ((a .sent < 256) × (a .delivered < 65536)) ⌝ }
+    ensures { λ r. ⌜ r ≡ answerWord (answerOf a) ⌝ }
+{
+    a.number as u64
+        + 256
+            * (a.repair as u64
+                + 256 * (a.taken as u64 + 256 * (a.sent as u64 + 256 * (a.delivered as u64))))
+}
+
+// What the reader found as one number.
+pub fn pack_reading(station: usize, at: usize, size: usize) -> u64
+    requires { ⌜ (station < 256) × ((at < 65536) × (size < 65536)) ⌝ }
+    ensures { λ r. ⌜ r ≡ 256 * (station + 256 * (at + 65536 * size)) ⌝ }
+{
+    256 * (station as u64 + 256 * (at as u64 + 65536 * (size as u64)))
+}
+
+// What the writer answers as one number.
+pub fn pack_written(number: u8, size: usize) -> u64
+    requires { ⌜ size < 65536 ⌝ }
+    ensures { λ r. ⌜ r ≡ number + 256 * size ⌝ }
+{
+    number as u64 + 256 * (size as u64)
+}

@@ -1,0 +1,86 @@
+-- The frames of a delivery, by their positions, and their give lines. Assumes nothing.
+use Prim.Native.Nat.{ℕ, zero, suc, _+_, _-_, _*_, _≤_, _<_}
+use mathlib.Core.Path.{_≡_, refl, sym, ap, _∙_}
+use mathlib.Core.Bool.{Bool, true, false}
+use mathlib.Core.List.{List, [], _∷_, _++_, map}
+use native.Mathlib.Nat.{zero-add, suc-add}
+use native.Mathlib.Omega.{arith}
+use lib.Dec.{leb}
+use lib.ListN.{length, take, drop, getD, length-append}
+use lib.Seq.{take-nil, getD-take, getD-drop, drop-drop}
+use borrow.Author.Tests.{le-leb, lt-leb, leb-true}
+use Rattle.laws.specs.Lists.{joined}
+use Rattle.laws.proofs.Numbers.{same-test}
+use Rattle.model.specs.Setup.{width}
+use Rattle.model.specs.Frame.{Frame, twoAt, payloadCountAt, frameEnd, decode}
+use Rattle.model.specs.Holdback.{cutFrames, heldBytes, held}
+use Rattle.trace.specs.Text.{giveLine, giveText, giveLines, giveLinesFrom, frameAt}
+
+-- ---- the frame at a position
+
+pub drop-take : (k m : ℕ) (t : List ℕ) → drop k (take (k + m) t) ≡ take m (drop k t)
+drop-take zero m t = ap (λ (n : ℕ). take n t) (zero-add m)
+drop-take (suc k) m [] = ap (drop (suc k)) (take-nil (suc k + m)) ∙ sym (take-nil m)
+drop-take (suc k) m (x ∷ t) = ap (λ (n : ℕ). drop (suc k) (take n (x ∷ t))) (suc-add k m) ∙ drop-take k m t
+
+-- where its last section's count stands, and where it ends
+module _ (epsilon : ℕ) (s : List ℕ) (at count : ℕ) (e : count ≡ at + (6 + 2 * epsilon)) where
+  pub end-at : count + 1 + getD s count 0 ≡ at + frameEnd epsilon (drop at s)
+  unfolding frameEnd payloadCountAt width
+  end-at = rw (e, getD-drop at s (6 + 2 * epsilon) 0) (omega arith)
+
+  pub payload-at : take (getD s count 0) (drop (count + 1) s) ≡ frameAt epsilon s at .payload
+  unfolding frameAt decode frameEnd payloadCountAt width
+  payload-at =
+      let c : ℕ = 6 + 2 * epsilon in
+      let there : getD (drop at s) c 0 ≡ getD s count 0 = getD-drop at s c 0 ∙ ap (λ (i : ℕ). getD s i 0) (sym e) in
+      let past : at + (c + 1) ≡ count + 1 = omega arith in
+      sym
+      (drop-take (c + 1) (getD (drop at s) c 0) (drop at s)
+      ∙ rw (there, drop-drop (c + 1) at s, past))
+
+pub station-at : (epsilon : ℕ) (s : List ℕ) (at : ℕ) → getD s (at + 1) 0 ≡ frameAt epsilon s at .station
+unfolding frameAt decode frameEnd payloadCountAt
+station-at epsilon s at =
+    sym (getD-take (frameEnd epsilon (drop at s)) (drop at s) 1 0 (omega arith) ∙ getD-drop at s 1 0)
+
+pub r-at : (epsilon : ℕ) (s : List ℕ) (at : ℕ) → twoAt s (at + 2) ≡ frameAt epsilon s at .stamp .r
+unfolding frameAt decode frameEnd payloadCountAt twoAt
+r-at epsilon s at =
+    let low : getD (take (frameEnd epsilon (drop at s)) (drop at s)) 2 0 ≡ getD s (at + 2) 0
+    = getD-take (frameEnd epsilon (drop at s)) (drop at s) 2 0 (omega arith) ∙ getD-drop at s 2 0 in
+    let high : getD (take (frameEnd epsilon (drop at s)) (drop at s)) 3 0 ≡ getD s (at + 2 + 1) 0
+    = getD-take (frameEnd epsilon (drop at s)) (drop at s) 3 0 (omega arith) ∙ getD-drop at s 3 0 ∙ ap (λ (i : ℕ). getD s i 0) (omega arith) in
+    omega (arith, low, high)
+
+-- its give line, of the numbers and the bytes that stand there
+pub give-at : (epsilon : ℕ) (s : List ℕ) (at station r : ℕ) (payload : List ℕ) → station ≡ getD s (at + 1) 0 → r ≡ twoAt s (at + 2)
+    → payload ≡ frameAt epsilon s at .payload → giveText station r payload ≡ giveLine (frameAt epsilon s at)
+unfolding giveLine
+give-at epsilon s at station r payload e f g = rw (e, f, g, station-at epsilon s at, r-at epsilon s at)
+
+-- ---- the give lines of the frames from a position on
+
+pub give-all : (epsilon : ℕ) (s : List ℕ) → giveLines epsilon s ≡ giveLinesFrom epsilon s (twoAt s 0) 2
+unfolding giveLines giveLinesFrom held heldBytes
+give-all epsilon s = refl
+
+pub give-none : (epsilon : ℕ) (s : List ℕ) (k at : ℕ) → k ≡ 0 → giveLinesFrom epsilon s k at ≡ []
+unfolding giveLinesFrom cutFrames joined
+give-none epsilon s k at e = rw e
+
+pub give-one : (epsilon : ℕ) (s : List ℕ) (left k at next : ℕ) → left ≡ suc k → next ≡ at + frameEnd epsilon (drop at s)
+    → giveLinesFrom epsilon s left at ≡ giveLine (frameAt epsilon s at) ++ giveLinesFrom epsilon s k next
+unfolding giveLinesFrom cutFrames joined frameAt
+give-one epsilon s left k at next e f = rw (e, f, ← drop-drop (frameEnd epsilon (drop at s)) at s)
+
+-- ---- whether so many bytes are enough for them
+
+pub fit-one : (line rest : List ℕ) (size room : ℕ) → size ≡ length line → size ≤ room → leb (length (line ++ rest)) room ≡ leb (length rest) (room - size)
+fit-one line rest size room e h =
+    same-test (leb (length (line ++ rest)) room) (leb (length rest) (room - size))
+    (λ t. le-leb (length rest) (room - size) (omega (arith, leb-true (length (line ++ rest)) room t, length-append line rest)))
+    (λ t. le-leb (length (line ++ rest)) room (omega (arith, leb-true (length rest) (room - size) t, length-append line rest)))
+
+pub fit-not : (line rest : List ℕ) (size room : ℕ) → size ≡ length line → room < size → leb (length (line ++ rest)) room ≡ false
+fit-not line rest size room e h = lt-leb (length (line ++ rest)) room (omega (arith, length-append line rest))

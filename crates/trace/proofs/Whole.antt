@@ -1,0 +1,162 @@
+-- What reading a tick as it comes rests on: whoever reads as many bytes as are needed never reads past the tick, and a tick that is whole stays so.
+-- The batch of a whole tick ends exactly after its last entry. Assumes nothing.
+use Prim.Native.Nat.{ℕ, zero, suc, _+_, _-_, _%_, _≤_, _<_}
+use mathlib.Core.Path.{_≡_, refl, sym, ap, subst, _∙_}
+use mathlib.Core.Bool.{true}
+use mathlib.Core.List.{List, [], _∷_, _++_}
+use mathlib.Core.Logic.{⊎-elim}
+use native.Mathlib.Nat.{mod-self, mod-eq-of-lt}
+use native.Mathlib.Numerals.{one-add, add-one}
+use native.Mathlib.Omega.{arith}
+use lib.Dec.{leb}
+use lib.ListN.{length, take, drop, getD, length-append, length-drop, length-take, List·getD-append, List·getD-eq-default, drop-of-length-le}
+use lib.Seq.{drop-append-le, drop-cons}
+use borrow.Author.Tests.{le-leb, eq-eqb, ne-eqb}
+use Rattle.laws.proofs.Numbers.{lt-or-ge, eq-or-ne}
+use Rattle.model.specs.Batch.{endsAfter, exactBatch}
+use Rattle.trace.proofs.Giving.{drop-take}
+use Rattle.trace.specs.Trace.{entriesSize, payloadSize, batchAt, batchOf, tickEnd, oneBefore}
+
+-- ---- k entries, of which the first bytes are there
+
+entries-one : (k : ℕ) (s : List ℕ) → entriesSize (suc k) s ≡ 1 + getD s 0 0 + entriesSize k (drop (1 + getD s 0 0) s)
+unfolding entriesSize
+entries-one k s = refl
+
+-- a length byte each, at least
+entries-least : (k : ℕ) (t : List ℕ) → k ≤ entriesSize k t
+unfolding entriesSize
+entries-least zero t = omega arith
+entries-least (suc k) t =
+    let rest : k ≤ entriesSize k (drop (1 + getD t 0 0) t) = entries-least k (drop (1 + getD t 0 0) t) in
+    omega (arith, entries-one k t)
+
+entries-none : (k : ℕ) → entriesSize k [] ≡ k
+unfolding entriesSize
+entries-none zero = refl
+entries-none (suc k) = let rest : entriesSize k [] ≡ k = entries-none k in omega (arith, entries-one k [])
+
+-- with more bytes there, no fewer
+entries-more : (k : ℕ) (s t : List ℕ) → entriesSize k s ≤ entriesSize k (s ++ t)
+unfolding entriesSize
+entries-more zero s t = omega arith
+entries-more (suc k) [] t = omega (arith, entries-none (suc k), entries-least (suc k) t)
+entries-more (suc k) (x ∷ s) t =
+    ⊎-elim
+    (λ short.
+    let none : drop (1 + x) (x ∷ s) ≡ [] = drop-of-length-le (x ∷ s) {i = 1 + x} (omega arith) in
+    omega (arith, entries-one k (x ∷ s), entries-one k (x ∷ (s ++ t)), ap (entriesSize k) none, entries-none k, entries-least k (drop (1 + x) (x ∷ (s ++ t)))))
+    (λ long.
+    let rest : entriesSize k (drop (1 + x) (x ∷ s)) ≤ entriesSize k (drop (1 + x) (x ∷ s) ++ t) = entries-more k (drop (1 + x) (x ∷ s)) t in
+    omega (arith, entries-one k (x ∷ s), entries-one k (x ∷ (s ++ t)), ap (entriesSize k) (drop-append-le (1 + x) (x ∷ s) t long)))
+    (lt-or-ge (length (x ∷ s)) (1 + x))
+
+-- where all are there, just as many
+entries-same : (k : ℕ) (s t : List ℕ) → entriesSize k s ≤ length s → entriesSize k (s ++ t) ≡ entriesSize k s
+unfolding entriesSize
+entries-same zero s t h = refl
+entries-same (suc k) [] t h = let no-room : ⊥ = omega (arith, entries-none (suc k)) in absurd no-room
+entries-same (suc k) (x ∷ s) t h =
+    let long : 1 + x ≤ length (x ∷ s) = omega (arith, entries-one k (x ∷ s)) in
+    let rest : entriesSize k (drop (1 + x) (x ∷ s) ++ t) ≡ entriesSize k (drop (1 + x) (x ∷ s))
+    = entries-same k (drop (1 + x) (x ∷ s)) t (omega (arith, entries-one k (x ∷ s), length-drop (1 + x) (x ∷ s))) in
+    omega (arith, entries-one k (x ∷ s), entries-one k (x ∷ (s ++ t)), ap (entriesSize k) (drop-append-le (1 + x) (x ∷ s) t long), rest)
+
+ends-cons : (k x : ℕ) (rest : List ℕ) → x ≤ length rest → endsAfter k (drop x rest) ≡ true → endsAfter (suc k) (x ∷ rest) ≡ true
+unfolding endsAfter
+ends-cons k x rest h e = rw (le-leb x (length rest) h) e
+
+-- just so many bytes end after the last one
+entries-exact : (k : ℕ) (s : List ℕ) → entriesSize k s ≤ length s → endsAfter k (take (entriesSize k s) s) ≡ true
+unfolding entriesSize endsAfter
+entries-exact zero s h = refl
+entries-exact (suc k) [] h = let no-room : ⊥ = omega (arith, entries-none (suc k)) in absurd no-room
+entries-exact (suc k) (x ∷ s) h =
+    let past : drop (1 + x) (x ∷ s) ≡ drop x s = ap (λ (n : ℕ). drop n (x ∷ s)) (one-add x) in
+    let rest : ℕ = entriesSize k (drop x s) in
+    let size : entriesSize (suc k) (x ∷ s) ≡ suc (x + rest) = omega (arith, entries-one k (x ∷ s), ap (entriesSize k) past) in
+    let fits : rest ≤ length (drop x s) = omega (arith, length-drop x s) in
+    ap (λ (n : ℕ). endsAfter (suc k) (take n (x ∷ s))) size
+    ∙ ends-cons k x (take (x + rest) s) (omega (arith, length-take (x + rest) s))
+    (ap (endsAfter k) (drop-take x rest s) ∙ entries-exact k (drop x s) fits)
+
+-- ---- a tick, of which the first bytes are there
+
+tick-is : (s : List ℕ) → tickEnd s ≡ batchAt s + 1 + entriesSize (getD s (batchAt s) 0) (drop (batchAt s + 1) s)
+unfolding tickEnd
+tick-is s = refl
+
+batch-is : (s : List ℕ) → batchAt s ≡ 4 + getD s 3 0
+unfolding batchAt payloadSize
+batch-is s = refl
+
+-- nothing of the entries is there
+tick-none : (s : List ℕ) → length s ≤ batchAt s → tickEnd s ≡ batchAt s + 1
+tick-none s h =
+    tick-is s
+    ∙ rw (List·getD-eq-default s 0 {n = batchAt s} h, drop-of-length-le s {i = batchAt s + 1} (omega arith), entries-none 0)
+    (omega arith)
+
+batch-same : (s t : List ℕ) → 3 < length s → batchAt (s ++ t) ≡ batchAt s
+batch-same s t h = batch-is (s ++ t) ∙ ap (λ (n : ℕ). 4 + n) (List·getD-append s t 0 3 h) ∙ sym (batch-is s)
+
+-- the count of the entries is there
+tick-there : (s t : List ℕ) → 3 < length s → batchAt s < length s
+    → tickEnd (s ++ t) ≡ batchAt s + 1 + entriesSize (getD s (batchAt s) 0) (drop (batchAt s + 1) s ++ t)
+tick-there s t h k =
+    tick-is (s ++ t)
+    ∙ rw (batch-same s t h, List·getD-append s t 0 (batchAt s) k, drop-append-le (batchAt s + 1) s t (omega arith))
+
+-- what is needed next belongs to the tick, whatever comes
+pub never-past : (s t : List ℕ) → tickEnd s ≤ tickEnd (s ++ t)
+never-past s t =
+    ⊎-elim
+    (λ there.
+    ⊎-elim
+    (λ counted. omega (arith, tick-is s, tick-there s t there counted, entries-more (getD s (batchAt s) 0) (drop (batchAt s + 1) s) t))
+    (λ none. omega (arith, tick-none s none, tick-is (s ++ t), batch-same s t there))
+    (lt-or-ge (batchAt s) (length s)))
+    (λ short.
+    let none : getD s 3 0 ≡ 0 = List·getD-eq-default s 0 {n = 3} short in
+    let least : batchAt s ≡ 4 = omega (arith, batch-is s) in
+    omega (arith, tick-none s (omega arith), tick-is (s ++ t), batch-is (s ++ t)))
+    (lt-or-ge 3 (length s))
+
+-- with all of it there, where it ends
+pub stays-whole : (s t : List ℕ) → tickEnd s ≤ length s → tickEnd (s ++ t) ≡ tickEnd s
+stays-whole s t h =
+    tick-there s t (omega (arith, tick-is s, batch-is s)) (omega (arith, tick-is s))
+    ∙ ap (λ (n : ℕ). batchAt s + 1 + n)
+    (entries-same (getD s (batchAt s) 0) (drop (batchAt s + 1) s) t (omega (arith, tick-is s, length-drop (batchAt s + 1) s)))
+    ∙ sym (tick-is s)
+
+exact-cons : (count : ℕ) (rest : List ℕ) → exactBatch (count ∷ rest) ≡ endsAfter count rest
+unfolding exactBatch
+exact-cons count rest = refl
+
+-- 01, 5: so the call's question 5 gets no no
+pub batch-exact : (s : List ℕ) → tickEnd s ≤ length s → exactBatch (batchOf s) ≡ true
+unfolding batchOf
+batch-exact s h =
+    let b : ℕ = batchAt s in
+    let count : ℕ = getD s b 0 in
+    let size : ℕ = entriesSize count (drop (b + 1) s) in
+    let e : tickEnd s - b ≡ suc size = omega (arith, tick-is s) in
+    let there : drop b s ≡ count ∷ drop (b + 1) s = drop-cons s b 0 (omega (arith, tick-is s)) ∙ ap (λ (n : ℕ). count ∷ drop n s) (sym (add-one b)) in
+    rw (e, there)
+    (exact-cons count (take size (drop (b + 1) s))
+    ∙ entries-exact count (drop (b + 1) s) (omega (arith, tick-is s, length-drop (b + 1) s)))
+
+-- ---- 01: "one before the first clock", modulo B
+
+pub one-before-next : (modulus clock : ℕ) → clock < modulus → (oneBefore modulus clock + 1) % modulus ≡ clock
+unfolding oneBefore
+one-before-next modulus clock h =
+    ⊎-elim
+    (λ zero-clock.
+    let e : modulus - 1 + 1 ≡ modulus = omega arith in
+    rw (eq-eqb clock 0 zero-clock, e, mod-self) (sym zero-clock))
+    (λ later.
+    let e : clock - 1 + 1 ≡ clock = omega arith in
+    rw (ne-eqb clock 0 later, e) (mod-eq-of-lt h))
+    (eq-or-ne clock 0)

@@ -1,0 +1,50 @@
+-- `trace::parse::read_setup` meets its contract. Assumes nothing.
+use Rattle.trace.proofs.Ticks.{setup-read}
+use borrow.Author.Needs.{needs}
+use Rattle.trace.proofs.parse.read_setup.Statement.{statement}
+use Rattle.trace.proofs.parse.read_setup.Tie as tie
+
+byte-at-requires : tie.Need-byte-at-requires
+byte-at-requires c κs = search needs
+
+cast-t3 : tie.Need-cast-t3
+cast-t3 c = search needs
+
+byte-at-requires-2 : tie.Need-byte-at-requires-2
+byte-at-requires-2 c κs = search needs
+
+cast-t5 : tie.Need-cast-t5
+cast-t5 c = search needs
+
+byte-at-requires-3 : tie.Need-byte-at-requires-3
+byte-at-requires-3 c κs = search needs
+
+cast-t7 : tie.Need-cast-t7
+cast-t7 c = search needs
+
+two-at-requires : tie.Need-two-at-requires
+two-at-requires c κs = search needs
+
+byte-at-requires-4 : tie.Need-byte-at-requires-4
+byte-at-requires-4 c κs = search needs
+
+cast-t10 : tie.Need-cast-t10
+cast-t10 c = search needs
+
+returns : tie.Need-returns
+returns c = setup-read (c .before .before .before .before .before .before .args .s .now) (c .before .before .before .before .byte-at .ensures) (c .before .before .before .byte-at2 .ensures) (c .before .before .byte-at3 .ensures) (c .before .two-at .ensures .0) (c .byte-at4 .ensures)
+
+pub read-setup-spec : {M : Type 1} → statement M
+read-setup-spec =
+    tie.close
+    (tie.spec
+    byte-at-requires
+    cast-t3
+    byte-at-requires-2
+    cast-t5
+    byte-at-requires-3
+    cast-t7
+    two-at-requires
+    byte-at-requires-4
+    cast-t10
+    returns)

@@ -1,0 +1,142 @@
+-- 01, "The replay program": what it writes, as bytes. A name in quotes is the text of which a list has the ASCII codes.
+use Prim.Native.Nat.{ℕ, zero, suc, _+_, _/_, _%_}
+use mathlib.Core.Path.{_≡_}
+use mathlib.Core.Bool.{cond}
+use mathlib.Core.List.{List, [], _∷_, _++_, map}
+use lib.Dec.{leb, ltb, eqb}
+use lib.ListN.{length, take, drop}
+use Rattle.laws.specs.Lists.{joined}
+use Rattle.splice.specs.Bytes.{pasted}
+use Rattle.model.specs.Frame.{Frame, frameEnd, decode}
+use Rattle.model.specs.Holdback.{cutFrames, held}
+use Rattle.model.specs.Tick.{Input, Output}
+
+-- a digit below 16: "0" to "9", then "a" to "f"
+unfoldable pub glyph : ℕ → ℕ
+glyph d = cond (ltb d 10) (48 + d) (87 + d)
+
+-- the last k digits of x in a base, the most significant first
+unfoldable pub digits : ℕ → ℕ → ℕ → List ℕ
+digits base zero x = []
+digits base (suc k) x = digits base k (x / base) ++ (glyph (x % base) ∷ [])
+
+-- how many digits x has in decimal, in so many steps at most
+unfoldable pub countBy : ℕ → ℕ → ℕ
+countBy zero x = 1
+countBy (suc steps) x = cond (ltb x 10) 1 (suc (countBy steps (x / 10)))
+
+-- it has no more than x + 1
+unfoldable pub digitCount : ℕ → ℕ
+digitCount x = countBy x x
+
+-- 01: "Numbers print in decimal"; no zeros in front
+unfoldable pub decimal : ℕ → List ℕ
+decimal x = digits 10 (digitCount x) x
+
+-- 01: "in hexadecimal, two lower-case digits a byte"
+unfoldable pub hexByte : ℕ → List ℕ
+hexByte x = digits 16 2 x
+
+-- the words of the lines: "tick ", " mend ", " c ", " took ", " sent ", " gave ", "give ", " ", "refused ", and the end of a line
+abbrev pub tickWord : List ℕ
+tickWord = 116 ∷ 105 ∷ 99 ∷ 107 ∷ 32 ∷ []
+
+abbrev pub mendWord : List ℕ
+mendWord = 32 ∷ 109 ∷ 101 ∷ 110 ∷ 100 ∷ 32 ∷ []
+
+abbrev pub cWord : List ℕ
+cWord = 32 ∷ 99 ∷ 32 ∷ []
+
+abbrev pub tookWord : List ℕ
+tookWord = 32 ∷ 116 ∷ 111 ∷ 111 ∷ 107 ∷ 32 ∷ []
+
+abbrev pub sentWord : List ℕ
+sentWord = 32 ∷ 115 ∷ 101 ∷ 110 ∷ 116 ∷ 32 ∷ []
+
+abbrev pub gaveWord : List ℕ
+gaveWord = 32 ∷ 103 ∷ 97 ∷ 118 ∷ 101 ∷ 32 ∷ []
+
+abbrev pub giveWord : List ℕ
+giveWord = 103 ∷ 105 ∷ 118 ∷ 101 ∷ 32 ∷ []
+
+abbrev pub space : List ℕ
+space = 32 ∷ []
+
+abbrev pub refusedWord : List ℕ
+refusedWord = 114 ∷ 101 ∷ 102 ∷ 117 ∷ 115 ∷ 101 ∷ 100 ∷ 32 ∷ []
+
+abbrev pub newline : List ℕ
+newline = 10 ∷ []
+
+-- a word, and a number after it
+unfoldable pub field : List ℕ → ℕ → List ℕ
+field word x = word ++ decimal x
+
+-- 01: "sent (1 or 0)", of the length of the outgoing frame
+unfoldable pub flag : ℕ → ℕ
+flag sent = cond (eqb sent 0) 0 1
+
+-- three words, each with a number after it
+unfoldable pub fields : List ℕ → ℕ → List ℕ → ℕ → List ℕ → ℕ → List ℕ
+fields first x second y third z = field first x ++ (field second y ++ field third z)
+
+-- 01: "A tick line has clock, mend, c, taken, sent (1 or 0), handed out"
+unfoldable pub tickLine : ℕ → ℕ → ℕ → ℕ → ℕ → ℕ → List ℕ
+tickLine clock repair c taken sent delivered =
+    fields tickWord clock mendWord repair cWord c
+    ++ (fields tookWord taken sentWord (flag sent) gaveWord delivered ++ newline)
+
+-- 01: "the ticket in hexadecimal … (`-` if empty)"
+unfoldable pub payloadText : List ℕ → List ℕ
+payloadText payload = cond (eqb (length payload) 0) (45 ∷ []) (joined hexByte payload)
+
+-- the end of a give line: the payload, and the end of the line
+unfoldable pub payloadTail : List ℕ → List ℕ
+payloadTail payload = space ++ (payloadText payload ++ newline)
+
+-- 01: "a give line has station, r and the ticket"
+unfoldable pub giveText : ℕ → ℕ → List ℕ → List ℕ
+giveText station r payload = field giveWord station ++ (field space r ++ payloadTail payload)
+
+unfoldable pub giveLine : Frame → List ℕ
+giveLine f = giveText (f .station) (f .stamp .r) (f .payload)
+
+-- the frame that starts at a position of a delivery (01: hand-out)
+unfoldable pub frameAt : ℕ → List ℕ → ℕ → Frame
+frameAt epsilon s at = decode epsilon (take (frameEnd epsilon (drop at s)) (drop at s))
+
+-- a give line for each of k frames from a position on
+unfoldable pub giveLinesFrom : ℕ → List ℕ → ℕ → ℕ → List ℕ
+giveLinesFrom epsilon s k at = joined giveLine (map (decode epsilon) (cutFrames epsilon k (drop at s)))
+
+-- a give line for each frame of a delivery, in its order
+unfoldable pub giveLines : ℕ → List ℕ → List ℕ
+giveLines epsilon delivery = joined giveLine (held epsilon delivery)
+
+-- the lines of a tick: the tick line, then the give lines
+unfoldable pub tickLines : ℕ → ℕ → ℕ → ℕ → ℕ → ℕ → ℕ → List ℕ → List ℕ
+tickLines clock repair c taken sent delivered epsilon delivery =
+    tickLine clock repair c taken sent delivered ++ giveLines epsilon delivery
+
+-- the lines of an accepted call
+unfoldable pub linesOf : Input → Output → List ℕ
+linesOf i o =
+    tickLines (i .clock) (o .answer .repair) (o .answer .tables .c) (o .answer .taken) (o .answer .sent) (o .answer .delivered)
+    (i .setup .epsilon) (o .delivery)
+
+-- 01: "On a refusal it prints `refused` and the number"
+unfoldable pub refusedLine : ℕ → List ℕ
+refusedLine number = field refusedWord number ++ newline
+
+-- a text put into a buffer at a position, where there is room for it; otherwise nothing is written
+unfoldable pub written : List ℕ → ℕ → List ℕ → List ℕ
+written buffer at text = cond (leb (at + length text) (length buffer)) (pasted buffer at text) buffer
+
+-- and where it ends; 0 where there is no room
+unfoldable pub endOf : List ℕ → ℕ → List ℕ → ℕ
+endOf buffer at text = cond (leb (at + length text) (length buffer)) (at + length text) 0
+
+-- a text was put into a buffer at a position, and ends at end
+pub record Put (buffer : List ℕ) (at : ℕ) (text after : List ℕ) (end : ℕ) : Type 0 where
+  pub bytes : after ≡ pasted buffer at text
+  pub ends : end ≡ at + length text

@@ -1,0 +1,85 @@
+-- 01, "The replay program": what it reads, from bytes to the arguments of a call. A byte that is missing reads as 0.
+use Prim.Native.Nat.{ℕ, zero, suc, _+_, _-_}
+use mathlib.Core.Bool.{Bool, _&&_, not, cond}
+use mathlib.Core.List.{List, [], _∷_}
+use lib.Dec.{leb, ltb, eqb}
+use lib.ListN.{length, take, drop, getD}
+use Rattle.model.specs.Setup.{Setup, inLimits}
+use Rattle.model.specs.Frame.{twoAt}
+use Rattle.model.specs.Question.{ask, firstNo}
+use Rattle.model.specs.Tick.{holdbackSize}
+
+-- ---- the setup
+
+-- 01: "n, ε, δ, B (two bytes), own number"
+abbrev pub setupLength : ℕ
+setupLength = 6
+
+unfoldable pub traceSetup : List ℕ → Setup
+traceSetup s =
+    record { n = getD s 0 0; epsilon = getD s 1 0; delta = getD s 2 0; modulus = twoAt s 3; own = getD s 5 0 }
+
+-- 01: "a shelf above 65,536 bytes"; here the hold-back queue
+abbrev pub largestHoldback : ℕ
+largestHoldback = 65536
+
+-- 01: "A cut … trace … gets 5"; "a shelf above 65,536 bytes counts as setup 1". 0 for a setup with which the ticks can start
+unfoldable pub setupNumber : List ℕ → ℕ
+setupNumber s =
+    firstNo
+    (ask (leb setupLength (length s)) 5
+    ∷ ask (inLimits (traceSetup s)) 1
+    ∷ ask (leb (holdbackSize (traceSetup s)) largestHoldback) 1
+    ∷ [])
+
+-- 01: "a two-byte count of ticks"
+unfoldable pub tickCount : List ℕ → ℕ
+tickCount s = twoAt s 0
+
+-- 01: "It starts fresh one before the first clock": modulo B, where the clock is below B
+unfoldable pub oneBefore : ℕ → ℕ → ℕ
+oneBefore modulus clock = cond (eqb clock 0) (modulus - 1) (clock - 1)
+
+-- ---- one tick, at the start of s
+-- 01: "per tick the clock (two bytes), 1 or 0 for send, a ticket count and ticket (not sent on 0), a bundle"
+
+unfoldable pub clockOf : List ℕ → ℕ
+clockOf s = twoAt s 0
+
+unfoldable pub sendByte : List ℕ → ℕ
+sendByte s = getD s 2 0
+
+-- 01: a "ticket count"; here the payload
+unfoldable pub payloadSize : List ℕ → ℕ
+payloadSize s = getD s 3 0
+
+unfoldable pub payloadOf : List ℕ → List ℕ
+payloadOf s = take (payloadSize s) (drop 4 s)
+
+-- where the batch (01: bundle) starts
+unfoldable pub batchAt : List ℕ → ℕ
+batchAt s = 4 + payloadSize s
+
+-- how many bytes k entries of a batch have at the start of s, as far as their lengths are there; the others have none
+unfoldable pub entriesSize : ℕ → List ℕ → ℕ
+entriesSize zero s = 0
+entriesSize (suc k) s = 1 + getD s 0 0 + entriesSize k (drop (1 + getD s 0 0) s)
+
+-- where the tick ends; before all of it is there, the fewest bytes that it can have
+unfoldable pub tickEnd : List ℕ → ℕ
+tickEnd s = batchAt s + 1 + entriesSize (getD s (batchAt s) 0) (drop (batchAt s + 1) s)
+
+-- the bytes that the tick has still to have, at least, where s is what was read of it; 0 when it is whole
+unfoldable pub needed : List ℕ → ℕ
+needed s = tickEnd s - length s
+
+unfoldable pub batchOf : List ℕ → List ℕ
+batchOf s = take (tickEnd s - batchAt s) (drop (batchAt s) s)
+
+-- 01: "A cut or overlong trace, or a send byte other than 0 or 1, gets 5": 0 where s is one tick
+unfoldable pub tickNumber : List ℕ → ℕ
+tickNumber s = firstNo (ask (eqb (tickEnd s) (length s)) 5 ∷ ask (leb (sendByte s) 1) 5 ∷ [])
+
+-- 01: "1 or 0 for send"
+unfoldable pub sendOf : List ℕ → Bool
+sendOf s = eqb (sendByte s) 1

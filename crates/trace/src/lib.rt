@@ -1,0 +1,21 @@
+// 01, "The replay program": from the bytes of a trace to the arguments of a call, and from its
+// answer and delivery (01: hand-out) to the lines of text. Any bytes get an answer.
+mod digits;
+mod lines;
+mod parse;
+mod text;
+
+pub use digits::digit_count;
+pub use lines::Figures;
+pub use lines::put_lines;
+pub use lines::put_refused;
+pub use parse::Call;
+pub use parse::batch_of;
+pub use parse::need;
+pub use parse::one_before;
+pub use parse::payload_of;
+pub use parse::read_call;
+pub use parse::read_setup;
+pub use parse::setup_number;
+pub use parse::tick_count;
+pub use parse::tick_end;

@@ -1,0 +1,178 @@
+// The lines of a tick and of a refusal.
+use crate::digits::digit_count;
+use crate::parse::byte_at;
+use crate::parse::part;
+use crate::parse::two_at;
+use crate::text::payload_size;
+use crate::text::put_field;
+use crate::text::put_fields;
+use crate::text::put_give;
+use crate::text::put_word;
+ghost use mathlib.Core.Path.{_≡_};
+ghost use Prim.Native.Nat.{_+_, _*_, _≤_, _<_, _^_};
+ghost use lib.Dec.{leb};
+ghost use lib.ListN.{length, drop};
+ghost use Rattle.model.specs.Frame.{frameEnd};
+ghost use Rattle.trace.specs.Text.{flag, tickLine, giveLine, giveLines, frameAt, tickLines, refusedLine, written, endOf, Put};
+
+// What a tick line says: 01's clock, mend, c, taken, outgoing length (0 if none), handed out.
+pub struct Figures {
+    pub clock: usize,
+    pub repair: usize,
+    pub c: usize,
+    pub taken: usize,
+    pub sent: usize,
+    pub delivered: usize,
+}
+
+// 01: "sent (1 or 0)".
+fn flag_of(sent: usize) -> usize
+    ensures { λ r. ⌜ r ≡ flag sent ⌝ }
+{
+    if sent == 0 {
+        return 0;
+    }
+    1
+}
+
+// How long the tick line is.
+fn tick_size(f: Figures) -> usize
+    ensures { λ r. ⌜ r ≡ length (tickLine (f .clock) (f .repair) (f .c) (f .taken) (f .sent) (f .delivered)) ⌝ }
+{
+    let first = digit_count(f.clock) + digit_count(f.repair) + digit_count(f.c);
+    34 + first + digit_count(f.taken) + digit_count(f.delivered)
+}
+
+// 01: "A tick line has clock, mend, c, taken, sent (1 or 0), handed out".
+fn put_tick(buf: &mut [u8], at: usize, f: Figures) -> usize
+    requires { ⌜ at + length (tickLine (f .clock) (f .repair) (f .c) (f .taken) (f .sent) (f .delivered)) ≤ length (now buf) ⌝ }
+    ensures { λ r. ⌜ Put (now (buf .entry)) at (tickLine (f .clock) (f .repair) (f .c) (f .taken) (f .sent) (f .delivered)) (now (buf .exit)) r ⌝ }
+{
+    let sent = flag_of(f.sent);
+    let after_c = put_fields(buf, at, b"tick ", f.clock, b" mend ", f.repair, b" c ", f.c);
+    let after_delivered = put_fields(
+        buf,
+        after_c,
+        b" took ",
+        f.taken,
+        b" sent ",
+        sent,
+        b" gave ",
+        f.delivered,
+    );
+    put_word(buf, after_delivered, b"\n")
+}
+
+// Where the frame at a position of a delivery ends.
+fn next_frame(delivery: &[u8], at: usize, epsilon: usize) -> usize
+    requires { ⌜ (at < 2 ^ 52) × (epsilon < 2 ^ 32) ⌝ }
+    ensures { λ r. ⌜ (r ≡ at + frameEnd epsilon (drop at (now (delivery .entry)))) × (r ≤ at + 2 ^ 34) ⌝ }
+{
+    let count = at + (6 + 2 * epsilon);
+    count + 1 + byte_at(delivery, count) as usize
+}
+
+// Its payload.
+fn payload_at(delivery: &[u8], at: usize, epsilon: usize) -> &[u8]
+    requires { ⌜ (at < 2 ^ 52) × (epsilon < 2 ^ 32) ⌝ }
+    ensures { λ r. ⌜ (now r ≡ frameAt epsilon (now (delivery .entry)) at .payload) × (length (now r) < 256) ⌝ }
+{
+    let count = at + (6 + 2 * epsilon);
+    part(delivery, count + 1, byte_at(delivery, count) as usize)
+}
+
+// How long its give line is.
+fn give_size(delivery: &[u8], at: usize, epsilon: usize) -> usize
+    requires { ⌜ (at < 2 ^ 52) × (epsilon < 2 ^ 32) ⌝ }
+    ensures { λ r. ⌜ r ≡ length (giveLine (frameAt epsilon (now (delivery .entry)) at)) ⌝ }
+{
+    let station = byte_at(delivery, at + 1) as usize;
+    let r = two_at(delivery, at + 2) as usize;
+    let payload = payload_at(delivery, at, epsilon);
+    8 + digit_count(station) + digit_count(r) + payload_size(payload)
+}
+
+// Writes its give line.
+fn put_give_at(buf: &mut [u8], end: usize, delivery: &[u8], at: usize, epsilon: usize) -> usize
+    requires { ⌜ ((at < 2 ^ 52) × (epsilon < 2 ^ 32)) × (end + length (giveLine (frameAt epsilon (now delivery) at)) ≤ length (now buf)) ⌝ }
+    ensures { λ e. ⌜ Put (now (buf .entry)) end (giveLine (frameAt epsilon (now (delivery .entry)) at)) (now (buf .exit)) e ⌝ }
+{
+    let station = byte_at(delivery, at + 1) as usize;
+    let r = two_at(delivery, at + 2) as usize;
+    let payload = payload_at(delivery, at, epsilon);
+    put_give(buf, end, station, r, payload)
+}
+
+// Whether the give lines of a delivery have at most so many bytes.
+fn gives_fit(delivery: &[u8], epsilon: usize, room: usize) -> bool
+    requires { ⌜ epsilon < 2 ^ 32 ⌝ }
+    ensures { λ r. ⌜ r ≡ leb (length (giveLines epsilon (now (delivery .entry)))) room ⌝ }
+{
+    let mut left = two_at(delivery, 0) as usize;
+    let mut at = 2;
+    let mut room_left = room;
+    while 0 < left {
+        let size = give_size(delivery, at, epsilon);
+        if room_left < size {
+            return false;
+        }
+        room_left -= size;
+        at = next_frame(delivery, at, epsilon);
+        left -= 1;
+    }
+    true
+}
+
+// Writes a give line for each frame of a delivery.
+fn put_gives(buf: &mut [u8], from: usize, delivery: &[u8], epsilon: usize) -> usize
+    requires { ⌜ (epsilon < 2 ^ 32) × (from + length (giveLines epsilon (now delivery)) ≤ length (now buf)) ⌝ }
+    ensures { λ e. ⌜ Put (now (buf .entry)) from (giveLines epsilon (now (delivery .entry))) (now (buf .exit)) e ⌝ }
+{
+    let mut left = two_at(delivery, 0) as usize;
+    let mut at = 2;
+    let mut end = from;
+    while 0 < left {
+        end = put_give_at(buf, end, delivery, at, epsilon);
+        at = next_frame(delivery, at, epsilon);
+        left -= 1;
+    }
+    end
+}
+
+// Writes the lines of a tick at a position, and answers where they end; 0, and nothing is written,
+// where there is no room for all of them.
+pub fn put_lines(buf: &mut [u8], at: usize, f: Figures, epsilon: u32, delivery: &[u8]) -> usize
+    ensures { λ r. ⌜ r ≡ endOf (now (buf .entry)) at (tickLines (f .clock) (f .repair) (f .c) (f .taken) (f .sent) (f .delivered) epsilon (now (delivery .entry))) ⌝ }
+    ensures { λ r. ⌜ now (buf .exit) ≡ written (now (buf .entry)) at (tickLines (f .clock) (f .repair) (f .c) (f .taken) (f .sent) (f .delivered) epsilon (now (delivery .entry))) ⌝ }
+{
+    let size = tick_size(f);
+    if buf.len() < at {
+        return 0;
+    }
+    let room = buf.len() - at;
+    if room < size {
+        return 0;
+    }
+    if !gives_fit(delivery, epsilon as usize, room - size) {
+        return 0;
+    }
+    let end = put_tick(buf, at, f);
+    put_gives(buf, end, delivery, epsilon as usize)
+}
+
+// Writes the line of a refusal, as put_lines does those of a tick.
+pub fn put_refused(buf: &mut [u8], at: usize, number: u8) -> usize
+    ensures { λ r. ⌜ r ≡ endOf (now (buf .entry)) at (refusedLine number) ⌝ }
+    ensures { λ r. ⌜ now (buf .exit) ≡ written (now (buf .entry)) at (refusedLine number) ⌝ }
+{
+    let x = number as usize;
+    let size = 9 + digit_count(x);
+    if buf.len() < at {
+        return 0;
+    }
+    if buf.len() - at < size {
+        return 0;
+    }
+    let end = put_field(buf, at, b"refused ", x);
+    put_word(buf, end, b"\n")
+}

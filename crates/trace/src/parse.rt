@@ -1,0 +1,179 @@
+// From the bytes of a trace to the arguments of a call. A byte that is missing reads as 0.
+use timestamp::Setup;
+use timestamp::holdback_length;
+use timestamp::in_limits;
+ghost use mathlib.Core.Path.{_≡_};
+ghost use Prim.Native.Nat.{_<_};
+ghost use lib.ListN.{take, drop, getD};
+ghost use Rattle.model.specs.Frame.{twoAt};
+ghost use Rattle.timestamp.specs.Views.{setupOf};
+ghost use Rattle.trace.specs.Trace.{traceSetup, setupNumber, tickCount, oneBefore, clockOf, sendOf, payloadOf, batchOf, tickEnd, needed, tickNumber};
+
+// The byte at a position.
+pub fn byte_at(s: &[u8], at: usize) -> u8
+    ensures { λ r. ⌜ r ≡ getD (now (s .entry)) at 0 ⌝ }
+{
+    if at < s.len() {
+        return s[at];
+    }
+    0
+}
+
+// The two-byte number at a position.
+pub fn two_at(s: &[u8], at: usize) -> u32
+    ensures { λ r. ⌜ (r ≡ twoAt (now (s .entry)) at) × (r < 65536) ⌝ }
+{
+    if s.len() <= at {
+        return 0;
+    }
+    byte_at(s, at) as u32 + 256 * (byte_at(s, at + 1) as u32)
+}
+
+// The bytes from a position on, size of them at most.
+pub fn part(s: &[u8], from: usize, size: usize) -> &[u8]
+    ensures { λ r. ⌜ now r ≡ take size (drop from (now (s .entry))) ⌝ }
+{
+    if s.len() < from {
+        return &s[..0];
+    }
+    if s.len() - from <= size {
+        return &s[from..];
+    }
+    &s[from..from + size]
+}
+
+// The setup of a trace, at its start.
+pub fn read_setup(s: &[u8]) -> Setup
+    ensures { λ r. ⌜ setupOf r ≡ traceSetup (now (s .entry)) ⌝ }
+{
+    Setup {
+        n: byte_at(s, 0) as u32,
+        epsilon: byte_at(s, 1) as u32,
+        delta: byte_at(s, 2) as u32,
+        modulus: two_at(s, 3),
+        own: byte_at(s, 5) as u32,
+    }
+}
+
+// 01: the setup "is judged once read": 5 where it is cut, 1 where it is out of its limits or its
+// hold-back queue (01: shelf) is too large, otherwise 0.
+pub fn setup_number(s: &[u8]) -> u8
+    ensures { λ r. ⌜ r ≡ setupNumber (now (s .entry)) ⌝ }
+{
+    if s.len() < 6 {
+        return 5;
+    }
+    let setup = read_setup(s);
+    if !in_limits(setup) {
+        return 1;
+    }
+    if 65536
+        < holdback_length(
+            setup.n as usize,
+            setup.epsilon as usize,
+            setup.delta as usize,
+        )
+    {
+        return 1;
+    }
+    0
+}
+
+// 01: "a two-byte count of ticks", at the start of s.
+pub fn tick_count(s: &[u8]) -> u32
+    ensures { λ r. ⌜ r ≡ tickCount (now (s .entry)) ⌝ }
+{
+    two_at(s, 0)
+}
+
+// 01: "one before the first clock".
+pub fn one_before(modulus: u32, clock: u32) -> u32
+    ensures { λ r. ⌜ r ≡ oneBefore modulus clock ⌝ }
+{
+    if 0 < clock {
+        return clock - 1;
+    }
+    if 0 < modulus {
+        return modulus - 1;
+    }
+    0
+}
+
+// Where the tick at the start of s ends; before all of it is there, the fewest bytes that it can
+// have.
+pub fn tick_end(s: &[u8]) -> usize
+    ensures { λ r. ⌜ r ≡ tickEnd (now (s .entry)) ⌝ }
+{
+    let batch = 4 + byte_at(s, 3) as usize;
+    let mut left = byte_at(s, batch) as usize;
+    let mut end = batch + 1;
+    while 0 < left {
+        end += 1 + byte_at(s, end) as usize;
+        left -= 1;
+    }
+    end
+}
+
+// How many bytes the tick has still to have, at least, where s is what was read of it: 0 when it is
+// whole. Whoever reads so many at a time never reads past the tick.
+pub fn need(s: &[u8]) -> usize
+    ensures { λ r. ⌜ r ≡ needed (now (s .entry)) ⌝ }
+{
+    let end = tick_end(s);
+    if end <= s.len() {
+        return 0;
+    }
+    end - s.len()
+}
+
+// What a tick's bytes ask for; payload and batch are payload_of's and batch_of's.
+pub struct Call {
+    // 0, or 5 where the bytes are not one tick
+    pub number: u8,
+    pub clock: u32,
+    pub send: bool,
+}
+
+// The tick that s is.
+pub fn read_call(s: &[u8]) -> Call
+    ensures { λ r. ⌜ (r .number ≡ tickNumber (now (s .entry))) × ((r .clock ≡ clockOf (now (s .entry))) × (r .send ≡ sendOf (now (s .entry)))) ⌝ }
+{
+    let clock = two_at(s, 0);
+    let send = byte_at(s, 2);
+    let end = tick_end(s);
+    if end != s.len() {
+        return Call {
+            number: 5,
+            clock,
+            send: send == 1,
+        };
+    }
+    if 1 < send {
+        return Call {
+            number: 5,
+            clock,
+            send: false,
+        };
+    }
+    Call {
+        number: 0,
+        clock,
+        send: send == 1,
+    }
+}
+
+// 01: the ticket, as a part of the tick's bytes.
+pub fn payload_of(s: &[u8]) -> &[u8]
+    ensures { λ r. ⌜ now r ≡ payloadOf (now (s .entry)) ⌝ }
+{
+    part(s, 4, byte_at(s, 3) as usize)
+}
+
+// 01: the bundle, as a part of the tick's bytes.
+pub fn batch_of(s: &[u8]) -> &[u8]
+    ensures { λ r. ⌜ now r ≡ batchOf (now (s .entry)) ⌝ }
+{
+    let from = 4 + byte_at(s, 3) as usize;
+    let end = tick_end(s);
+    part(s, from, end - from)
+}

@@ -1,0 +1,105 @@
+/* Yarngravel: one causal order of messages on every board.
+ *
+ * The library keeps no memory of its own. A station keeps its tables and its shelf between ticks and lends both, with the
+ * buffers below, to each call. Any numbers and any bytes get an answer. A call that fails a check answers that check's
+ * number, and then no byte of any buffer or table has changed. Buffers must not overlap.
+ */
+#ifndef YARNGRAVEL_H
+#define YARNGRAVEL_H
+
+#include <stdbool.h>
+#include <stddef.h>
+#include <stdint.h>
+
+#ifdef __cplusplus
+extern "C" {
+#endif
+
+/* Limits of a setup: the numbers that every call takes first.
+ *   n         stations of the yard, 1 to 16
+ *   epsilon   drift limit, 1 to 16: no two station clocks ever differ by more ticks
+ *   delta     delay limit, 0 to 64: a frame is heard while its sender's clock is at most this far past the sending
+ *   modulus   B, from YARNGRAVEL_LEAST_MODULUS to 65535: clocks are given modulo B
+ *   own       this station's number, below n
+ */
+#define YARNGRAVEL_LEAST_MODULUS(epsilon, delta) (6u * (epsilon) + (delta) + 1u)
+
+/* Sizes in bytes. */
+#define YARNGRAVEL_TABLES 35u                              /* r low, r high, c, 32 counts */
+#define YARNGRAVEL_TICKET 32u                              /* the longest ticket */
+#define YARNGRAVEL_FRAME(epsilon) (39u + 2u * (epsilon))   /* the longest frame; the outgoing buffer has at least this */
+#define YARNGRAVEL_VERDICTS 255u                           /* the verdict buffer has at least this */
+#define YARNGRAVEL_SHELF(n, epsilon, delta) /* a shelf has exactly this, the hand-out buffer at least this */ \
+    (2u + YARNGRAVEL_FRAME(epsilon) * (n) * ((delta) + 3u * (epsilon)))
+
+/* Numbers in an answer. 0: accepted. Of a call: */
+#define YARNGRAVEL_BAD_SETUP 1u    /* the setup is not in its limits */
+#define YARNGRAVEL_BAD_CLOCK 2u    /* the clock is not below B */
+#define YARNGRAVEL_BAD_SHELF 3u    /* the shelf has not its exact length */
+#define YARNGRAVEL_BAD_TICKET 4u   /* the ticket is longer than 32 bytes (asked even if nothing is to be sent) */
+#define YARNGRAVEL_BAD_BUNDLE 5u   /* the bundle does not end exactly after its last entry */
+#define YARNGRAVEL_BAD_BUFFERS 6u  /* the outgoing, verdict or hand-out buffer is too short */
+/* Of a frame, in the verdict buffer (and 10 to 12 from the reader, 11 and 12 from the writer): */
+#define YARNGRAVEL_BAD_FORM 10u    /* a section's count is wrong, or something is left over */
+#define YARNGRAVEL_BAD_RANGE 11u   /* the station is not below n, or r not below B */
+#define YARNGRAVEL_BAD_STAMP 12u   /* the stamp is not sound */
+#define YARNGRAVEL_LATE 13u        /* r is more than delta + epsilon behind the clock */
+#define YARNGRAVEL_EARLY 14u       /* the sum is more than epsilon - 1 past the clock */
+#define YARNGRAVEL_BAD_COUNT 15u   /* a count for this clock or later is above n - 1 */
+#define YARNGRAVEL_REPEAT 16u      /* that station and r is on the shelf already */
+#define YARNGRAVEL_FULL 17u        /* the shelf is full */
+
+/* The fields of a tick's answer. A refusal is its number alone. */
+static inline unsigned yarngravel_number(uint64_t answer) { return (unsigned)(answer & 0xffu); }
+/* what had to be mended: 1 the tables, 2 the shelf, 3 both */
+static inline unsigned yarngravel_mend(uint64_t answer) { return (unsigned)(answer >> 8 & 0xffu); }
+/* frames of the bundle that were taken */
+static inline unsigned yarngravel_taken(uint64_t answer) { return (unsigned)(answer >> 16 & 0xffu); }
+/* length of the frame in the outgoing buffer, 0 if none was sent */
+static inline unsigned yarngravel_sent(uint64_t answer) { return (unsigned)(answer >> 24 & 0xffu); }
+/* frames in the hand-out buffer */
+static inline unsigned yarngravel_gave(uint64_t answer) { return (unsigned)(answer >> 32 & 0xffffu); }
+
+/* The fields of a reader's answer. */
+static inline unsigned yarngravel_station(uint64_t answer) { return (unsigned)(answer >> 8 & 0xffu); }
+/* where the ticket starts in the frame, and its length */
+static inline unsigned yarngravel_ticket_at(uint64_t answer) { return (unsigned)(answer >> 16 & 0xffffu); }
+static inline unsigned yarngravel_ticket_len(uint64_t answer) { return (unsigned)(answer >> 32 & 0xffffu); }
+
+/* The length of the frame that the writer wrote. */
+static inline unsigned yarngravel_written(uint64_t answer) { return (unsigned)(answer >> 8 & 0xffffu); }
+
+/* One tick at the clock (modulo B): judges the frames of the bundle, sends if asked to, and hands out what is due.
+ *   clock     the station's clock modulo B; each accepted call is for the clock after the last one
+ *   tables    in and out
+ *   shelf     in and out, exactly YARNGRAVEL_SHELF bytes
+ *   bundle    a one-byte count, then for each frame a one-byte length and its bytes; an empty bundle is one byte 0
+ *   send      whether a ticket is to be sent
+ *   ticket    at most 32 bytes; may be any pointer where ticket_len is 0
+ *   outgoing  gets the frame to send; at least YARNGRAVEL_FRAME bytes
+ *   verdicts  gets one byte for each frame of the bundle: 0 taken, or the number of the first check it fails
+ *   handout   gets a two-byte count (low byte first) and the frames, in delivery order; at least YARNGRAVEL_SHELF bytes
+ * Bytes beyond those written stay as they were.
+ */
+uint64_t yarngravel_tick(uint32_t n, uint32_t epsilon, uint32_t delta, uint32_t modulus, uint32_t own, uint32_t clock,
+                         uint8_t tables[YARNGRAVEL_TABLES], uint8_t *shelf, size_t shelf_len, const uint8_t *bundle,
+                         size_t bundle_len, bool send, const uint8_t *ticket, size_t ticket_len, uint8_t *outgoing,
+                         size_t outgoing_len, uint8_t *verdicts, size_t verdicts_len, uint8_t *handout,
+                         size_t handout_len);
+
+/* Reads a frame: its station and where its ticket lies in the answer, r, c and counts in the tables.
+ * A refused frame (1, 10, 11, 12) answers the number alone and leaves the tables as they were.
+ */
+uint64_t yarngravel_read(uint32_t n, uint32_t epsilon, uint32_t delta, uint32_t modulus, uint32_t own,
+                         const uint8_t *frame, size_t frame_len, uint8_t tables[YARNGRAVEL_TABLES]);
+
+/* Writes a frame of a station, a stamp and a ticket. Refusals: 1, 4, 11, 12, and 6 for a buffer shorter than the frame. */
+uint64_t yarngravel_write(uint32_t n, uint32_t epsilon, uint32_t delta, uint32_t modulus, uint32_t own,
+                          uint32_t station, const uint8_t tables[YARNGRAVEL_TABLES], const uint8_t *ticket,
+                          size_t ticket_len, uint8_t *out, size_t out_len);
+
+#ifdef __cplusplus
+}
+#endif
+
+#endif
