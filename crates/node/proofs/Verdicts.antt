@@ -19,7 +19,7 @@ use Rattle.lemmas.proofs.Bounds.{Limits, FrameOk, QueueOk}
 use Rattle.lemmas.proofs.Questions.{limits-from, yes-cons, no-cons, first-yes}
 use Rattle.lemmas.proofs.Queue.{sound-queue, queue-window}
 use Rattle.lemmas.proofs.Queue as queues
-use Rattle.timestamp.proofs.InLimits.{limits-of}
+use Rattle.lemmas.proofs.Questions.{limits-from}
 use Rattle.holdback.specs.Seen.{InWindow, seenTable, isMarked, slotOf}
 use Rattle.holdback.proofs.Seen.{seen-at}
 use Rattle.node.specs.declared.verdict.Verdict as codes
@@ -170,7 +170,7 @@ marked-is s v buffer table f t q w =
     let lim : Limits s = limits-from s (t .limits) in
     let ok : QueueOk s v (held (s .epsilon) buffer) = sound-queue s v buffer lim (q .sound) in
     ap (λ (l : List ℕ). eqb (getD l (slotOf s v f) 0) 1) (q .table-is)
-    ∙ (ap (λ (x : ℕ). eqb x 1) (seen-at s v (limits-of s (t .limits)) (t .below) (held (s .epsilon) buffer) f (λ g m. window-of s v g (queue-window s v (held (s .epsilon) buffer) lim ok g m) (ok .frames g m)) w)
+    ∙ (ap (λ (x : ℕ). eqb x 1) (seen-at s v (limits-from s (t .limits)) (t .below) (held (s .epsilon) buffer) f (λ g m. window-of s v g (queue-window s v (held (s .epsilon) buffer) lim ok g m) (ok .frames g m)) w)
     ∙ marked-by (any (sameOrigin f) (held (s .epsilon) buffer)))
 
 pub table-long : (s : Setup) (v : ℕ) (queue : List Frame) → length (seenTable s v queue) ≡ 2048
