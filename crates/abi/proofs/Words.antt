@@ -5,24 +5,23 @@ use mathlib.Core.Path.{_≡_, refl, sym, ap, ap₂, _∙_}
 use mathlib.Core.Bool.{Bool, true, false, cond}
 use mathlib.Core.List.{List, [], _∷_, _++_, append-nil}
 use lib.Dec.{eqb}
-use lib.ListN.{length, take, drop, getD, set, replicate, length-take, length-drop, drop-of-length-le}
+use lib.ListN.{length, take, drop, getD, set, length-drop, drop-of-length-le}
 use lib.Seq.{take-all, length-take-le}
 use borrow.Author.Tests.{eq-eqb, ne-eqb}
 use Rattle.laws.specs.Lists.{padded, select}
 use Rattle.laws.proofs.Lists.{select-length-le}
-use Rattle.model.specs.Setup.{Setup, inLimits, width, longestFrame}
-use Rattle.model.specs.Timestamp.{Timestamp, trimmed, widened, countOwn}
-use Rattle.model.specs.Frame.{Frame, twoBytes, twoAt, encode, decode, wellFormed, payloadCountAt}
+use Rattle.model.specs.Setup.{Setup, inLimits, width}
+use Rattle.model.specs.Timestamp.{Timestamp, widened, countOwn}
+use Rattle.model.specs.Frame.{Frame, twoBytes, twoAt, encode, decode, payloadCountAt}
 use Rattle.model.specs.Batch.{batchEntries}
 use Rattle.model.specs.Question.{firstNo, askSetup, frameQuestions}
-use Rattle.model.specs.Codec.{ReadAnswer, WriteAnswer, readQuestions, readBy, read, noTimestamp, frameOf, writeQuestions, writeBy, write}
-use Rattle.model.specs.Judge.{Heard}
+use Rattle.model.specs.Codec.{ReadAnswer, readQuestions, readBy, read, frameOf, writeQuestions, writeBy, write}
 use Rattle.model.specs.Tick.{Input, Answer, Output, callQuestions, refusal, heardOf, newStamp, sentBytes, takenCount, deliveredOf, acceptance, tick}
 use Rattle.lemmas.proofs.Bounds.{Limits, Sound, FrameOk}
 use Rattle.lemmas.proofs.Questions.{limits-from, first-yes, other-yes}
 use Rattle.model.specs.Holdback.{passes}
 use Rattle.lemmas.proofs.RoundTrip.{formed-from, passes-decode, passes-formed}
-use Rattle.lemmas.proofs.OneTick.{Accepted, accepted-call, no-question-fails, refusal-number, tick-by, opening, new-sound, hear-length, delivered-most}
+use Rattle.lemmas.proofs.OneTick.{Accepted, accepted-call, no-question-fails, tick-by, opening, new-sound, hear-length, delivered-most}
 use Rattle.splice.specs.Bytes.{pasted}
 use Rattle.batch.specs.Walk.{countOf}
 use Rattle.batch.proofs.Walk.{batch-count}
@@ -31,7 +30,7 @@ use Rattle.node.proofs.Finish.{Call, call-passed}
 use Rattle.frame.proofs.Asking.{room-of}
 use Rattle.frame.proofs.Laying.{length-frame}
 use Rattle.frame.specs.Lay.{Room}
-use Rattle.abi.specs.Packing.{tablesAt, tablesBytes, answerWord, placeOf, readWord, readTables, writeWord, packed, returned}
+use Rattle.abi.specs.Packing.{tablesAt, tablesBytes, answerWord, placeOf, readWord, readTables, packed, returned}
 
 -- ---- the tables
 

@@ -8,7 +8,7 @@ use lib.ListN.{length, take, drop, getD}
 use Rattle.model.specs.Setup.{Setup, widest}
 use Rattle.model.specs.Timestamp.{Timestamp}
 use Rattle.model.specs.Frame.{twoBytes, twoAt, payloadCountAt}
-use Rattle.model.specs.Codec.{ReadAnswer, WriteAnswer, read, write, frameOf}
+use Rattle.model.specs.Codec.{ReadAnswer, WriteAnswer}
 use Rattle.model.specs.Tick.{Input, Answer, Output}
 
 -- how many bytes the tables have

@@ -17,7 +17,7 @@ pub fn tables_of(s: &[u8]) -> Timestamp
 {
     let kn = counts_of(s, 3, 32);
     let r = frame::two_at(s, 0);
-    let c = frame::byte_at(s, 2) as usize;
+    let c = s[2] as usize;
     Timestamp { r, c, kn }
 }
 

@@ -13,7 +13,8 @@ use Rattle.model.specs.Setup.{Setup, depth}
 use Rattle.model.specs.Frame.{Frame, twoAt, wellFormed}
 use Rattle.model.specs.Holdback.{heldBytes, held, passes, soundHoldback}
 use Rattle.model.specs.Tick.{dueNow}
-use Rattle.timestamp.proofs.InLimits.{Limits, depth-most}
+use Rattle.lemmas.proofs.Bounds.{Limits}
+use Rattle.timestamp.proofs.InLimits.{depth-most}
 use Rattle.holdback.specs.Queue.{frameStart, Figures, Stands}
 use Rattle.holdback.proofs.RoundTrip.{passing}
 use Rattle.holdback.proofs.Judging.{sound-few, sound-passes, sound-ordered, sound-overdue}

@@ -22,7 +22,7 @@ use Rattle.model.specs.Frame.{Frame, twoAt, encode, decode, wellFormed}
 use Rattle.model.specs.Order.{key, keyNear, compareFrames, before, countsDown}
 use Rattle.model.specs.Judge.{readingOf, placeFor}
 use Rattle.model.specs.Holdback.{heldBytes, held, passes, notEarly, notOverdue, sameOrigin, soundHoldback, encodeFrames, encodeHoldback}
-use Rattle.timestamp.proofs.InLimits.{Limits}
+use Rattle.lemmas.proofs.Bounds.{Limits}
 use Rattle.holdback.proofs.Shapes.{formed}
 use Rattle.holdback.specs.Queue.{frameStart, bytesAt, frameAt}
 use Rattle.holdback.specs.Seen.{InWindow, isMarked, slotOf, seenTable}
@@ -177,7 +177,7 @@ module _ (s : Setup) (v : ℕ) (b frame : List ℕ) (limits : Limits s) (below :
     keys-apart x m e =
         clash
         (same-origin-sym new x
-        ∙ same-key-origin (s .epsilon) (s .modulus) v x new e (limits .epsilon-least) (omega arith) below (held-windows s v b sound x m .r-below)
+        ∙ same-key-origin (s .epsilon) (s .modulus) v x new e (limits .epsilon-pos) (omega arith) below (held-windows s v b sound x m .r-below)
         (passing s frame ok .r-below))
         (any-false (sameOrigin new) fresh m)
 

@@ -17,7 +17,7 @@ use Rattle.model.specs.Frame.{Frame, decode}
 use Rattle.model.specs.Judge.{readingOf}
 use Rattle.model.specs.Holdback.{sameOrigin}
 use Rattle.holdback.specs.Seen.{InWindow, isMarked, rowLength, tableLength, slotOf, seenTable, marked}
-use Rattle.timestamp.proofs.InLimits.{Limits}
+use Rattle.lemmas.proofs.Bounds.{Limits}
 use Rattle.holdback.proofs.RoundTrip.{Passing, passing}
 use Rattle.lemmas.proofs.Reading.{near-high, near-injective}
 use Rattle.splice.specs.Bytes.{cleared, zeros}
@@ -34,7 +34,7 @@ fitting-window s v bytes fit =
 module _ (s : Setup) (v : ℕ) (limits : Limits s) (below : v < s .modulus) where
   reading-high : (f : Frame) → readingOf s v f < s .modulus + s .epsilon
   unfolding readingOf
-  reading-high f = near-high (s .epsilon) (s .modulus) v (f .stamp .r) (limits .epsilon-least) (omega arith)
+  reading-high f = near-high (s .epsilon) (s .modulus) v (f .stamp .r) (limits .epsilon-pos) (omega arith)
 
   pub slot-below : (f : Frame) → InWindow s v f → slotOf s v f < tableLength
   unfolding slotOf
@@ -43,7 +43,7 @@ module _ (s : Setup) (v : ℕ) (limits : Limits s) (below : v < s .modulus) wher
   same-reading : (f g : Frame) → InWindow s v f → InWindow s v g → readingOf s v f ≡ readingOf s v g → f .stamp .r ≡ g .stamp .r
   unfolding readingOf
   same-reading f g w x e =
-      near-injective (s .epsilon) (s .modulus) v (f .stamp .r) (g .stamp .r) (limits .epsilon-least) (omega arith) below (w .r-below) (x .r-below) e
+      near-injective (s .epsilon) (s .modulus) v (f .stamp .r) (g .stamp .r) (limits .epsilon-pos) (omega arith) below (w .r-below) (x .r-below) e
 
   same-near : (f g : Frame) → f .stamp .r ≡ g .stamp .r → readingOf s v f ≡ readingOf s v g
   unfolding readingOf

@@ -22,7 +22,7 @@ use Rattle.timestamp.specs.declared.ordering.Order.{Order}
 use Rattle.timestamp.specs.declared.ordering.Order.the-variants.{First, Same, After}
 use Rattle.timestamp.specs.declared.ordering.Rank.{Rank}
 use Rattle.timestamp.specs.Ranks.{orderOf, rankedFrame, Ranked}
-use Rattle.timestamp.proofs.InLimits.{Limits}
+use Rattle.lemmas.proofs.Bounds.{Limits}
 use Rattle.timestamp.proofs.Ordered.{Tags}
 use Rattle.holdback.proofs.Shapes.{Formed, formed}
 use Rattle.holdback.specs.Queue.{rankOf}
@@ -48,7 +48,7 @@ unfit-passes s v bytes r e z = rw (check-no s bytes r e z)
 
 pub reading-small : (s : Setup) (v : ℕ) (f : Frame) → Limits s → readingOf s v f < s .modulus + s .epsilon
 unfolding readingOf
-reading-small s v f limits = near-high (s .epsilon) (s .modulus) v (f .stamp .r) (limits .epsilon-least) (omega arith)
+reading-small s v f limits = near-high (s .epsilon) (s .modulus) v (f .stamp .r) (limits .epsilon-pos) (omega arith)
 
 pub summed : (s : Setup) (v : ℕ) (bytes : List ℕ) (reading c : ℕ) → Limits s → passes s bytes ≡ true
     → reading ≡ readingOf s v (decode (s .epsilon) bytes) → c ≡ decode (s .epsilon) bytes .stamp .c

@@ -19,7 +19,7 @@ use Rattle.model.specs.Setup.{Setup, depth}
 use Rattle.model.specs.Frame.{Frame, twoAt, decode, frameEnd, wellFormed}
 use Rattle.model.specs.Order.{before}
 use Rattle.model.specs.Holdback.{held, passes, sameOrigin, soundHoldback}
-use Rattle.timestamp.proofs.InLimits.{Limits}
+use Rattle.lemmas.proofs.Bounds.{Limits}
 use Rattle.holdback.specs.Queue.{frameStart, bytesAt, frameAt, Stands}
 use Rattle.holdback.specs.Sound.{fits, follows, isNew, frameSound, Walking, Between, Starting, Opened, openedQueue}
 use Rattle.holdback.specs.Seen.{InWindow, isMarked, marked, slotOf, seenTable, tableLength}

@@ -8,7 +8,7 @@ use mathlib.Core.List.{List, [], _∷_, _++_}
 use lib.Dec.{leb, ltb}
 use borrow.Author.Tests.{leb-true, ltb-true, le-leb, lt-ltb}
 use Rattle.laws.specs.Lists.{within}
-use Rattle.laws.proofs.Numbers.{and-left, and-right, and-intro}
+use Rattle.laws.proofs.Numbers.{and-left, and-right, and-intro, within-low, within-high}
 use Rattle.model.specs.Setup.{Setup, inLimits, leastModulus}
 use Rattle.model.specs.Question.{Question, ask, firstNo}
 use Rattle.lemmas.proofs.Bounds.{Limits}
@@ -33,14 +33,6 @@ pub no-cons : (holds : Bool) (k : ℕ) (qs : List Question) → holds ≡ false 
 unfolding firstNo
 no-cons holds k qs h = rw h
 
-pub within-low : (lo hi x : ℕ) → within lo hi x ≡ true → lo ≤ x
-unfolding within
-within-low lo hi x h = leb-true lo x (and-left (leb lo x) (leb x hi) h)
-
-pub within-high : (lo hi x : ℕ) → within lo hi x ≡ true → x ≤ hi
-unfolding within
-within-high lo hi x h = leb-true x hi (and-right (leb lo x) (leb x hi) h)
-
 pub limits-from : (s : Setup) → inLimits s ≡ true → Limits s
 unfolding inLimits leastModulus
 limits-from s h =
@@ -57,3 +49,12 @@ limits-from s h =
       modulus-most = within-high (6 * s .epsilon + s .delta + 1) 65535 (s .modulus) (and-left _ _ h₃);
       own-below = ltb-true (s .own) (s .n) (and-right (within (6 * s .epsilon + s .delta + 1) 65535 (s .modulus)) _ h₃);
     }
+
+-- what it sends is what the writer makes
+pub limits-to : (s : Setup) → Limits s → inLimits s ≡ true
+unfolding inLimits within leastModulus
+limits-to s l =
+    and-intro (and-intro (le-leb _ _ (l .n-pos)) (le-leb _ _ (l .n-most)))
+    (and-intro (and-intro (le-leb _ _ (l .epsilon-pos)) (le-leb _ _ (l .epsilon-most)))
+    (and-intro (le-leb _ _ (l .delta-most))
+    (and-intro (and-intro (le-leb _ _ (l .modulus-least)) (le-leb _ _ (l .modulus-most))) (lt-ltb _ _ (l .own-below)))))

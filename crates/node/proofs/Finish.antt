@@ -1,31 +1,31 @@
 -- The tick from its parts: what is opened, heard, counted, sent and delivered is the model's tick. Assumes nothing.
-use Prim.Native.Nat.{ℕ, zero, suc, _+_, _*_, _-_, _≤_, _<_}
+use Prim.Native.Nat.{ℕ, zero, suc, _+_, _≤_}
 use native.Mathlib.Omega.{arith}
 use mathlib.Core.Path.{_≡_, refl, sym, ap, _∙_}
 use mathlib.Core.Bool.{Bool, true, false, not, cond}
-use mathlib.Core.List.{List, [], _∷_, _++_}
+use mathlib.Core.List.{List, []}
 use lib.Dec.{leb, ltb, eqb}
 use lib.ListN.{length, getD}
 use borrow.Author.Tests.{leb-true, eqb-true}
-use Rattle.laws.specs.Lists.{select, overlay, tab, padded}
+use Rattle.laws.specs.Lists.{select, overlay}
 use Rattle.laws.proofs.Numbers.{and-left, and-right}
 use Rattle.laws.proofs.Lists.{getD-padded, tab-getD}
-use Rattle.model.specs.Setup.{Setup, inLimits, width, widest, longestFrame}
-use Rattle.model.specs.Timestamp.{Timestamp, trimmed, widened, soundTables, step, replaced, countOwn}
-use Rattle.model.specs.Frame.{Frame, encode, decode}
+use Rattle.model.specs.Setup.{Setup, inLimits, width, longestFrame}
+use Rattle.model.specs.Timestamp.{Timestamp, trimmed, widened, step, replaced, countOwn}
+use Rattle.model.specs.Frame.{Frame, encode}
 use Rattle.model.specs.Batch.{exactBatch, batchEntries}
-use Rattle.model.specs.Holdback.{held, soundHoldback, encodeFrames, encodeHoldback}
+use Rattle.model.specs.Holdback.{held, encodeFrames, encodeHoldback}
 use Rattle.model.specs.Question.{firstNo, askSetup}
 use Rattle.model.specs.Codec.{askPayload, frameOf}
 use Rattle.model.specs.Judge.{Heard, hear}
-use Rattle.model.specs.Tick.{Input, Output, holdbackSize, roomy, callQuestions, refusal, ownStamp, tablesSound, queueSound, repairOf, openingStamp, openingQueue, heardOf, newStamp, sentBytes, dueNow, deliveredOf, keptOf, takenCount, acceptance, tickBy, tick}
-use Rattle.lemmas.proofs.Bounds.{Limits, Sound, Opened}
-use Rattle.lemmas.proofs.Questions.{first-yes, other-yes, limits-from}
+use Rattle.model.specs.Tick.{Input, holdbackSize, roomy, callQuestions, refusal, ownStamp, tablesSound, queueSound, repairOf, openingStamp, openingQueue, heardOf, newStamp, sentBytes, dueNow, deliveredOf, keptOf, takenCount, acceptance, tick}
+use Rattle.lemmas.proofs.Bounds.{Limits}
+use Rattle.lemmas.proofs.Questions.{first-yes, other-yes}
 use Rattle.lemmas.proofs.Counts.{opened-step, opened-replaced, trimmed-wide, trimmed-widened}
 use Rattle.lemmas.proofs.OneTick.{Accepted, passes-questions, tick-by, hearing-end, new-sound}
 use Rattle.holdback.specs.Sound.{openedQueue}
 use Rattle.frame.specs.Lay.{Room, Laid}
-use Rattle.node.specs.States.{Timed, Stored, Attending, Listening, StampOpened, QueueOpened, HeardAll, ListenedAll, Sent, Closing, Delivered, stampSound, openedStamp, openedHeard, listenedAll, heardFrom, heardAll, sentBy}
+use Rattle.node.specs.States.{Timed, Attending, Listening, StampOpened, QueueOpened, HeardAll, ListenedAll, Sent, Closing, Delivered, stampSound, openedStamp, openedHeard, listenedAll, heardFrom, heardAll, sentBy}
 
 -- ---- the tables opened
 

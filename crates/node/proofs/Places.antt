@@ -4,38 +4,37 @@ use native.Mathlib.Nat.{mul-le-mul-right, mul-comm, suc-mul, add-mul, one-mul}
 use native.Mathlib.Numerals.{add-one}
 use native.Mathlib.Omega.{arith}
 use mathlib.Core.Path.{_≡_, refl, sym, ap, _∙_}
-use mathlib.Core.Bool.{Bool, true, false, cond}
-use mathlib.Core.List.{List, [], _∷_, _++_, map, List·Memᴰ}
-use lib.Dec.{leb, eqb}
-use lib.ListN.{length, take, drop, length-drop, length-append, length-map}
+use mathlib.Core.Bool.{true, false}
+use mathlib.Core.List.{List, [], _++_, List·Memᴰ}
+use lib.Dec.{leb}
+use lib.ListN.{length, take, drop, length-drop}
 use lib.Seq.{take-all}
 use borrow.Author.Tests.{le-leb}
 use Rattle.laws.proofs.Numbers.{and-left, and-right}
-use Rattle.laws.specs.Lists.{every, any, chained, apart, joined, overlay, insertAt}
-use Rattle.laws.proofs.Lists.{every-mem, every-of-mem, every-map, leading-le, length-overlay, length-joined-le, length-insertAt}
-use Rattle.model.specs.Setup.{Setup, inLimits, width, depth, longestFrame, holdbackLength}
+use Rattle.laws.specs.Lists.{every, joined, overlay, insertAt}
+use Rattle.laws.proofs.Lists.{every-mem, every-of-mem, every-map, leading-le, length-overlay, length-joined-le}
+use Rattle.model.specs.Setup.{Setup, width, depth, longestFrame, holdbackLength}
 use Rattle.model.specs.Frame.{Frame, twoAt, twoBytes, wellFormed, encode, decode, frameEnd}
 use Rattle.model.specs.Order.{before}
-use Rattle.model.specs.Holdback.{heldBytes, held, passes, notEarly, notOverdue, sameOrigin, soundHoldback, encodeFrames, encodeHoldback}
-use Rattle.model.specs.Judge.{placeFor, readingOf, judgeQuestions}
+use Rattle.model.specs.Holdback.{heldBytes, held, passes, soundHoldback, encodeFrames, encodeHoldback}
+use Rattle.model.specs.Judge.{placeFor, judgeQuestions}
 use Rattle.model.specs.Tick.{holdbackSize}
 use Rattle.lemmas.proofs.Bounds.{Limits, FrameOk, QueueOk}
 use Rattle.lemmas.proofs.Questions.{limits-from}
-use Rattle.holdback.proofs.Shapes.{formed}
-use Rattle.lemmas.proofs.RoundTrip.{form-passed, passes-formed, passes-encode, two-at-encode, held-encode, held-frames, held-holdback, frame-fits, length-holdback}
+use Rattle.lemmas.proofs.RoundTrip.{formed-from, form-passed, passes-formed, passes-encode, two-at-encode, held-encode, held-frames, held-holdback, frame-fits, length-holdback}
 use Rattle.lemmas.proofs.Queue.{Passed, judged-passed, sound-queue, queue-none, queue-take, queue-room, queue-few, queue-sound}
-use Rattle.holdback.specs.Queue.{frameStart, bytesAt, Figures}
+use Rattle.holdback.specs.Queue.{frameStart}
 use Rattle.holdback.specs.Seen.{InWindow, seenTable, marked}
 use Rattle.holdback.specs.Sound.{openedQueue}
 use Rattle.holdback.proofs.Frames.{start-zero, start-suc, start-longest, start-within, FormedUpTo}
 use Rattle.holdback.proofs.Changes.{formed-frames, length-held}
 use Rattle.holdback.proofs.Seen.{seen-insert}
-use Rattle.node.specs.States.{Timed, Stored, Queued, Reached, Taking, Took, QueueOpened}
+use Rattle.node.specs.States.{Timed, Queued, Reached, Taking, QueueOpened}
 use Rattle.node.proofs.Verdicts.{taken-passed, late-window}
 
 -- ---- where frame index starts
 
-module _ (epsilon : ℕ) (s : List ℕ) (index : ℕ) (r : Reached epsilon s index) where
+module _ (epsilon : ℕ) (s : List ℕ) (from start index : ℕ) (r : Reached epsilon s from start index) where
   up-to : (k : ℕ) → k ≤ index → FormedUpTo epsilon s k
   up-to k h = λ i l. formed-frames epsilon s (r .formed) i (omega (arith, r .inside))
 
@@ -156,7 +155,7 @@ module _ (s : Setup) (v : ℕ) (buffer : List ℕ) (place : ℕ) (bytes : List �
       let room : length queue < depth (s .n) (s .epsilon) (s .delta) = queue-room s v queue (k .limits) (k .below) (k .ok) in
       let long : length queue ≡ twoAt buffer 0 = length-held (s .epsilon) buffer in
       let one : twoAt buffer 0 + 1 ≤ depth (s .n) (s .epsilon) (s .delta) = omega arith in
-      let shape = formed (s .epsilon) bytes (k .form) in
+      let shape = formed-from (s .epsilon) bytes (k .form) in
       let many : (twoAt buffer 0 + 1) * (39 + 2 * s .epsilon) ≤ depth (s .n) (s .epsilon) (s .delta) * (39 + 2 * s .epsilon) = mul-le-mul-right (39 + 2 * s .epsilon) one in
       omega (arith, mul-comm (depth (s .n) (s .epsilon) (s .delta)) (39 + 2 * s .epsilon), add-mul (twoAt buffer 0) 1 (39 + 2 * s .epsilon), one-mul (39 + 2 * s .epsilon))
 

@@ -2,26 +2,24 @@
 use Prim.Native.Nat.{ℕ, zero, suc, _+_, _*_, _-_, _≤_, _<_}
 use native.Mathlib.Nat.{zero-add, suc-add}
 use native.Mathlib.Omega.{arith}
-use mathlib.Core.Path.{_≡_, refl, sym, ap, _∙_}
-use mathlib.Core.Bool.{Bool, true, false}
+use mathlib.Core.Path.{_≡_, sym, ap, _∙_}
+use mathlib.Core.Bool.{true, false}
 use mathlib.Core.List.{List, [], _∷_}
-use lib.Dec.{leb}
 use lib.ListN.{length, take, drop}
 use lib.Seq.{drop-drop, take-nil}
 use borrow.Author.Tests.{le-leb, lt-leb}
-use Rattle.model.specs.Setup.{Setup, inLimits, width}
+use Rattle.model.specs.Setup.{Setup, width}
 use Rattle.model.specs.Timestamp.{sum, near, atMost}
 use Rattle.model.specs.Frame.{Frame, wellFormed, decode}
-use Rattle.model.specs.Question.{Question, ask, firstNo, frameQuestions, askForm, askRange, askStamp}
+use Rattle.model.specs.Question.{ask, firstNo, frameQuestions, askForm}
 use Rattle.model.specs.Holdback.{notEarly, passes}
 use Rattle.model.specs.Judge.{readingOf, askLate, askEarly, askCounts}
 use Rattle.lemmas.proofs.Bounds.{Limits, FrameOk}
 use Rattle.lemmas.proofs.Questions.{first-yes, yes-cons, no-cons, limits-from}
-use Rattle.lemmas.proofs.RoundTrip.{passes-decode}
-use Rattle.holdback.proofs.Shapes.{formed}
+use Rattle.lemmas.proofs.RoundTrip.{formed-from, passes-decode}
 use Rattle.lemmas.proofs.Reading.{near-high}
 use Rattle.node.specs.Views.{timeQuestions}
-use Rattle.node.specs.States.{Timed, Readable}
+use Rattle.node.specs.States.{Readable}
 
 module _ (s : Setup) (v : ℕ) (f : Frame) (reading : ℕ) (e : reading ≡ near (s .epsilon) (s .modulus) v (f .stamp .r)) where
   pub late-no : reading + (s .delta + s .epsilon) < s .modulus → 13 ≡ firstNo (timeQuestions s v f)
@@ -70,12 +68,12 @@ pub record Given (s : Setup) (v : ℕ) (bytes : List ℕ) : Type 0 where
   pub long : 7 + 2 * s .epsilon ≤ length bytes
 
 pub given : (s : Setup) (v : ℕ) (bytes : List ℕ) → Readable s v bytes → Given s v bytes
-unfolding frameQuestions askForm passes
+unfolding frameQuestions askForm passes width
 given s v bytes p =
     let lim : Limits s = limits-from s (p .timed .limits) in
     let ok : FrameOk s (decode (s .epsilon) bytes) = passes-decode s bytes lim (rw (p .passed)) in
     let form : wellFormed (s .epsilon) bytes ≡ true = first-yes (wellFormed (s .epsilon) bytes) 9 _ (p .passed) in
-    let shape = formed (s .epsilon) bytes form in
+    let shape = formed-from (s .epsilon) bytes form in
     record {
       limits = lim;
       below = p .timed .below;

@@ -1,29 +1,26 @@
 -- The hearing loop: what is heard so far, and what hearing the rest makes of it, is what hearing the whole batch makes. Assumes nothing.
-use Prim.Native.Nat.{ℕ, zero, suc, _+_, _*_, _-_, _≤_, _<_}
+use Prim.Native.Nat.{ℕ, suc, _+_, _-_, _≤_, _<_}
 use native.Mathlib.Nat.{sub-zero, add-zero}
 use native.Mathlib.Numerals.{add-one}
 use native.Mathlib.Omega.{arith}
-use mathlib.Core.Path.{_≡_, refl, sym, ap, ap₂, _∙_}
-use mathlib.Core.Bool.{Bool, true, false, cond}
+use mathlib.Core.Path.{_≡_, refl, sym, ap, _∙_}
 use mathlib.Core.List.{List, [], _∷_, _++_}
 use lib.Dec.{eqb}
 use lib.ListN.{length, take, drop, set, length-set, length-append, take-append-drop}
 use lib.Seq.{take-suc-set, drop-set-lt, length-take-le, drop-drop}
 use borrow.Author.Tests.{ne-eqb}
-use Rattle.laws.specs.Lists.{select, overlay, insertAt}
+use Rattle.laws.specs.Lists.{select, overlay}
 use Rattle.laws.proofs.Lists.{select-append, select-no}
-use Rattle.model.specs.Setup.{Setup, width}
+use Rattle.model.specs.Setup.{Setup}
 use Rattle.model.specs.Timestamp.{Timestamp, trimmed, widened, absorb}
 use Rattle.model.specs.Frame.{Frame, decode}
-use Rattle.model.specs.Batch.{exactBatch, batchEntries}
 use Rattle.model.specs.Holdback.{held}
 use Rattle.model.specs.Judge.{Heard, Verdict, taken, refused, judge, hearBy, hearOne, hear, readingOf}
 use Rattle.model.specs.Tick.{takenCount}
-use Rattle.lemmas.proofs.Bounds.{Limits}
 use Rattle.lemmas.proofs.Counts.{trimmed-widened, absorb-wide}
 use Rattle.batch.specs.Walk.{countOf, entryAt, nextAt, walked}
 use Rattle.batch.proofs.Walk.{batch-walked}
-use Rattle.node.specs.States.{Queued, Took, Listening, heardFrom, heardAll, HeardAll}
+use Rattle.node.specs.States.{Queued, Took, Listening, heardAll, HeardAll}
 use Rattle.node.proofs.Verdicts.{refused-number}
 
 -- what is heard so far, as the buffers and the stamp have it

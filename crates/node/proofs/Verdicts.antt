@@ -1,10 +1,10 @@
 -- One frame's verdict by the number of its first no, as the code finds it. Assumes nothing.
-use Prim.Native.Nat.{ℕ, zero, suc, _+_, _*_, _-_, _≤_, _<_}
+use Prim.Native.Nat.{ℕ, zero, suc, _+_, _≤_, _<_}
 use native.Mathlib.Omega.{arith}
 use mathlib.Core.Path.{_≡_, refl, sym, ap, _∙_}
-use mathlib.Core.Bool.{Bool, true, false, not, cond}
-use mathlib.Core.List.{List, [], _∷_, _++_, List·Memᴰ}
-use lib.Dec.{leb, ltb, eqb}
+use mathlib.Core.Bool.{Bool, true, false, cond}
+use mathlib.Core.List.{List, [], _∷_, _++_}
+use lib.Dec.{leb, eqb}
 use lib.ListN.{length, getD}
 use borrow.Author.Tests.{lt-ltb, le-ltb, leb-true}
 use Rattle.laws.specs.Lists.{any, every}
@@ -12,21 +12,19 @@ use Rattle.laws.proofs.Numbers.{and-left, and-right}
 use Rattle.laws.proofs.Lists.{length-tab}
 use Rattle.model.specs.Setup.{Setup, depth}
 use Rattle.model.specs.Frame.{Frame, decode}
-use Rattle.model.specs.Question.{Question, ask, firstNo, frameQuestions, askForm, askRange, askStamp}
-use Rattle.model.specs.Holdback.{held, sameOrigin, notOverdue, soundHoldback}
+use Rattle.model.specs.Question.{Question, firstNo, frameQuestions, askForm, askRange, askStamp}
+use Rattle.model.specs.Holdback.{held, sameOrigin}
 use Rattle.model.specs.Judge.{Verdict, taken, refused, verdictNumber, verdictPlace, verdictBy, judge, judgeQuestions, placeQuestions, askLate, askEarly, askCounts, askRepeat, askRoom, placeFor, readingOf}
 use Rattle.lemmas.proofs.Bounds.{Limits, FrameOk, QueueOk}
-use Rattle.lemmas.proofs.Questions.{limits-from, yes-cons, no-cons, first-yes}
+use Rattle.lemmas.proofs.Questions.{limits-from, first-yes}
 use Rattle.lemmas.proofs.Queue.{sound-queue, queue-window}
 use Rattle.lemmas.proofs.Queue as queues
-use Rattle.timestamp.proofs.InLimits.{limits-of}
 use Rattle.holdback.specs.Seen.{InWindow, seenTable, isMarked, slotOf}
 use Rattle.holdback.proofs.Seen.{seen-at}
 use Rattle.node.specs.declared.verdict.Verdict as codes
 use Rattle.node.specs.declared.verdict.Verdict.the-variants.{Taken, Refused}
 use Rattle.node.specs.Views.{verdictOf, timeQuestions}
-use Rattle.node.specs.States.{Timed, Readable, Queued}
-use Rattle.node.proofs.Times.{Given, given}
+use Rattle.node.specs.States.{Timed, Queued}
 
 -- ---- lists of questions, one after the other
 
@@ -170,7 +168,7 @@ marked-is s v buffer table f t q w =
     let lim : Limits s = limits-from s (t .limits) in
     let ok : QueueOk s v (held (s .epsilon) buffer) = sound-queue s v buffer lim (q .sound) in
     ap (λ (l : List ℕ). eqb (getD l (slotOf s v f) 0) 1) (q .table-is)
-    ∙ (ap (λ (x : ℕ). eqb x 1) (seen-at s v (limits-of s (t .limits)) (t .below) (held (s .epsilon) buffer) f (λ g m. window-of s v g (queue-window s v (held (s .epsilon) buffer) lim ok g m) (ok .frames g m)) w)
+    ∙ (ap (λ (x : ℕ). eqb x 1) (seen-at s v (limits-from s (t .limits)) (t .below) (held (s .epsilon) buffer) f (λ g m. window-of s v g (queue-window s v (held (s .epsilon) buffer) lim ok g m) (ok .frames g m)) w)
     ∙ marked-by (any (sameOrigin f) (held (s .epsilon) buffer)))
 
 pub table-long : (s : Setup) (v : ℕ) (queue : List Frame) → length (seenTable s v queue) ≡ 2048

@@ -8,13 +8,14 @@ use lib.ListN.{length}
 use Rattle.laws.specs.Lists.{every, select, overlay, insertAt}
 use Rattle.model.specs.Setup.{Setup, inLimits}
 use Rattle.model.specs.Timestamp.{Timestamp, trimmed, widened, soundTables, step, replaced, absorb}
-use Rattle.model.specs.Frame.{Frame, twoAt, wellFormed, encode, decode}
+use Rattle.model.specs.Frame.{twoAt, wellFormed, encode, decode}
 use Rattle.model.specs.Batch.{exactBatch, batchEntries}
 use Rattle.model.specs.Holdback.{heldBytes, held, soundHoldback, encodeFrames, encodeHoldback}
 use Rattle.model.specs.Question.{firstNo, frameQuestions}
 use Rattle.model.specs.Codec.{frameOf}
 use Rattle.model.specs.Judge.{Heard, judge, taken, readingOf, hear}
 use Rattle.model.specs.Tick.{holdbackSize, dueNow, takenCount}
+use Rattle.holdback.specs.Queue.{frameStart}
 use Rattle.holdback.specs.Seen.{seenTable}
 use Rattle.holdback.specs.Sound.{openedQueue}
 
@@ -39,12 +40,14 @@ pub record Queued (s : Setup) (v : ℕ) (buffer table : List ℕ) : Type 0 where
   pub sound : soundHoldback s v buffer ≡ true
   pub table-is : table ≡ seenTable s v (held (s .epsilon) buffer)
 
--- a place in a queue of well-formed frames, or its end
-pub record Reached (epsilon : ℕ) (buffer : List ℕ) (index : ℕ) : Type 0 where
+-- a place in a queue of well-formed frames, or its end, and an earlier one with where it stands
+pub record Reached (epsilon : ℕ) (buffer : List ℕ) (from start index : ℕ) : Type 0 where
   pub narrow : epsilon ≤ 16
   pub two : 2 ≤ length buffer
   pub formed : every (wellFormed epsilon) (heldBytes epsilon buffer) ≡ true
   pub inside : index ≤ twoAt buffer 0
+  pub order : from ≤ index
+  pub begins : start ≡ frameStart epsilon buffer from
 
 -- a frame that is to be taken, at its place
 pub record Taking (s : Setup) (v : ℕ) (buffer : List ℕ) (place : ℕ) (bytes : List ℕ) : Type 0 where

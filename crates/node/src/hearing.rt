@@ -1,5 +1,5 @@
 // 01, tick 3: "Each frame of the bundle is judged in turn".
-use crate::judging::judge;
+use crate::questions::judge;
 use crate::queue::place_frame;
 use crate::verdict::Verdict;
 use crate::verdict::number_of;
@@ -12,8 +12,6 @@ use holdback::mark;
 use timestamp::Setup;
 use timestamp::Timestamp;
 use timestamp::near;
-ghost use mathlib.Core.Path.{_≡_};
-ghost use Rattle.model.specs.Timestamp.{trimmed, widened};
 ghost use Rattle.timestamp.specs.Views.{setupOf, stampOf};
 ghost use Rattle.node.specs.States.{Timed, Queued, Taking, Took, Listening, HeardAll};
 

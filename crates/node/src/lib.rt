@@ -1,18 +1,14 @@
 // One tick of a node: the call's questions, one frame judged, the hearing, sending and delivering.
 mod call;
 mod hearing;
-mod judging;
+mod questions;
 mod queue;
 mod sending;
 mod ticking;
 mod verdict;
 
 pub use call::check_call;
-pub use hearing::Heard;
-pub use hearing::hear;
-pub use judging::check_time;
-pub use judging::judge;
-pub use sending::send_frame;
+pub use questions::judge;
 pub use ticking::Answer;
 pub use ticking::tick;
 pub use verdict::Verdict;

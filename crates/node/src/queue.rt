@@ -17,13 +17,13 @@ ghost use Rattle.holdback.specs.Queue.{frameStart};
 ghost use Rattle.holdback.specs.Seen.{tableLength};
 ghost use Rattle.node.specs.States.{Timed, Stored, Reached, Taking, Closing, QueueOpened, Delivered};
 
-// Where frame index of a queue starts; at its count, where the frames end.
-fn start_of(epsilon: usize, buf: &[u8], index: usize) -> usize
-    requires { ⌜ Reached epsilon (now buf) index ⌝ }
+// Where frame index of a queue starts; at its count, where the frames end. An earlier frame, from, starts at start.
+fn start_of(epsilon: usize, buf: &[u8], from: usize, start: usize, index: usize) -> usize
+    requires { ⌜ Reached epsilon (now buf) from start index ⌝ }
     ensures { λ r. ⌜ r ≡ frameStart epsilon (now (buf .entry)) index ⌝ }
 {
-    let mut i = 0;
-    let mut at = 2;
+    let mut i = from;
+    let mut at = start;
     while i < index {
         at += frame_end(epsilon, &buf[at..]);
         i += 1;
@@ -54,8 +54,8 @@ pub fn place_frame(setup: Setup, clock: usize, place: usize, s: &[u8], holdback:
 {
     let epsilon = setup.epsilon as usize;
     let count = two_at(holdback, 0);
-    let at = start_of(epsilon, holdback, place);
-    let end = start_of(epsilon, holdback, count);
+    let at = start_of(epsilon, holdback, 0, 2, place);
+    let end = start_of(epsilon, holdback, place, at, count);
     put(epsilon, holdback, count, end, Place { index: place, at }, s);
 }
 
@@ -66,6 +66,6 @@ pub fn deliver(setup: Setup, clock: usize, holdback: &mut [u8], delivery: &mut [
 {
     let epsilon = setup.epsilon as usize;
     let count = two_at(holdback, 0);
-    let end = start_of(epsilon, holdback, count);
+    let end = start_of(epsilon, holdback, 0, 2, count);
     cut_due(setup, clock, holdback, count, end, delivery)
 }

@@ -12,7 +12,7 @@ ghost use Rattle.model.specs.Tick as model;
 ghost use Rattle.timestamp.specs.Views.{setupOf, stampOf};
 ghost use Rattle.node.specs.Views.{inputOf};
 ghost use Rattle.node.specs.Answers.{outputOf};
-ghost use Rattle.node.specs.States.{Timed, Stored, StampOpened, Attending, ListenedAll};
+ghost use Rattle.node.specs.States.{Timed, StampOpened, Attending, ListenedAll};
 
 // The stamp with which hearing starts, and its share of the repair.
 pub struct Opening {

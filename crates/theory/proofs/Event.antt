@@ -21,6 +21,7 @@ use Rattle.model.specs.Run.{Node, Call, inputOf, isAccepted, outputOf, doneOf, 
 use Rattle.theory.specs.Premises.{withOwn}
 use Rattle.theory.specs.Demand3.{newTimestamp, written}
 use Rattle.lemmas.proofs.Bounds.{Limits, Sound, Opened, FrameOk}
+use Rattle.lemmas.proofs.Questions.{limits-to}
 use Rattle.lemmas.proofs.Counts.{trimmed-widened, opened-step, opened-replaced, trimmed-wide}
 use Rattle.lemmas.proofs.RoundTrip.{decode-encode, length-encode}
 use Rattle.theory.proofs.Readers.{written-to}
@@ -210,15 +211,6 @@ unfolding nextQueue
 leaves-queue s node call c =
     next-queue (inputOf node call) (nextInput s (nodeAfter node (outputOf node call))) (accepted-input node call (c .accepted))
     (after-setup s node call c) (after-turn s node call c) (after-holdback s node call)
-
--- what it sends is what the writer makes
-pub limits-to : (s : Setup) → Limits s → inLimits s ≡ true
-unfolding inLimits within leastModulus
-limits-to s l =
-    and-intro (and-intro (le-leb _ _ (l .n-pos)) (le-leb _ _ (l .n-most)))
-    (and-intro (and-intro (le-leb _ _ (l .epsilon-pos)) (le-leb _ _ (l .epsilon-most)))
-    (and-intro (le-leb _ _ (l .delta-most))
-    (and-intro (and-intro (le-leb _ _ (l .modulus-least)) (le-leb _ _ (l .modulus-most))) (lt-ltb _ _ (l .own-below)))))
 
 written-is :
     (s : Setup) (node : Node) (call : Call) → Due-call s node call

@@ -64,14 +64,6 @@ pub trimmed-take : (epsilon : ℕ) (t : Timestamp) → width epsilon ≤ length 
 unfolding trimmed
 trimmed-take epsilon t h = rw (tab-take (width epsilon) (t .kn) 0 h)
 
--- what was widened is had back
-pub trimmed-widened : (epsilon : ℕ) (t : Timestamp) → length (t .kn) ≡ width epsilon → width epsilon ≤ widest
-    → trimmed epsilon (widened t) ≡ t
-unfolding widened
-trimmed-widened epsilon t e h =
-    let long : width epsilon ≤ length (padded widest (t .kn)) = omega (arith, length-padded widest (t .kn) (omega arith)) in
-    rw (trimmed-take epsilon (widened t) long, ← e, take-padded)
-
 -- what a loop that copies a part of s has made after one turn more
 pub copied-next : (w : ℕ) (s kn : List ℕ) (from count i : ℕ) → from + count ≤ length s → count ≤ w → i < count
     → kn ≡ padded w (take i (drop from s)) → set kn i (getD s (from + i) 0) ≡ padded w (take (i + 1) (drop from s))

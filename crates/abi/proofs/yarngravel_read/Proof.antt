@@ -1,13 +1,11 @@
 -- `abi::yarngravel_read` meets its contract. Assumes nothing.
-use Prim.Native.Nat.{ℕ, _+_, _*_, _-_, _≤_, _<_}
+use Prim.Native.Nat.{_+_, _*_, _-_}
 use native.Mathlib.Omega.{arith}
 use mathlib.Core.Path.{_≡_, refl, _∙_, sym, ap}
-use mathlib.Core.List.{List}
 use lib.ListN.{length}
 use borrow.Author.Needs.{needs}
 use Rattle.model.specs.Setup.{Setup}
 use Rattle.model.specs.Codec.{ReadAnswer, read}
-use Rattle.timestamp.specs.Views.{stampOf}
 use Rattle.abi.specs.Packing.{setupBy, tablesBytes}
 use Rattle.abi.proofs.Words.{Fair, fair, read-refused-word, read-refused-tables, read-word, read-tables}
 use Rattle.abi.proofs.yarngravel_read.Statement.{statement}

@@ -1,13 +1,9 @@
 -- `abi::yarngravel_tick` meets its contract. Assumes nothing.
-use Prim.Native.Nat.{ℕ, _<_}
 use native.Mathlib.Omega.{arith}
-use mathlib.Core.Path.{_≡_, _∙_, sym, ap}
-use mathlib.Core.List.{List}
-use lib.ListN.{length, getD}
+use mathlib.Core.Path.{_∙_, sym, ap}
 use borrow.Author.Needs.{needs}
 use Rattle.model.specs.Timestamp.{Timestamp}
-use Rattle.model.specs.Tick.{Input, Output, tick}
-use Rattle.timestamp.specs.Views.{stampOf}
+use Rattle.model.specs.Tick.{Input, tick}
 use Rattle.node.specs.Answers.{answerOf}
 use Rattle.abi.specs.Packing.{setupBy, tablesAt, tablesBytes}
 use Rattle.abi.proofs.Words.{Small, answer-small, refused-packed, accepted-packed}

@@ -1,7 +1,7 @@
 -- `holdback::compare::comes_before` meets its contract: the comparison of the two keys answers First. Assumes nothing.
 use native.Mathlib.Omega.{arith}
 use Rattle.timestamp.specs.Views.{setupOf}
-use Rattle.timestamp.proofs.InLimits.{limits-of}
+use Rattle.lemmas.proofs.Questions.{limits-from}
 use mathlib.Core.Path.{refl}
 use denote.Enum.Declared
 use Rattle.timestamp.proofs.Ordered.{Tags}
@@ -62,7 +62,7 @@ part-compare-ranked-end-2 c =
 compare-ranked-requires : tie.Need-compare-ranked-requires
 compare-ranked-requires c κs =
     let start = c .before .before .before .before .before .before .before in
-    let limits = limits-of (setupOf (start .args .s)) (start .pre .0 .0) in (
+    let limits = limits-from (setupOf (start .args .s)) (start .pre .0 .0) in (
       ranked (setupOf (start .args .s)) (start .args .v) (start .args .f .now) (c .before .before .before .rank-of .result) limits (start .pre .1 .0) (c .before .before .before .rank-of .ensures),
       ranked (setupOf (start .args .s)) (start .args .v) (start .args .g .now) (c .before .before .rank-of2 .result) limits (start .pre .1 .1) (c .before .before .rank-of2 .ensures),
     )

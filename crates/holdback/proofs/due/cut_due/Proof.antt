@@ -1,7 +1,7 @@
 -- `holdback::due::cut_due` meets its contract: what is due is the prefix, and the rest is not. Assumes nothing.
 use native.Mathlib.Omega.{arith}
 use Rattle.timestamp.specs.Views.{setupOf}
-use Rattle.timestamp.proofs.InLimits.{limits-of}
+use Rattle.lemmas.proofs.Questions.{limits-from}
 use mathlib.Core.Path.{ap, _∙_}
 use mathlib.Core.List.{List}
 use lib.ListN.{length}
@@ -23,7 +23,7 @@ due-prefix-requires c κs = search needs
 write-prefix-requires : tie.Need-write-prefix-requires
 write-prefix-requires c κs =
     let start = c .before .before .before .before .before .before .before in
-    let limits = limits-of (setupOf (start .args .s)) (start .pre .0 .0) in
+    let limits = limits-from (setupOf (start .args .s)) (start .pre .0 .0) in
     let s = setupOf (start .args .s) in
     let b = start .args .buf .now in
     let sound = start .pre .1 .0 .0 in
@@ -35,7 +35,7 @@ write-prefix-requires c κs =
 cut-prefix-requires : tie.Need-cut-prefix-requires
 cut-prefix-requires c κs =
     let start = c .before .before .before .before .before .before .before .before .before .before .before in
-    let limits = limits-of (setupOf (start .args .s)) (start .pre .0 .0) in
+    let limits = limits-from (setupOf (start .args .s)) (start .pre .0 .0) in
     let s = setupOf (start .args .s) in
     let b = start .args .buf .now in
     let sound = start .pre .1 .0 .0 in
@@ -53,7 +53,7 @@ same-length-2 c = search needs
 returns : tie.Need-returns
 returns c =
     let start = c .before .before .before .before .before .before .before .before .before .before .before .before .before .before in
-    let limits = limits-of (setupOf (start .args .s)) (start .pre .0 .0) in
+    let limits = limits-from (setupOf (start .args .s)) (start .pre .0 .0) in
     let s = setupOf (start .args .s) in
     let b = start .args .buf .now in
     let sound = start .pre .1 .0 .0 in

@@ -1,7 +1,7 @@
 -- `holdback::origins::slot` meets its contract: a station has its row, a reading its place in it. Assumes nothing.
 use native.Mathlib.Omega.{arith}
 use Rattle.timestamp.specs.Views.{setupOf}
-use Rattle.timestamp.proofs.InLimits.{limits-of}
+use Rattle.lemmas.proofs.Questions.{limits-from}
 use Rattle.model.specs.Frame.{decode}
 use Rattle.holdback.proofs.Testing.{reading-small}
 use Rattle.holdback.proofs.Seen.{slot-by, slot-below}
@@ -30,7 +30,7 @@ station-of-requires c κs = search needs
 mul-result : tie.Need-mul-result
 mul-result c =
     let start = c .before .before .before .before .before in
-    let limits = limits-of (setupOf (start .args .s)) (start .pre .0 .0) in
+    let limits = limits-from (setupOf (start .args .s)) (start .pre .0 .0) in
     let window = start .pre .1 in
     let frame = decode (start .args .s .epsilon) (start .args .frame .now) in
     let station = c .station-of .ensures (start .args .s .epsilon) in
@@ -41,7 +41,7 @@ mul-result c =
 add-result : tie.Need-add-result
 add-result c =
     let start = c .before .before .before .before .before in
-    let limits = limits-of (setupOf (start .args .s)) (start .pre .0 .0) in
+    let limits = limits-from (setupOf (start .args .s)) (start .pre .0 .0) in
     let window = start .pre .1 in
     let frame = decode (start .args .s .epsilon) (start .args .frame .now) in
     let station = c .station-of .ensures (start .args .s .epsilon) in
@@ -58,7 +58,7 @@ sub-result c = search needs
 add-result-2 : tie.Need-add-result-2
 add-result-2 c =
     let start = c .before .before .before .before .before .before in
-    let limits = limits-of (setupOf (start .args .s)) (start .pre .0 .0) in
+    let limits = limits-from (setupOf (start .args .s)) (start .pre .0 .0) in
     let window = start .pre .1 in
     let frame = decode (start .args .s .epsilon) (start .args .frame .now) in
     let station = c .before .station-of .ensures (start .args .s .epsilon) in
@@ -69,7 +69,7 @@ add-result-2 c =
 returns : tie.Need-returns
 returns c =
     let start = c .before .before .before .before .before .before in
-    let limits = limits-of (setupOf (start .args .s)) (start .pre .0 .0) in
+    let limits = limits-from (setupOf (start .args .s)) (start .pre .0 .0) in
     let window = start .pre .1 in
     let frame = decode (start .args .s .epsilon) (start .args .frame .now) in
     let station = c .before .station-of .ensures (start .args .s .epsilon) in

@@ -2,7 +2,7 @@
 use borrow.Author.Needs.{needs}
 use native.Mathlib.Omega.{arith}
 use Rattle.timestamp.specs.Views.{setupOf}
-use Rattle.timestamp.proofs.InLimits.{limits-of}
+use Rattle.lemmas.proofs.Questions.{limits-from}
 use mathlib.Core.Path.{_≡_}
 use Prim.Native.Nat.{_+_, _-_, _<_}
 use Rattle.model.specs.Frame.{twoAt, decode}
@@ -51,7 +51,7 @@ part-frame-end-end c = search needs
 frame-end-requires : tie.Need-frame-end-requires Inv-loop μ-loop
 frame-end-requires c κs =
     let start = c .before .before .before .before .before .before in
-    let limits = limits-of (setupOf (start .args .s)) (start .pre .0 .0) in
+    let limits = limits-from (setupOf (start .args .s)) (start .pre .0 .0) in
     limits .epsilon-most
 
 add-next : tie.Need-add-next Inv-loop μ-loop

@@ -1,7 +1,7 @@
 -- `holdback::soundness::judge_at` meets its contract: each test that fails makes the frame unsound, and all together make it sound. Assumes nothing.
 use native.Mathlib.Omega.{arith}
 use Rattle.timestamp.specs.Views.{setupOf}
-use Rattle.timestamp.proofs.InLimits.{limits-of}
+use Rattle.lemmas.proofs.Questions.{limits-from}
 use Prim.Native.Nat.{_-_}
 use lib.ListN.{length, take, drop}
 use Rattle.holdback.proofs.Frames.{end-small, bytes-take, bytes-drop}
@@ -27,13 +27,13 @@ part-frame-end-end c = search needs
 frame-end-requires : tie.Need-frame-end-requires
 frame-end-requires c κs =
     let start = c .before .before .before .before in
-    let limits = limits-of (setupOf (start .args .s)) (start .pre .0 .0) in
+    let limits = limits-from (setupOf (start .args .s)) (start .pre .0 .0) in
     limits .epsilon-most
 
 add-next : tie.Need-add-next
 add-next c =
     let start = c .before .before .before .before .before in
-    let limits = limits-of (setupOf (start .args .s)) (start .pre .0 .0) in
+    let limits = limits-from (setupOf (start .args .s)) (start .pre .0 .0) in
     let h = at-inside (start .pre .1) in
     let b = start .args .buf .now in
     let at = start .args .at in
@@ -105,7 +105,7 @@ returns-4 c =
     let size = c .before .before .before .before .before .before .before .before .before .frame-end .result in
     let ends = c .before .before .before .before .before .before .before .before .before .frame-end .ensures in
     let fit = fit-of walk size ends (c .before .before .before .before .before .before .fits2 .result) (c .before .before .before .before .before .before .fits2 .ensures) (c .before .before .before .before .before .if2 .left) in
-    let limits = limits-of (setupOf (start .args .s)) (start .pre .0 .0) in
+    let limits = limits-from (setupOf (start .args .s)) (start .pre .0 .0) in
     judged-repeated walk size ends fit limits (start .pre .0 .1) (c .before .repeats .result) (c .before .repeats .ensures) (c .if4 .taken)
 
 returns-5 : tie.Need-returns-5
@@ -115,7 +115,7 @@ returns-5 c =
     let size = c .before .before .before .before .before .before .before .before .before .frame-end .result in
     let ends = c .before .before .before .before .before .before .before .before .before .frame-end .ensures in
     let fit = fit-of walk size ends (c .before .before .before .before .before .before .fits2 .result) (c .before .before .before .before .before .before .fits2 .ensures) (c .before .before .before .before .before .if2 .left) in
-    let limits = limits-of (setupOf (start .args .s)) (start .pre .0 .0) in
+    let limits = limits-from (setupOf (start .args .s)) (start .pre .0 .0) in
     judged-sound walk size ends fit limits (start .pre .0 .1) (c .before .before .before .before .follows .result) (c .before .repeats .result) (c .before .before .before .before .follows .ensures) (c .before .before .before .if3 .left) (c .before .repeats .ensures) (c .if4 .left)
 
 pub judge-at-spec : {M : Type 1} → statement M

@@ -4,7 +4,7 @@ use Rattle.model.specs.Setup.{depth}
 use Rattle.model.specs.Frame.{twoAt}
 use native.Mathlib.Omega.{arith}
 use Rattle.timestamp.specs.Views.{setupOf}
-use Rattle.timestamp.proofs.InLimits.{limits-of}
+use Rattle.lemmas.proofs.Questions.{limits-from}
 use mathlib.Core.Path.{refl}
 use lib.ListN.{length}
 use Rattle.holdback.proofs.Seen.{seen-cleared}
@@ -31,7 +31,7 @@ cast-depth-3 c = search needs
 depth-requires : tie.Need-depth-requires
 depth-requires c κs =
     let start = c .before .before .before .before .before .before .before .before .before .before in
-    let limits = limits-of (setupOf (start .args .s)) (start .pre .0 .0) in
+    let limits = limits-from (setupOf (start .args .s)) (start .pre .0 .0) in
     omega arith
 
 same-length : tie.Need-same-length

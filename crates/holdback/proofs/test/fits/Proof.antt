@@ -1,7 +1,7 @@
 -- `holdback::test::fits` meets its contract: the three tests one after the other. Assumes nothing.
 use native.Mathlib.Omega.{arith}
 use Rattle.timestamp.specs.Views.{setupOf}
-use Rattle.timestamp.proofs.InLimits.{limits-of}
+use Rattle.lemmas.proofs.Questions.{limits-from}
 use Rattle.holdback.proofs.Testing.{check-yes, unfit-passes, unfit-early, fit-rest}
 use borrow.Author.Needs.{needs}
 use Rattle.holdback.proofs.test.fits.Statement.{statement}
@@ -29,8 +29,8 @@ cast-epsilon c = search needs
 sub-if2 : tie.Need-sub-if2
 sub-if2 c =
     let start = c .before .before .before .before .before .before in
-    let limits = limits-of (setupOf (start .args .s)) (start .pre .0) in
-    limits .epsilon-least
+    let limits = limits-from (setupOf (start .args .s)) (start .pre .0) in
+    limits .epsilon-pos
 
 add-if2 : tie.Need-add-if2
 add-if2 c = search needs

@@ -2,7 +2,7 @@
 use native.Mathlib.Omega.{arith}
 use mathlib.Core.Path.{_≡_, refl, sym, ap, ap₂, _∙_}
 use Rattle.timestamp.specs.Views.{setupOf}
-use Rattle.timestamp.proofs.InLimits.{limits-of}
+use Rattle.lemmas.proofs.Questions.{limits-from}
 use Rattle.model.specs.Timestamp.{near}
 use Rattle.model.specs.Judge.{readingOf}
 use borrow.Author.Needs.{needs}
@@ -21,7 +21,7 @@ r-of-requires c κs = search needs
 near-requires : tie.Need-near-requires
 near-requires c κs =
     let start = c .before .before .before .before in
-    let limits = limits-of (setupOf (start .args .s)) (start .pre .0 .0) in
+    let limits = limits-from (setupOf (start .args .s)) (start .pre .0 .0) in
     let r = c .r-of .ensures (start .args .s .epsilon) in
     omega arith
 

@@ -1,7 +1,7 @@
 -- `holdback::test::sum_of` meets its contract: a reading and c, both bounded. Assumes nothing.
 use native.Mathlib.Omega.{arith}
 use Rattle.timestamp.specs.Views.{setupOf}
-use Rattle.timestamp.proofs.InLimits.{limits-of}
+use Rattle.lemmas.proofs.Questions.{limits-from}
 use Rattle.holdback.proofs.RoundTrip.{passing}
 use Rattle.holdback.proofs.Testing.{summed}
 use borrow.Author.Needs.{needs}
@@ -17,14 +17,14 @@ c-of-requires c κs = search needs
 add-result : tie.Need-add-result
 add-result c =
     let start = c .before .before .before in
-    let limits = limits-of (setupOf (start .args .s)) (start .pre .0 .0) in
+    let limits = limits-from (setupOf (start .args .s)) (start .pre .0 .0) in
     let total = summed (setupOf (start .args .s)) (start .args .v) (start .args .frame .now) (c .before .reading-of .result) (c .c-of .result) limits (start .pre .1) (c .before .reading-of .ensures) (c .c-of .ensures (start .args .s .epsilon)) in
     omega (arith, total .small)
 
 returns : tie.Need-returns
 returns c =
     let start = c .before .before .before in
-    let limits = limits-of (setupOf (start .args .s)) (start .pre .0 .0) in
+    let limits = limits-from (setupOf (start .args .s)) (start .pre .0 .0) in
     summed (setupOf (start .args .s)) (start .args .v) (start .args .frame .now) (c .before .reading-of .result) (c .c-of .result) limits (start .pre .1) (c .before .reading-of .ensures) (c .c-of .ensures (start .args .s .epsilon))
 
 pub sum-of-spec : {M : Type 1} → statement M

@@ -1,12 +1,12 @@
 -- `node::call::check_call` meets its contract. Assumes nothing.
-use Prim.Native.Nat.{ℕ, _≤_, _<_}
+use Prim.Native.Nat.{_≤_, _<_}
 use native.Mathlib.Omega.{arith}
 use mathlib.Core.Path.{_≡_, _∙_, sym}
 use mathlib.Core.Bool.{Bool, true}
 use lib.ListN.{length}
 use borrow.Author.Tests.{not-true, not-false}
 use borrow.Author.Needs.{needs}
-use Rattle.model.specs.Setup.{inLimits, longestFrame, holdbackLength}
+use Rattle.model.specs.Setup.{inLimits, longestFrame}
 use Rattle.model.specs.Batch.{exactBatch}
 use Rattle.model.specs.Tick.{Input, holdbackSize}
 use Rattle.lemmas.proofs.Bounds.{Limits}

@@ -1,13 +1,12 @@
 -- `node::hearing::hear` meets its contract. Assumes nothing.
-use Prim.Native.Nat.{ℕ, _+_, _-_, _≤_, _<_}
+use Prim.Native.Nat.{_-_, _≤_, _<_}
 use native.Mathlib.Omega.{arith}
 use mathlib.Core.Path.{_≡_, refl, sym, _∙_, ap}
 use denote.Enum.Declared
-use mathlib.Core.List.{List}
-use lib.ListN.{length, length-set}
+use lib.ListN.{length}
 use borrow.Author.Needs.{needs}
 use Rattle.model.specs.Holdback.{held}
-use Rattle.model.specs.Judge.{taken, refused, judge, verdictNumber}
+use Rattle.model.specs.Judge.{taken, judge, verdictNumber}
 use Rattle.lemmas.proofs.Questions.{limits-from}
 use Rattle.batch.specs.Walk.{countOf, entryAt}
 use Rattle.timestamp.specs.Views.{setupOf, stampOf}

@@ -1,17 +1,16 @@
 -- `node::queue::deliver` meets its contract. Assumes nothing.
 use Prim.Native.Nat.{ℕ, _≤_}
 use native.Mathlib.Omega.{arith}
-use mathlib.Core.Path.{_≡_, sym, _∙_, ap}
+use mathlib.Core.Path.{sym, _∙_, ap}
 use mathlib.Core.Bool.{not}
-use mathlib.Core.List.{List}
 use lib.ListN.{length}
 use borrow.Author.Needs.{needs}
 use Rattle.laws.specs.Lists.{select}
 use Rattle.model.specs.Frame.{twoAt}
 use Rattle.model.specs.Holdback.{held, encodeHoldback}
-use Rattle.model.specs.Tick.{dueNow, holdbackSize}
+use Rattle.model.specs.Tick.{dueNow}
 use Rattle.lemmas.proofs.Questions.{limits-from}
-use Rattle.holdback.specs.Queue.{frameStart}
+use Rattle.holdback.proofs.Frames.{start-zero}
 use Rattle.timestamp.specs.Views.{setupOf}
 use Rattle.node.proofs.Places.{size-two, sound-formed}
 use Rattle.node.proofs.queue.deliver.Statement.{statement}
@@ -36,6 +35,8 @@ start-of-requires c κs =
       two = two (c .before .before .before .before .before .before);
       formed = sound-formed (setupOf (c .before .before .before .before .before .before .args .setup)) (c .before .before .before .before .before .before .args .clock) (c .before .before .before .before .before .before .args .holdback .now) (c .before .before .before .before .before .before .pre .sound);
       inside = counted (c .before);
+      order = omega arith;
+      begins = sym (start-zero (c .before .before .before .before .before .before .args .setup .epsilon) (c .before .before .before .before .before .before .args .holdback .now));
     }
 
 room : (c : tie.Start) → length (c .args .holdback .now) ≤ length (c .args .delivery .now)

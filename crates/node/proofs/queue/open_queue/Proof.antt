@@ -1,11 +1,7 @@
 -- `node::queue::open_queue` meets its contract. Assumes nothing.
-use Prim.Native.Nat.{ℕ, _≤_}
-use native.Mathlib.Omega.{arith}
-use mathlib.Core.Path.{_≡_, sym, _∙_, ap}
-use mathlib.Core.Bool.{true, false}
+use mathlib.Core.Path.{sym, _∙_}
 use lib.ListN.{length}
 use borrow.Author.Needs.{needs}
-use Rattle.model.specs.Holdback.{soundHoldback}
 use Rattle.timestamp.specs.Views.{setupOf}
 use Rattle.node.proofs.Places.{size-two, opened-sound, opened-empty}
 use Rattle.node.proofs.queue.open_queue.Statement.{statement}

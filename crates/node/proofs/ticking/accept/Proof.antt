@@ -1,13 +1,9 @@
 -- `node::ticking::accept` meets its contract. Assumes nothing.
-use Prim.Native.Nat.{ℕ, _+_, _≤_, _<_}
-use native.Mathlib.Omega.{arith}
-use mathlib.Core.Path.{_≡_, sym, _∙_, ap}
-use mathlib.Core.List.{List}
-use lib.ListN.{length}
+use mathlib.Core.Path.{_≡_, _∙_}
 use borrow.Author.Needs.{needs}
 use Rattle.model.specs.Timestamp.{widened}
 use Rattle.model.specs.Tick.{Input, newStamp}
-use Rattle.timestamp.specs.Views.{setupOf, stampOf}
+use Rattle.timestamp.specs.Views.{stampOf}
 use Rattle.node.specs.Views.{inputOf}
 use Rattle.node.proofs.Finish.{Call, call-passed, call-timed, call-attending, own-room, own-counted, send-room, call-closing, accepted-output}
 use Rattle.node.proofs.ticking.accept.Statement.{statement}

@@ -1,9 +1,7 @@
 -- `node::ticking::listen` meets its contract. Assumes nothing.
-use Prim.Native.Nat.{ℕ, _+_, _≤_, _<_}
 use native.Mathlib.Omega.{arith}
-use mathlib.Core.Path.{_≡_, sym, _∙_, ap}
-use mathlib.Core.List.{List}
-use lib.ListN.{length, length-replicate}
+use mathlib.Core.Path.{sym, _∙_, ap}
+use lib.ListN.{length}
 use borrow.Author.Needs.{needs}
 use Rattle.model.specs.Holdback.{soundHoldback}
 use Rattle.lemmas.proofs.Bounds.{Limits}

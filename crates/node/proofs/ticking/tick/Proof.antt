@@ -1,5 +1,5 @@
 -- `node::ticking::tick` meets its contract. Assumes nothing.
-use mathlib.Core.Path.{_≡_, sym, _∙_, ap}
+use mathlib.Core.Path.{sym, _∙_}
 use borrow.Author.Needs.{needs}
 use Rattle.model.specs.Tick.{Input, refusal}
 use Rattle.node.specs.Views.{inputOf}

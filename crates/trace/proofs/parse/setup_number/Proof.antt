@@ -4,7 +4,8 @@ use mathlib.Core.Bool.{true, false}
 use borrow.Author.Tests.{not-true, not-false}
 use Rattle.model.specs.Setup.{Setup, inLimits}
 use Rattle.model.specs.Tick.{holdbackSize}
-use Rattle.timestamp.proofs.InLimits.{Limits, limits-of}
+use Rattle.lemmas.proofs.Bounds.{Limits}
+use Rattle.lemmas.proofs.Questions.{limits-from}
 use Rattle.timestamp.specs.Views.{setupOf}
 use Rattle.trace.specs.Trace.{traceSetup}
 use Rattle.trace.proofs.Ticks.{setup-cut, setup-out, setup-large, setup-good}
@@ -38,7 +39,7 @@ cast-holdback-length-3 c = search needs
 
 holdback-length-requires : tie.Need-holdback-length-requires
 holdback-length-requires c κs =
-    let limits = limits-of (setupOf (c .before .before .before .before .before .read-setup .result)) (sym (c .before .before .before .before .in-limits .ensures) ∙ not-false (c .before .before .before .before .in-limits .result) (c .before .before .before .if2 .left)) in
+    let limits = limits-from (setupOf (c .before .before .before .before .before .read-setup .result)) (sym (c .before .before .before .before .in-limits .ensures) ∙ not-false (c .before .before .before .before .in-limits .result) (c .before .before .before .if2 .left)) in
     (limits .n-most, (limits .epsilon-most, limits .delta-most))
 
 returns-3 : tie.Need-returns-3

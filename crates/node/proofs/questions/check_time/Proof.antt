@@ -1,19 +1,16 @@
--- `node::judging::check_time` meets its contract. Assumes nothing.
-use Prim.Native.Nat.{ℕ, _+_, _*_, _-_, _≤_, _<_}
+-- `node::questions::check_time` meets its contract. Assumes nothing.
+use Prim.Native.Nat.{_+_, _-_, _≤_, _<_}
 use native.Mathlib.Omega.{arith}
 use mathlib.Core.Path.{_≡_, _∙_, sym, ap}
-use mathlib.Core.Bool.{Bool, true}
-use mathlib.Core.List.{List}
-use lib.ListN.{length, drop}
+use lib.ListN.{drop}
 use borrow.Author.Tests.{not-true, not-false}
 use borrow.Author.Needs.{needs}
 use Rattle.model.specs.Timestamp.{near, atMost}
 use Rattle.model.specs.Frame.{Frame, decode}
-use Rattle.lemmas.proofs.Bounds.{Limits}
 use Rattle.timestamp.specs.Views.{setupOf}
 use Rattle.node.proofs.Times.{Given, given, late-no, early-no, counts-no, times-right, counts-there}
-use Rattle.node.proofs.judging.check_time.Statement.{statement}
-use Rattle.node.proofs.judging.check_time.Tie as tie
+use Rattle.node.proofs.questions.check_time.Statement.{statement}
+use Rattle.node.proofs.questions.check_time.Tie as tie
 
 abbrev frame : tie.Start → Frame
 frame c = decode (c .args .setup .epsilon) (c .args .s .now)

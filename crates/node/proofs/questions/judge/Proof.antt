@@ -1,16 +1,15 @@
--- `node::judging::judge` meets its contract. Assumes nothing.
-use Prim.Native.Nat.{ℕ, _≤_, _<_}
+-- `node::questions::judge` meets its contract. Assumes nothing.
+use Prim.Native.Nat.{_≤_, _<_}
 use native.Mathlib.Omega.{arith}
 use mathlib.Core.Path.{_≡_, sym, _∙_, ap}
 use mathlib.Core.Bool.{true}
 use mathlib.Core.List.{List}
-use lib.Dec.{eqb}
 use lib.ListN.{length}
 use borrow.Author.Tests.{eq-eqb}
 use borrow.Author.Needs.{needs}
 use Rattle.laws.specs.Lists.{any}
 use Rattle.model.specs.Setup.{depth}
-use Rattle.model.specs.Frame.{Frame, twoAt, decode}
+use Rattle.model.specs.Frame.{Frame, decode}
 use Rattle.model.specs.Question.{firstNo, frameQuestions}
 use Rattle.model.specs.Holdback.{held, passes, sameOrigin}
 use Rattle.model.specs.Judge.{taken}
@@ -24,8 +23,8 @@ use Rattle.node.specs.States.{Readable}
 use Rattle.node.proofs.Times.{given}
 use Rattle.node.proofs.Verdicts.{form-no, time-no, repeat-no, room-no, all-yes, late-window, time-late, marked-is, table-long}
 use Rattle.node.proofs.Places.{size-two}
-use Rattle.node.proofs.judging.judge.Statement.{statement}
-use Rattle.node.proofs.judging.judge.Tie as tie
+use Rattle.node.proofs.questions.judge.Statement.{statement}
+use Rattle.node.proofs.questions.judge.Tie as tie
 
 abbrev queue : tie.Start → List Frame
 queue c = held (c .args .setup .epsilon) (c .args .holdback .now)
