@@ -20,4 +20,3 @@ pub mod PublishedCall
 pub mod PublishedStart
 pub mod Demand2
 pub mod Demand3
-pub mod Instance

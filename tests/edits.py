@@ -1,0 +1,155 @@
+#!/usr/bin/env python3
+"""Tries the edits of crates/CRATE/must-fail/together, all or those of the crates named.
+
+`rt ci` tries each edit of crates/CRATE/must-fail by a check of its whole crate. The edits here are tried many at once, at most
+one for each function: a changed body touches the proof of its own function alone, and the prover says of each function by
+itself whether its facts hold. An edit is refused if a fact in the proof of the very function that it changes is refused; that
+a function it calls is not proved does not count. An edit of a contract or of a definition is tried by itself.
+"""
+import re
+import shutil
+import subprocess
+import sys
+import tempfile
+from concurrent.futures import ThreadPoolExecutor
+from pathlib import Path
+
+ROOT = Path(__file__).resolve().parent.parent
+RESTS_ON = "was not admitted"
+
+
+class Edit:
+    """One .edit file: its replacements, and the functions that they change (none where one of them is of no body)."""
+
+    def __init__(self, path, crate):
+        self.name = path.stem
+        self.pairs = []
+        file = old = None
+        for line in path.read_text(encoding="utf-8").splitlines():
+            if line.startswith("file: "):
+                file = line[len("file: "):]
+            elif line.startswith("old: "):
+                old = line[len("old: "):]
+            elif line.startswith("new:"):
+                self.pairs.append((file, old, line[len("new:"):].removeprefix(" ")))
+        places = [place(crate, file, old) for file, old, _ in self.pairs]
+        self.alone = None in places
+        self.functions = {p for p in places if p}
+
+    def apply(self, crate):
+        """Edits a copy of the crate."""
+        for file, old, new in self.pairs:
+            path = crate / file
+            text = path.read_text(encoding="utf-8")
+            if text.count(old) != 1:
+                raise SystemExit(f"{self.name}: its old text stands {text.count(old)} times in {file}")
+            path.write_text(text.replace(old, new), encoding="utf-8")
+
+
+def place(crate, file, old):
+    """The path of the function whose body holds the text, as module/Type/name; None in a contract, a definition or a constant."""
+    text = (crate / file).read_text(encoding="utf-8")
+    at = text.find(old)
+    line = text[text.rfind("\n", 0, at) + 1:text.find("\n", at)]
+    heads = list(re.finditer(r"^( *)(?:pub )?(?:extern \"C\" )?fn (\w+)", text[:at], re.M))
+    if not file.startswith("src/") or "⌜" in line or not heads:
+        return None
+    kinds = re.findall(r"^impl(?:<[^>]*>)? (\w+)", text[:at], re.M)
+    module = [] if file == "src/lib.rt" else [Path(file).stem]
+    return "/".join(module + ([kinds[-1]] if heads[-1][1] else []) + [heads[-1][2]])
+
+
+def rounds(edits):
+    """The edits in lists of which none changes a function twice."""
+    made = []
+    for edit in edits:
+        for one in made:
+            if not edit.alone and not one[0].alone and all(edit.functions.isdisjoint(e.functions) for e in one):
+                one.append(edit)
+                break
+        else:
+            made.append([edit])
+    return made
+
+
+def fact(log, crate, function):
+    """The first error in the proof of a function that is not about what it rests on, or what the search for one lacks; or None."""
+    proof = f"/{crate}/proofs/{function}/"
+    for line in log.splitlines():
+        if ": error: " in line and proof in line and RESTS_ON not in line:
+            return line.split(f"/{crate}/", 1)[1]
+    path = f"fn {crate}::" + function.replace("/", "::")
+    for line in log.splitlines():
+        if line.startswith(f"{path}: no proof") and "does not close" in line:
+            return f"{path}: " + line.rsplit("; ", 1)[1]
+    return None
+
+
+def first_error(log):
+    """Where a check was refused first."""
+    return next((line.split("/crates/", 1)[-1] for line in log.splitlines() if ": error: " in line), "no error")
+
+
+def judge(edit, crate, log):
+    """What the check says of an edit: where it is refused, or None."""
+    if edit.alone:
+        return first_error(log)
+    found = [fact(log, crate, f) for f in edit.functions]
+    return next((f for f in found if f), None)
+
+
+def dev(work, crate):
+    """One check of a crate of the copy, over what earlier checks of it left."""
+    return subprocess.run(["rt", "dev", crate], cwd=work, text=True, stdout=subprocess.PIPE, stderr=subprocess.STDOUT).stdout
+
+
+def try_crate(crate):
+    """The lines to print for a crate, and how many of its edits are not refused."""
+    with tempfile.TemporaryDirectory() as name:
+        work = Path(name)
+        for part in ("crates", "target"):
+            shutil.copytree(ROOT / part, work / part, ignore=shutil.ignore_patterns("must-fail", "inc"))
+        shutil.copy(ROOT / "crates.txt", work)
+        return try_rounds(work, crate)
+
+
+def try_rounds(work, crate):
+    """The same, in a copy of the repository."""
+    clean, copy = ROOT / "crates" / crate, work / "crates" / crate
+    lines, failed = [], 0
+    if "logic=proved" not in dev(work, crate):
+        return [f"{crate}: not proved before any edit"], 1
+    edits = [Edit(path, clean) for path in sorted((clean / "must-fail" / "together").glob("*.edit"))]
+    for together in rounds(edits):
+        for part in ("src", "specs"):
+            if (clean / part).is_dir():
+                shutil.copytree(clean / part, copy / part, dirs_exist_ok=True)
+        for edit in together:
+            edit.apply(copy)
+        log = dev(work, crate)
+        for edit in together:
+            where = judge(edit, crate, log) if "logic=not-proved" in log else None
+            failed += where is None
+            lines.append(f"edit {crate}/{edit.name}: " + (f"refused at {where[:160]}" if where else "NOT REFUSED"))
+    return lines, failed
+
+
+def summary(what, answers):
+    """Prints the lines of each answer as it comes, then the counts; ends the run."""
+    tried = failed = 0
+    for lines, wrong in answers:
+        print("\n".join(lines), flush=True)
+        tried += len(lines)
+        failed += wrong
+    print(f"{what}: {tried - failed} refused, {failed} not")
+    sys.exit(1 if failed else 0)
+
+
+def main():
+    crates = sys.argv[1:] or sorted(p.parent.parent.name for p in ROOT.glob("crates/*/must-fail/together"))
+    with ThreadPoolExecutor(2) as pool:
+        summary("edits tried together", pool.map(try_crate, crates))
+
+
+if __name__ == "__main__":
+    main()

@@ -1,0 +1,49 @@
+#!/usr/bin/env python3
+"""Applies each tests/mutants/*.edit to a copy of the definitions, without their samples: each leaves them well-formed but another
+protocol, so what is proved of them (lemmas, theory) must be refused."""
+import os
+import shutil
+import subprocess
+import tempfile
+from concurrent.futures import ThreadPoolExecutor
+from pathlib import Path
+
+from edits import ROOT, Edit, first_error, summary
+
+CRATES = ("laws", "model", "lemmas", "theory")
+
+
+def copy_definitions(work):
+    """Copies the crates that a mutant is tried with."""
+    for crate in CRATES:
+        shutil.copytree(ROOT / "crates" / crate, work / "crates" / crate)
+    listed = (ROOT / "crates.txt").read_text(encoding="utf-8").splitlines()
+    (work / "crates.txt").write_text("".join(f"{line}\n" for line in listed if line.split(":")[0] in CRATES), encoding="utf-8")
+    proofs = work / "crates" / "model" / "proofs"
+    (proofs / "Samples.antt").unlink()
+    modules = (proofs / "Lib.antt").read_text(encoding="utf-8")
+    (proofs / "Lib.antt").write_text(modules.replace("pub mod Samples\n", ""), encoding="utf-8")
+
+
+def try_mutant(path):
+    """The line to print for a mutant, and 1 if it is not refused."""
+    with tempfile.TemporaryDirectory() as name:
+        work = Path(name)
+        copy_definitions(work)
+        edit = Edit(path, ROOT / "crates" / "model")
+        edit.apply(work / "crates" / "model")
+        settings = {**os.environ, "RT_JOBS": "1", "RT_CUT": "0"}
+        log = subprocess.run(["rt", "check", "theory"], cwd=work, env=settings, text=True, stdout=subprocess.PIPE, stderr=subprocess.STDOUT).stdout
+    if "rt: model proved" not in log:
+        return [f"mutant {edit.name}: the definitions are not well-formed"], 1
+    if "rt: theory proved" in log:
+        return [f"mutant {edit.name}: NOT REFUSED"], 1
+    return [f"mutant {edit.name}: refused at {first_error(log)[:160]}"], 0
+
+
+def main():
+    with ThreadPoolExecutor(2) as pool:
+        summary("mutants", pool.map(try_mutant, sorted((ROOT / "tests" / "mutants").glob("*.edit"))))
+
+
+main()
