@@ -4,8 +4,7 @@ use crate::queue::place_frame;
 use crate::verdict::Verdict;
 use crate::verdict::number_of;
 use batch::count_of;
-use batch::entry_at;
-use batch::next_at;
+use batch::walker::walk_step;
 use frame::r_of;
 use frame::stamp_of;
 use holdback::mark;
@@ -46,7 +45,8 @@ pub struct Heard {
     pub taken: usize,
 }
 
-// The hearing loop. A verdict is taken apart for its place; of a refused frame the number is recorded, and it goes on.
+// The hearing loop. The batch's walker says where each entry stands. A verdict is taken apart for its place; of a refused
+// frame the number is recorded, and it goes on.
 pub fn hear(
     setup: Setup,
     clock: usize,
@@ -68,8 +68,10 @@ pub fn hear(
     let mut at = 1;
     let mut i = 0;
     while i < count {
-        let s = entry_at(batch, at);
-        at = next_at(batch, at);
+        let step = walk_step(batch, at);
+        let start = step.start;
+        at = step.end;
+        let s = &batch[start..at];
         let verdict = judge(setup, clock, holdback, seen, s);
         let Verdict::Taken(place) = verdict else {
             verdicts[i] = number_of(verdict);

@@ -1,14 +1,17 @@
 -- `node::hearing::hear` meets its contract. Assumes nothing.
-use Prim.Native.Nat.{_-_, _≤_, _<_}
+use Prim.Native.Nat.{ℕ, _-_, _≤_, _<_}
 use native.Mathlib.Omega.{arith}
 use mathlib.Core.Path.{_≡_, refl, sym, _∙_, ap}
+use mathlib.Core.List.{List}
 use denote.Enum.Declared
-use lib.ListN.{length}
+use lib.ListN.{length, take, drop}
 use borrow.Author.Needs.{needs}
 use Rattle.model.specs.Holdback.{held}
 use Rattle.model.specs.Judge.{taken, judge, verdictNumber}
 use Rattle.lemmas.proofs.Questions.{limits-from}
-use Rattle.batch.specs.Walk.{countOf, entryAt}
+use Rattle.batch.specs.Walk.{countOf, entryAt, nextAt}
+use Rattle.batch.specs.declared.Step.{Step}
+use Rattle.batch.proofs.Walk.{step-ordered, step-within, step-next, step-entry}
 use Rattle.timestamp.specs.Views.{setupOf, stampOf}
 use Rattle.node.specs.Views.{verdictOf}
 use Rattle.node.proofs.Verdicts.{Tags, table-long, is-refused}
@@ -41,17 +44,46 @@ few c = omega (arith, c .before .before .before .before .shared-slice-known .giv
 more : (c : tie.In-loop Inv-loop μ-loop) → c .before .loop .i < countOf (c .before .before .before .before .before .before .before .args .batch .now)
 more c = omega (arith, c .before .before .count-of .ensures)
 
-entry-at-requires : tie.Need-entry-at-requires Inv-loop μ-loop
-entry-at-requires c κs = search needs
+walk-step-requires : tie.Need-walk-step-requires Inv-loop μ-loop
+walk-step-requires c κs = search needs
 
-next-at-requires : tie.Need-next-at-requires Inv-loop μ-loop
-next-at-requires c κs = search needs
+-- the step is of the entry at the loop's position, and ends where the next one stands
+module _ (c : tie.After-walk-step Inv-loop μ-loop) where
+  abbrev batch : List ℕ
+  batch = c .before .before .before .before .before .before .before .before .args .batch .now
+
+  abbrev place : ℕ
+  place = c .before .before .loop .at
+
+  abbrev step : Step
+  step = c .walk-step .result
+
+  ordered : step .start ≤ step .end
+  ordered = step-ordered batch place step (c .walk-step .ensures)
+
+  within : step .end ≤ length batch
+  within = step-within batch place step (c .walk-step .ensures)
+
+  next : step .end ≡ nextAt batch place
+  next = step-next batch place step (c .walk-step .ensures)
+
+  entry : take (step .end - step .start) (drop (step .start) batch) ≡ entryAt batch place
+  entry = step-entry batch place step (c .walk-step .ensures)
+
+sub-s : tie.Need-sub-s Inv-loop μ-loop
+sub-s c = omega (arith, ordered c)
+
+part-s-start : tie.Need-part-s-start Inv-loop μ-loop
+part-s-start c = omega (arith, ordered c, within c)
+
+part-s-end : tie.Need-part-s-end Inv-loop μ-loop
+part-s-end c = omega (arith, ordered c, within c)
 
 judge-requires : tie.Need-judge-requires Inv-loop μ-loop
 judge-requires c κs = (c .before .before .before .before .before .before .before .before .before .before .before .pre .0, c .before .before .before .before .before .loop .inv .queued)
 
 judged : (c : tie.After-judge Inv-loop μ-loop) → judge (setupOf (c .before .before .before .before .before .before .before .before .before .before .before .before .args .setup)) (c .before .before .before .before .before .before .before .before .before .before .before .before .args .clock) (held (c .before .before .before .before .before .before .before .before .before .before .before .before .args .setup .epsilon) (c .before .before .before .before .before .before .loop .holdback)) (entryAt (c .before .before .before .before .before .before .before .before .before .before .before .before .args .batch .now) (c .before .before .before .before .before .before .loop .at)) ≡ verdictOf (c .judge .result)
-judged c = sym (c .judge .ensures ∙ ap (judge (setupOf (c .before .before .before .before .before .before .before .before .before .before .before .before .args .setup)) (c .before .before .before .before .before .before .before .before .before .before .before .before .args .clock) (held (c .before .before .before .before .before .before .before .before .before .before .before .before .args .setup .epsilon) (c .before .before .before .before .before .before .loop .holdback))) (c .before .before .before .before .entry-at .ensures))
+judged c = sym (c .judge .ensures ∙ ap (judge (setupOf (c .before .before .before .before .before .before .before .before .before .before .before .before .args .setup)) (c .before .before .before .before .before .before .before .before .before .before .before .before .args .clock) (held (c .before .before .before .before .before .before .before .before .before .before .before .before .args .setup .epsilon) (c .before .before .before .before .before .before .loop .holdback))) (entry (c .before .before .before .before)))
 
 enum-known-verdict : tie.Need-enum-known-verdict Inv-loop μ-loop
 enum-known-verdict c = search needs
@@ -73,7 +105,7 @@ loop-less c = omega arith
 
 loop-again : tie.Need-loop-again Inv-loop μ-loop
 loop-again c =
-    rw (c .before .before .before .before .before .before .next-at .ensures)
+    rw (next (c .before .before .before .before .before .before .before))
     (turn-refused (setupOf (c .before .before .before .before .before .before .before .before .before .before .before .before .before .before .before .args .setup)) (c .before .before .before .before .before .before .before .before .before .before .before .before .before .before .before .args .clock) (stampOf (c .before .before .before .before .before .before .before .before .before .before .before .before .before .before .before .args .stamp)) (c .before .before .before .before .before .before .before .before .before .before .before .before .before .before .before .args .batch .now) (c .before .before .before .before .before .before .before .before .before .before .before .before .before .before .before .args .holdback .now) (c .before .before .before .before .before .before .before .before .before .before .before .before .before .before .before .args .verdicts .now) (stampOf (c .before .before .before .before .before .before .before .before .before .loop .own)) (c .before .before .before .before .before .before .before .before .before .loop .taken) (c .before .before .before .before .before .before .before .before .before .loop .at) (c .before .before .before .before .before .before .before .before .before .loop .i) (c .before .before .before .before .before .before .before .before .before .loop .holdback) (c .before .before .before .before .before .before .before .before .before .loop .seen) (c .before .before .before .before .before .before .before .before .before .loop .verdicts) (c .before .before .before .before .before .before .before .before .before .loop .inv) (more (c .before .before .before .before .before .before .before .before)) (few (c .before .before .before .before .before .before .before .before .before .before) .1) (verdictNumber (verdictOf (c .before .before .before .judge .result))) (c .number-of .result) (judged (c .before .before .before) ∙ is-refused tags (c .before .before .before .judge .result) (c .before .before .match .keys2)) (c .number-of .ensures))
 
 take-requires : tie.Need-take-requires Inv-loop μ-loop
@@ -101,8 +133,8 @@ loop-less-2 c = omega (arith, c .before .before .before .before .before .before 
 
 loop-again-2 : tie.Need-loop-again-2 Inv-loop μ-loop
 loop-again-2 c =
-    rw (c .before .before .before .before .before .before .before .before .before .before .before .before .before .next-at .ensures)
-    (turn-taken (setupOf (c .before .before .before .before .before .before .before .before .before .before .before .before .before .before .before .before .before .before .before .before .before .before .args .setup)) (c .before .before .before .before .before .before .before .before .before .before .before .before .before .before .before .before .before .before .before .before .before .before .args .clock) (stampOf (c .before .before .before .before .before .before .before .before .before .before .before .before .before .before .before .before .before .before .before .before .before .before .args .stamp)) (c .before .before .before .before .before .before .before .before .before .before .before .before .before .before .before .before .before .before .before .before .before .before .args .batch .now) (c .before .before .before .before .before .before .before .before .before .before .before .before .before .before .before .before .before .before .before .before .before .before .args .holdback .now) (c .before .before .before .before .before .before .before .before .before .before .before .before .before .before .before .before .before .before .before .before .before .before .args .verdicts .now) (stampOf (c .before .before .before .before .before .before .before .before .before .before .before .before .before .before .before .before .loop .own)) (c .before .before .before .before .before .before .before .before .before .before .before .before .before .before .before .before .loop .taken) (c .before .before .before .before .before .before .before .before .before .before .before .before .before .before .before .before .loop .at) (c .before .before .before .before .before .before .before .before .before .before .before .before .before .before .before .before .loop .i) (c .before .before .before .before .before .before .before .before .before .before .before .before .before .before .before .before .loop .holdback) (c .before .before .before .before .before .before .before .before .before .before .before .before .before .before .before .before .loop .seen) (c .before .before .before .before .before .before .before .before .before .before .before .before .before .before .before .before .loop .verdicts) (c .before .before .before .before .before .before .before .before .before .before .before .before .before .before .before .before .loop .inv) (more (c .before .before .before .before .before .before .before .before .before .before .before .before .before .before .before)) (few (c .before .before .before .before .before .before .before .before .before .before .before .before .before .before .before .before .before) .1) (c .before .before .before .before .before .before .before .before .verdict .given .0 .0) (stampOf (c .before .before .before .before .take .result)) _ _ (limits-from (setupOf (c .before .before .before .before .before .before .before .before .before .before .before .before .before .before .before .before .before .before .before .before .before .before .args .setup)) (c .before .before .before .before .before .before .before .before .before .before .before .before .before .before .before .before .before .before .before .before .before .before .pre .0 .limits) .epsilon-most) (judged (c .before .before .before .before .before .before .before .before .before .before) ∙ ap verdictOf (c .before .before .before .before .before .before .before .before .verdict .given .1)) (rw (c .before .before .before .before .before .before .before .before .before .before .before .before .before .before .entry-at .ensures) at (c .before .before .before .before .take .ensures)))
+    rw (next (c .before .before .before .before .before .before .before .before .before .before .before .before .before .before))
+    (turn-taken (setupOf (c .before .before .before .before .before .before .before .before .before .before .before .before .before .before .before .before .before .before .before .before .before .before .args .setup)) (c .before .before .before .before .before .before .before .before .before .before .before .before .before .before .before .before .before .before .before .before .before .before .args .clock) (stampOf (c .before .before .before .before .before .before .before .before .before .before .before .before .before .before .before .before .before .before .before .before .before .before .args .stamp)) (c .before .before .before .before .before .before .before .before .before .before .before .before .before .before .before .before .before .before .before .before .before .before .args .batch .now) (c .before .before .before .before .before .before .before .before .before .before .before .before .before .before .before .before .before .before .before .before .before .before .args .holdback .now) (c .before .before .before .before .before .before .before .before .before .before .before .before .before .before .before .before .before .before .before .before .before .before .args .verdicts .now) (stampOf (c .before .before .before .before .before .before .before .before .before .before .before .before .before .before .before .before .loop .own)) (c .before .before .before .before .before .before .before .before .before .before .before .before .before .before .before .before .loop .taken) (c .before .before .before .before .before .before .before .before .before .before .before .before .before .before .before .before .loop .at) (c .before .before .before .before .before .before .before .before .before .before .before .before .before .before .before .before .loop .i) (c .before .before .before .before .before .before .before .before .before .before .before .before .before .before .before .before .loop .holdback) (c .before .before .before .before .before .before .before .before .before .before .before .before .before .before .before .before .loop .seen) (c .before .before .before .before .before .before .before .before .before .before .before .before .before .before .before .before .loop .verdicts) (c .before .before .before .before .before .before .before .before .before .before .before .before .before .before .before .before .loop .inv) (more (c .before .before .before .before .before .before .before .before .before .before .before .before .before .before .before)) (few (c .before .before .before .before .before .before .before .before .before .before .before .before .before .before .before .before .before) .1) (c .before .before .before .before .before .before .before .before .verdict .given .0 .0) (stampOf (c .before .before .before .before .take .result)) _ _ (limits-from (setupOf (c .before .before .before .before .before .before .before .before .before .before .before .before .before .before .before .before .before .before .before .before .before .before .args .setup)) (c .before .before .before .before .before .before .before .before .before .before .before .before .before .before .before .before .before .before .before .before .before .before .pre .0 .limits) .epsilon-most) (judged (c .before .before .before .before .before .before .before .before .before .before) ∙ ap verdictOf (c .before .before .before .before .before .before .before .before .verdict .given .1)) (rw (entry (c .before .before .before .before .before .before .before .before .before .before .before .before .before .before)) at (c .before .before .before .before .take .ensures)))
 
 same-length : tie.Need-same-length Inv-loop μ-loop
 same-length c = c .before .loop .inv .queued .size ∙ sym (c .before .before .before .before .before .before .before .pre .1 .0 .size)
@@ -127,8 +159,10 @@ hear-spec =
     μ-loop
     count-of-requires
     loop-holds
-    entry-at-requires
-    next-at-requires
+    walk-step-requires
+    sub-s
+    part-s-start
+    part-s-end
     judge-requires
     enum-known-verdict
     enum-told
