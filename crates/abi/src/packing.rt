@@ -16,7 +16,7 @@ pub fn tables_of(s: &[u8]) -> Timestamp
     ensures { λ r. ⌜ tablesBytes (stampOf r) ≡ now (s .entry) ⌝ }
 {
     let kn = counts_of(s, 3, 32);
-    let r = frame::two_at(s, 0);
+    let r = splice::two_at(s, 0);
     let c = s[2] as usize;
     Timestamp { r, c, kn }
 }

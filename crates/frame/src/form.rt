@@ -1,35 +1,18 @@
 // The form of a frame and its questions 10 to 12: where its counts say that it ends, whether they are right, and what stands at its fixed places.
 // Any bytes get an answer; a place past the end reads as 0.
+use splice::byte_at;
+use splice::two_at;
 use timestamp::Setup;
 use timestamp::Timestamp;
 use timestamp::counts_of;
 ghost use mathlib.Core.Path.{_≡_};
 ghost use mathlib.Core.Bool.{true};
-ghost use Prim.Native.Nat.{ℕ, _+_, _^_, _≤_, _<_};
-ghost use lib.ListN.{getD};
+ghost use Prim.Native.Nat.{ℕ, _≤_};
 ghost use Rattle.model.specs.Setup.{inLimits};
-ghost use Rattle.model.specs.Frame.{twoAt, frameEnd, wellFormed, decode};
+ghost use Rattle.model.specs.Frame.{frameEnd, wellFormed, decode};
 ghost use Rattle.model.specs.Timestamp.{widened};
 ghost use Rattle.model.specs.Question.{firstNo, frameQuestions};
 ghost use Rattle.timestamp.specs.Views.{setupOf, stampOf};
-
-// The byte at a position.
-pub fn byte_at(s: &[u8], at: usize) -> u8
-    ensures { λ r. ⌜ r ≡ getD (now (s .entry)) at 0 ⌝ }
-{
-    if at < s.len() {
-        return s[at];
-    }
-    0
-}
-
-// The two-byte number at a position.
-pub fn two_at(s: &[u8], at: usize) -> usize
-    requires { ⌜ at + 1 < 2 ^ 64 ⌝ }
-    ensures { λ r. ⌜ r ≡ twoAt (now (s .entry)) at ⌝ }
-{
-    byte_at(s, at) as usize + 256 * (byte_at(s, at + 1) as usize)
-}
 
 // Where its counts say that the frame at the start of s ends.
 pub fn frame_end(epsilon: usize, s: &[u8]) -> usize

@@ -3,14 +3,12 @@ mod form;
 mod reader;
 mod writer;
 
-pub use form::byte_at;
 pub use form::c_of;
 pub use form::check;
 pub use form::frame_end;
 pub use form::r_of;
 pub use form::stamp_of;
 pub use form::station_of;
-pub use form::two_at;
 pub use form::well_formed;
 pub use reader::Reading;
 pub use reader::payload_of;

@@ -101,7 +101,7 @@ pub fn sound(s: Setup, v: usize, buf: &[u8], seen: &mut [u8]) -> Walk
 {
     let slots = seen.len();
     splice::clear(seen, 0, slots);
-    let count = frame::two_at(buf, 0);
+    let count = splice::two_at(buf, 0);
     if depth(s.n as usize, s.epsilon as usize, s.delta as usize) < count {
         return Walk {
             sound: false,

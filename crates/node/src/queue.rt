@@ -1,11 +1,11 @@
 // The hold-back queue (01: the shelf) within one tick: opened, a frame placed, what is due delivered.
 use frame::frame_end;
-use frame::two_at;
 use holdback::Place;
 use holdback::cut_due;
 use holdback::empty;
 use holdback::put;
 use holdback::sound;
+use splice::two_at;
 use timestamp::Setup;
 ghost use mathlib.Core.Path.{_≡_};
 ghost use lib.ListN.{length};

@@ -1,12 +1,14 @@
 // Changes to a byte buffer in place: copy into it, move a part of it left or right, clear a part,
-// insert into and cut from the bytes in use, and write a two-byte number.
+// insert into and cut from the bytes in use, and write a two-byte number. And what stands at a
+// position of any bytes.
 //
 // Each contract is one equation: the buffer at exit is a definition of `specs/Bytes.antt` at the
 // buffer at entry. Each `requires` keeps the indices within the buffer; the callers are inside this
 // library and meet it by tests of their own.
 ghost use mathlib.Core.Path.{_≡_};
-ghost use Prim.Native.Nat.{_+_, _≤_, _<_};
-ghost use lib.ListN.{length};
+ghost use Prim.Native.Nat.{_+_, _^_, _≤_, _<_};
+ghost use lib.ListN.{length, getD};
+ghost use Rattle.model.specs.Frame.{twoAt};
 ghost use Rattle.splice.specs.Bytes.{pasted, part, cleared, inserted, cutOut, twoBytes};
 
 // Copies all of src into dst from index at.
@@ -88,4 +90,22 @@ pub fn put_u16(buf: &mut [u8], at: usize, value: usize)
 {
     buf[at] = (value % 256) as u8;
     buf[at + 1] = (value / 256) as u8;
+}
+
+// The byte at a position; past the end it reads as 0.
+pub fn byte_at(s: &[u8], at: usize) -> u8
+    ensures { λ r. ⌜ r ≡ getD (now (s .entry)) at 0 ⌝ }
+{
+    if at < s.len() {
+        return s[at];
+    }
+    0
+}
+
+// The two-byte number at a position, the low byte first.
+pub fn two_at(s: &[u8], at: usize) -> usize
+    requires { ⌜ at + 1 < 2 ^ 64 ⌝ }
+    ensures { λ r. ⌜ r ≡ twoAt (now (s .entry)) at ⌝ }
+{
+    byte_at(s, at) as usize + 256 * (byte_at(s, at + 1) as usize)
 }

@@ -27,6 +27,12 @@ use Rattle.trace.specs.Trace.{
   sendOf,
 }
 
+-- ---- a two-byte number
+
+pub two-small : (s : List ℕ) (at : ℕ) → ((i : ℕ) → getD s i 0 < 256) → twoAt s at < 65536
+unfolding twoAt
+two-small s at bytes = omega (arith, bytes at, bytes (at + 1))
+
 -- ---- where a tick ends
 
 pub entries-start : (s : List ℕ) (b left : ℕ) → b ≡ getD s 3 0 → left ≡ getD s (4 + b) 0

@@ -1,13 +1,13 @@
 // The lines of a tick and of a refusal.
 use crate::digits::digit_count;
-use crate::parse::byte_at;
 use crate::parse::part;
-use crate::parse::two_at;
 use crate::text::payload_size;
 use crate::text::put_field;
 use crate::text::put_fields;
 use crate::text::put_give;
 use crate::text::put_word;
+use splice::byte_at;
+use splice::two_at;
 ghost use mathlib.Core.Path.{_≡_};
 ghost use Prim.Native.Nat.{_+_, _*_, _≤_, _<_, _^_};
 ghost use lib.Dec.{leb};
@@ -87,7 +87,7 @@ fn give_size(delivery: &[u8], at: usize, epsilon: usize) -> usize
     ensures { λ r. ⌜ r ≡ length (giveLine (frameAt epsilon (now (delivery .entry)) at)) ⌝ }
 {
     let station = byte_at(delivery, at + 1) as usize;
-    let r = two_at(delivery, at + 2) as usize;
+    let r = two_at(delivery, at + 2);
     let payload = payload_at(delivery, at, epsilon);
     8 + digit_count(station) + digit_count(r) + payload_size(payload)
 }
@@ -98,7 +98,7 @@ fn put_give_at(buf: &mut [u8], end: usize, delivery: &[u8], at: usize, epsilon: 
     ensures { λ e. ⌜ Put (now (buf .entry)) end (giveLine (frameAt epsilon (now (delivery .entry)) at)) (now (buf .exit)) e ⌝ }
 {
     let station = byte_at(delivery, at + 1) as usize;
-    let r = two_at(delivery, at + 2) as usize;
+    let r = two_at(delivery, at + 2);
     let payload = payload_at(delivery, at, epsilon);
     put_give(buf, end, station, r, payload)
 }
@@ -108,7 +108,7 @@ fn gives_fit(delivery: &[u8], epsilon: usize, room: usize) -> bool
     requires { ⌜ epsilon < 2 ^ 32 ⌝ }
     ensures { λ r. ⌜ r ≡ leb (length (giveLines epsilon (now (delivery .entry)))) room ⌝ }
 {
-    let mut left = two_at(delivery, 0) as usize;
+    let mut left = two_at(delivery, 0);
     let mut at = 2;
     let mut room_left = room;
     while 0 < left {
@@ -128,7 +128,7 @@ fn put_gives(buf: &mut [u8], from: usize, delivery: &[u8], epsilon: usize) -> us
     requires { ⌜ (epsilon < 2 ^ 32) × (from + length (giveLines epsilon (now delivery)) ≤ length (now buf)) ⌝ }
     ensures { λ e. ⌜ Put (now (buf .entry)) from (giveLines epsilon (now (delivery .entry))) (now (buf .exit)) e ⌝ }
 {
-    let mut left = two_at(delivery, 0) as usize;
+    let mut left = two_at(delivery, 0);
     let mut at = 2;
     let mut end = from;
     while 0 < left {

@@ -1,33 +1,13 @@
 // From the bytes of a trace to the arguments of a call. A byte that is missing reads as 0.
+use splice::byte_at;
+use splice::two_at;
 use timestamp::Setup;
 use timestamp::holdback_length;
 use timestamp::in_limits;
 ghost use mathlib.Core.Path.{_≡_};
-ghost use Prim.Native.Nat.{_<_};
-ghost use lib.ListN.{take, drop, getD};
-ghost use Rattle.model.specs.Frame.{twoAt};
+ghost use lib.ListN.{take, drop};
 ghost use Rattle.timestamp.specs.Views.{setupOf};
 ghost use Rattle.trace.specs.Trace.{traceSetup, setupNumber, tickCount, oneBefore, clockOf, sendOf, payloadOf, batchOf, tickEnd, needed, tickNumber};
-
-// The byte at a position.
-pub fn byte_at(s: &[u8], at: usize) -> u8
-    ensures { λ r. ⌜ r ≡ getD (now (s .entry)) at 0 ⌝ }
-{
-    if at < s.len() {
-        return s[at];
-    }
-    0
-}
-
-// The two-byte number at a position.
-pub fn two_at(s: &[u8], at: usize) -> u32
-    ensures { λ r. ⌜ (r ≡ twoAt (now (s .entry)) at) × (r < 65536) ⌝ }
-{
-    if s.len() <= at {
-        return 0;
-    }
-    byte_at(s, at) as u32 + 256 * (byte_at(s, at + 1) as u32)
-}
 
 // The bytes from a position on, size of them at most.
 pub fn part(s: &[u8], from: usize, size: usize) -> &[u8]
@@ -50,7 +30,7 @@ pub fn read_setup(s: &[u8]) -> Setup
         n: byte_at(s, 0) as u32,
         epsilon: byte_at(s, 1) as u32,
         delta: byte_at(s, 2) as u32,
-        modulus: two_at(s, 3),
+        modulus: two_at(s, 3) as u32,
         own: byte_at(s, 5) as u32,
     }
 }
@@ -80,14 +60,14 @@ pub fn setup_number(s: &[u8]) -> u8
 }
 
 // 01: "a two-byte count of ticks", at the start of s.
-pub fn tick_count(s: &[u8]) -> u32
+pub fn tick_count(s: &[u8]) -> usize
     ensures { λ r. ⌜ r ≡ tickCount (now (s .entry)) ⌝ }
 {
     two_at(s, 0)
 }
 
 // 01: "one before the first clock".
-pub fn one_before(modulus: u32, clock: u32) -> u32
+pub fn one_before(modulus: usize, clock: usize) -> usize
     ensures { λ r. ⌜ r ≡ oneBefore modulus clock ⌝ }
 {
     if 0 < clock {
@@ -130,7 +110,7 @@ pub fn need(s: &[u8]) -> usize
 pub struct Call {
     // 0, or 5 where the bytes are not one tick
     pub number: u8,
-    pub clock: u32,
+    pub clock: usize,
     pub send: bool,
 }
 

@@ -25,9 +25,6 @@ add-two-at c = search needs
 two-at-requires : tie.Need-two-at-requires
 two-at-requires c κs = search needs
 
-cast-r : tie.Need-cast-r
-cast-r c = search needs
-
 payload-at-requires : tie.Need-payload-at-requires
 payload-at-requires c κs = search needs
 
@@ -55,7 +52,7 @@ returns c =
     let station = c .before .before .before .before .before .byte-at .result in
     let r = c .before .before .before .before .two-at .result in
     let payload = c .before .before .before .payload-at .result .now in
-    let text = give-at (args .epsilon) (args .delivery .now) (args .at) station r payload (c .before .before .before .before .before .byte-at .ensures) (c .before .before .before .before .two-at .ensures .0) (c .before .before .before .payload-at .ensures .0) in
+    let text = give-at (args .epsilon) (args .delivery .now) (args .at) station r payload (c .before .before .before .before .before .byte-at .ensures) (c .before .before .before .before .two-at .ensures) (c .before .before .before .payload-at .ensures .0) in
     omega (arith, c .before .before .digit-count .ensures .0, c .before .digit-count2 .ensures .0, c .payload-size .ensures .0, length-give station r payload, ap (λ (l : List ℕ). length l) text)
 
 pub give-size-spec : {M : Type 1} → statement M
@@ -67,7 +64,6 @@ give-size-spec =
     cast-station
     add-two-at
     two-at-requires
-    cast-r
     payload-at-requires
     digit-count-requires
     add-result

@@ -9,6 +9,7 @@ use borrow.Author.Tests.{le-leb}
 use Rattle.model.specs.Frame.{frameEnd}
 use Rattle.trace.specs.Text.{giveLine, giveLines, giveLinesFrom, frameAt}
 use Rattle.trace.proofs.Giving.{give-all, give-none, give-one, fit-one, fit-not}
+use Rattle.trace.proofs.Ticks.{two-small}
 use native.Mathlib.Omega.{arith}
 use Rattle.trace.proofs.lines.gives_fit.Statement.{statement}
 use Rattle.trace.proofs.lines.gives_fit.Tie as tie
@@ -24,13 +25,10 @@ abbrev μ-loop : tie.MeasureT-loop
 two-at-requires : tie.Need-two-at-requires Inv-loop μ-loop
 two-at-requires c κs = omega arith
 
-cast-left : tie.Need-cast-left Inv-loop μ-loop
-cast-left c = omega arith
-
 loop-holds : tie.Need-loop-holds Inv-loop μ-loop
 loop-holds c =
     let args = c .before .before .args in
-    (ap (λ (l : List ℕ). leb (length l) (args .room)) (give-all (args .epsilon) (args .delivery .now) ∙ ap (λ (k : ℕ). giveLinesFrom (args .epsilon) (args .delivery .now) k 2) (sym (c .two-at .ensures .0))), omega (arith, c .two-at .ensures .1))
+    (ap (λ (l : List ℕ). leb (length l) (args .room)) (give-all (args .epsilon) (args .delivery .now) ∙ ap (λ (k : ℕ). giveLinesFrom (args .epsilon) (args .delivery .now) k 2) (sym (c .two-at .ensures))), omega (arith, c .two-at .ensures, two-small (args .delivery .now) 0 (λ i. omega (arith, c .before .shared-slice-known .given i))))
 
 give-size-requires : tie.Need-give-size-requires Inv-loop μ-loop
 give-size-requires c κs = omega arith
@@ -85,7 +83,6 @@ gives-fit-spec =
     Inv-loop
     μ-loop
     two-at-requires
-    cast-left
     loop-holds
     give-size-requires
     returns

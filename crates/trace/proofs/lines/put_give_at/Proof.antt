@@ -20,16 +20,13 @@ add-two-at c = search needs
 two-at-requires : tie.Need-two-at-requires
 two-at-requires c κs = search needs
 
-cast-r : tie.Need-cast-r
-cast-r c = search needs
-
 payload-at-requires : tie.Need-payload-at-requires
 payload-at-requires c κs = search needs
 
 put-give-requires : tie.Need-put-give-requires
 put-give-requires c κs =
     let args = c .before .before .before .before .before .before .args in
-    room-as (args .buf .now) (args .end) (give-at (args .epsilon) (args .delivery .now) (args .at) (c .before .before .before .byte-at .result) (c .before .before .two-at .result) (c .before .payload-at .result .now) (c .before .before .before .byte-at .ensures) (c .before .before .two-at .ensures .0) (c .before .payload-at .ensures .0)) (c .before .before .before .before .before .before .pre .1)
+    room-as (args .buf .now) (args .end) (give-at (args .epsilon) (args .delivery .now) (args .at) (c .before .before .before .byte-at .result) (c .before .before .two-at .result) (c .before .payload-at .result .now) (c .before .before .before .byte-at .ensures) (c .before .before .two-at .ensures) (c .before .payload-at .ensures .0)) (c .before .before .before .before .before .before .pre .1)
 
 same-length : tie.Need-same-length
 same-length c = search needs
@@ -37,7 +34,7 @@ same-length c = search needs
 returns : tie.Need-returns
 returns c =
     let args = c .before .before .before .before .before .before .before .before .before .args in
-    put-as (give-at (args .epsilon) (args .delivery .now) (args .at) (c .before .before .before .before .before .before .byte-at .result) (c .before .before .before .before .before .two-at .result) (c .before .before .before .before .payload-at .result .now) (c .before .before .before .before .before .before .byte-at .ensures) (c .before .before .before .before .before .two-at .ensures .0) (c .before .before .before .before .payload-at .ensures .0)) (c .before .before .put-give .ensures)
+    put-as (give-at (args .epsilon) (args .delivery .now) (args .at) (c .before .before .before .before .before .before .byte-at .result) (c .before .before .before .before .before .two-at .result) (c .before .before .before .before .payload-at .result .now) (c .before .before .before .before .before .before .byte-at .ensures) (c .before .before .before .before .before .two-at .ensures) (c .before .before .before .before .payload-at .ensures .0)) (c .before .before .put-give .ensures)
 
 pub put-give-at-spec : {M : Type 1} → statement M
 put-give-at-spec =
@@ -48,7 +45,6 @@ put-give-at-spec =
     cast-station
     add-two-at
     two-at-requires
-    cast-r
     payload-at-requires
     put-give-requires
     same-length

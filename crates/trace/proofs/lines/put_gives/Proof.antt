@@ -8,6 +8,7 @@ use Prim.Native.Nat.{ℕ}
 use Rattle.trace.specs.Text.{giveLine, giveLines, giveLinesFrom, frameAt, Put}
 use Rattle.trace.proofs.Putting.{Ahead, ahead, ahead-first, ahead-next, ahead-as, put-nothing, put-length}
 use Rattle.trace.proofs.Giving.{give-all, give-none, give-one}
+use Rattle.trace.proofs.Ticks.{two-small}
 use native.Mathlib.Omega.{arith}
 use Rattle.trace.proofs.lines.put_gives.Statement.{statement}
 use Rattle.trace.proofs.lines.put_gives.Tie as tie
@@ -31,15 +32,12 @@ all-put c =
 two-at-requires : tie.Need-two-at-requires Inv-loop μ-loop
 two-at-requires c κs = omega arith
 
-cast-left : tie.Need-cast-left Inv-loop μ-loop
-cast-left c = omega arith
-
 loop-holds : tie.Need-loop-holds Inv-loop μ-loop
 loop-holds c =
     let args = c .before .before .before .args in (
-      ahead-as (give-all (args .epsilon) (args .delivery .now) ∙ ap (λ (k : ℕ). giveLinesFrom (args .epsilon) (args .delivery .now) k 2) (sym (c .two-at .ensures .0)))
+      ahead-as (give-all (args .epsilon) (args .delivery .now) ∙ ap (λ (k : ℕ). giveLinesFrom (args .epsilon) (args .delivery .now) k 2) (sym (c .two-at .ensures)))
           (ahead (args .buf .now) (args .from) (giveLines (args .epsilon) (args .delivery .now)) (c .before .before .before .pre .1)),
-      omega (arith, c .two-at .ensures .1),
+      omega (arith, c .two-at .ensures, two-small (args .delivery .now) 0 (λ i. omega (arith, c .before .shared-slice-known .given i))),
     )
 
 put-give-at-requires : tie.Need-put-give-at-requires Inv-loop μ-loop
@@ -87,7 +85,6 @@ put-gives-spec =
     Inv-loop
     μ-loop
     two-at-requires
-    cast-left
     loop-holds
     put-give-at-requires
     next-frame-requires

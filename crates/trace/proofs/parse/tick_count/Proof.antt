@@ -9,7 +9,7 @@ two-at-requires c κs = search needs
 
 returns : tie.Need-returns
 unfolding tickCount
-returns c = c .two-at .ensures .0
+returns c = c .two-at .ensures
 
 pub tick-count-spec : {M : Type 1} → statement M
 tick-count-spec =

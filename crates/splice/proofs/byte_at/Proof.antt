@@ -1,9 +1,9 @@
--- `frame::form::byte_at` meets its contract. Assumes nothing.
+-- `splice::byte_at` meets its contract. Assumes nothing.
 use mathlib.Core.Path.{sym}
 use lib.ListN.{List·getD-eq-default}
 use borrow.Author.Needs.{needs}
-use Rattle.frame.proofs.form.byte_at.Statement.{statement}
-use Rattle.frame.proofs.form.byte_at.Tie as tie
+use Rattle.splice.proofs.byte_at.Statement.{statement}
+use Rattle.splice.proofs.byte_at.Tie as tie
 
 shared-slice-read-result : tie.Need-shared-slice-read-result
 shared-slice-read-result c = search needs

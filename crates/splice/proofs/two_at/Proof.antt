@@ -1,9 +1,9 @@
--- `frame::form::two_at` meets its contract. Assumes nothing.
+-- `splice::two_at` meets its contract. Assumes nothing.
 use native.Mathlib.Omega.{arith}
 use borrow.Author.Needs.{needs}
 use Rattle.model.specs.Frame.{twoAt}
-use Rattle.frame.proofs.form.two_at.Statement.{statement}
-use Rattle.frame.proofs.form.two_at.Tie as tie
+use Rattle.splice.proofs.two_at.Statement.{statement}
+use Rattle.splice.proofs.two_at.Tie as tie
 
 byte-at-requires : tie.Need-byte-at-requires
 byte-at-requires c κs = search needs
