@@ -5,11 +5,8 @@ use native.Mathlib.Omega.{arith}
 use mathlib.Core.Path.{_≡_, _∙_}
 use lib.ListN.{length, getD, length-append, length-drop, length-set, length-replicate}
 use Rattle.laws.proofs.Lists.{length-tab, getD-padded}
-use Rattle.laws.proofs.Numbers.{lt-or-ge}
-use mathlib.Core.Logic.{inl, inr}
 use Rattle.model.specs.Setup.{width, widest}
-use Rattle.model.specs.Timestamp.{Timestamp, trimmed, widened, fresh, replaced, shift, step, absorb, countOwn, near}
-use Rattle.timestamp.proofs.Readings.{ahead-below, near-ahead, near-behind}
+use Rattle.model.specs.Timestamp.{Timestamp, trimmed, widened, fresh, replaced, shift, step, absorb, countOwn}
 
 pub width-most : (epsilon : ℕ) → epsilon ≤ 16 → width epsilon ≤ widest
 unfolding width
@@ -46,11 +43,3 @@ length-countOwn epsilon v t e = length-set (t .kn) epsilon (getD (t .kn) epsilon
 pub getD-widened : (t : Timestamp) (i : ℕ) → getD (widened t .kn) i 0 ≡ getD (t .kn) i 0
 unfolding widened
 getD-widened t i = getD-padded widest (t .kn) i
-
--- a reading near v is less than two rounds of the clock
-pub near-most : (epsilon modulus v r : ℕ) → v < modulus → near epsilon modulus v r < 2 * modulus
-near-most epsilon modulus v r below =
-    elim (lt-or-ge (epsilon - 1) ((r + (modulus - v)) % modulus)) [
-      | inl h ↦ omega (arith, near-behind epsilon modulus v r below h, ahead-below modulus v r below)
-      | inr h ↦ omega (arith, near-ahead epsilon modulus v r h, ahead-below modulus v r below)
-    ]

@@ -1,9 +1,9 @@
 -- A clock read near v, and a count found by the clock that it is for.
 -- Assumes nothing.
 use Prim.Native.Nat.{ℕ, _+_, _-_, _%_, _≤_, _<_, max}
-use native.Mathlib.Nat.{mod-lt}
+use native.Mathlib.Nat.{mod-eq-of-lt, add-mod-right}
 use native.Mathlib.Omega.{arith}
-use mathlib.Core.Path.{_≡_}
+use mathlib.Core.Path.{_≡_, sym}
 use mathlib.Core.List.{List}
 use lib.ListN.{length, take, getD, set, length-take, List·getD-eq-default}
 use lib.Seq.{getD-take}
@@ -11,25 +11,33 @@ use borrow.Author.Tests.{le-leb, lt-leb}
 use Rattle.laws.specs.Lists.{tab, padded}
 use Rattle.timestamp.specs.Views.{largerAt}
 use Rattle.timestamp.proofs.Counts.{tabbed-next}
-use Rattle.model.specs.Timestamp.{near, ahead, countAt}
+use Rattle.model.specs.Timestamp.{ahead, near, countAt}
+use Rattle.lemmas.proofs.Reading.{near-ahead, near-behind}
 
--- 01's u is below B
-pub ahead-below : (modulus v r : ℕ) → v < modulus → (r + (modulus - v)) % modulus < modulus
-ahead-below modulus v r below = let some-clock : 0 < modulus = omega arith in mod-lt (r + (modulus - v)) some-clock
+-- 01's u, for clocks below B
+pub ahead-from : (modulus v r : ℕ) → v ≤ r → r < modulus → r - v ≡ ahead modulus v r
+unfolding ahead
+ahead-from modulus v r h below =
+    let round : r + (modulus - v) ≡ r - v + modulus = omega arith in
+    rw (round, add-mod-right (r - v) modulus) (sym (mod-eq-of-lt (omega arith)))
 
--- u ahead of v
-pub near-ahead : (epsilon modulus v r : ℕ) → (r + (modulus - v)) % modulus ≤ epsilon - 1
-    → modulus + (r + (modulus - v)) % modulus ≡ near epsilon modulus v r
-unfolding near ahead
-near-ahead epsilon modulus v r h = rw (le-leb ((r + (modulus - v)) % modulus) (epsilon - 1) h)
+pub ahead-round : (modulus v r : ℕ) → r < v → v < modulus → r + (modulus - v) ≡ ahead modulus v r
+unfolding ahead
+ahead-round modulus v r h below = let small : r + (modulus - v) < modulus = omega arith in sym (mod-eq-of-lt small)
 
--- behind v
-pub near-behind : (epsilon modulus v r : ℕ) → v < modulus → epsilon - 1 < (r + (modulus - v)) % modulus
-    → (r + (modulus - v)) % modulus ≡ near epsilon modulus v r
-unfolding near ahead
-near-behind epsilon modulus v r below h =
-    let small : (r + (modulus - v)) % modulus < modulus = ahead-below modulus v r below in
-    rw (lt-leb ((r + (modulus - v)) % modulus) (epsilon - 1) h) (omega arith)
+-- the reading by u
+pub near-of-ahead : (epsilon modulus v r u : ℕ) → 1 ≤ epsilon → u ≡ ahead modulus v r → u ≤ epsilon - 1
+    → modulus + u ≡ near epsilon modulus v r
+near-of-ahead epsilon modulus v r u some-offset e h =
+    let small : ahead modulus v r < epsilon = omega arith in
+    rw (near-ahead epsilon modulus v r some-offset small, e)
+
+pub near-of-behind : (epsilon modulus v r u : ℕ) → 1 ≤ epsilon → v < modulus → u ≡ ahead modulus v r → epsilon - 1 < u
+    → u ≡ near epsilon modulus v r
+near-of-behind epsilon modulus v r u some-offset below e h =
+    let some-clock : 0 < modulus = omega arith in
+    let large : epsilon ≤ ahead modulus v r = omega arith in
+    rw (near-behind epsilon modulus v r some-offset some-clock large, e)
 
 -- 01: "Outside those offsets a count reads as 0"
 pub count-before : (reading w : ℕ) (kn : List ℕ) → w < reading → 0 ≡ countAt reading kn w

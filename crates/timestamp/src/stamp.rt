@@ -227,11 +227,22 @@ fn larger_counts(
     kn
 }
 
-// 01: "u is (r − v) modulo B. If u ≤ ε − 1, r is u ahead. Otherwise it is B − u behind." v itself reads B.
+// 01: "u is (r − v) modulo B".
+fn ahead(modulus: usize, v: usize, r: usize) -> usize
+    requires { ⌜ (modulus ≤ 65535) × ((v < modulus) × (r < modulus)) ⌝ }
+    ensures { λ u. ⌜ u ≡ model.ahead modulus v r ⌝ }
+{
+    if v <= r {
+        return r - v;
+    }
+    r + (modulus - v)
+}
+
+// 01: "If u ≤ ε − 1, r is u ahead. Otherwise it is B − u behind." v itself reads B.
 pub fn near(epsilon: usize, modulus: usize, v: usize, r: usize) -> usize
     requires { ⌜ (1 ≤ epsilon) × ((modulus ≤ 65535) × ((v < modulus) × (r < modulus))) ⌝ }
     ensures { λ x. ⌜ x ≡ model.near epsilon modulus v r ⌝ }
 {
-    let u = (r + (modulus - v)) % modulus;
+    let u = ahead(modulus, v, r);
     if u <= epsilon - 1 { modulus + u } else { u }
 }
