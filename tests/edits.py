@@ -103,6 +103,14 @@ def dev(work, crate):
     return subprocess.run(["rt", "dev", crate], cwd=work, text=True, stdout=subprocess.PIPE, stderr=subprocess.STDOUT).stdout
 
 
+def verdict(edit, crate, log):
+    """The line to print for an edit, and 1 if it is not refused."""
+    where = judge(edit, crate, log) if "logic=not-proved" in log else None
+    if where:
+        return f"edit {crate}/{edit.name}: refused at {where[:160]}", 0
+    return f"edit {crate}/{edit.name}: NOT REFUSED; the check's first error: {first_error(log)[:160]}", 1
+
+
 def try_crate(crate):
     """The lines to print for a crate, and how many of its edits are not refused."""
     with tempfile.TemporaryDirectory() as name:
@@ -110,16 +118,17 @@ def try_crate(crate):
         for part in ("crates", "target"):
             shutil.copytree(ROOT / part, work / part, ignore=shutil.ignore_patterns("must-fail", "inc"))
         shutil.copy(ROOT / "crates.txt", work)
+        shutil.copytree(ROOT / "crates" / crate, work / "clean")
+        if "logic=proved" not in dev(work, crate):
+            return [f"{crate}: not proved before any edit"], 1
         return try_rounds(work, crate)
 
 
 def try_rounds(work, crate):
-    """The same, in a copy of the repository."""
-    clean, copy = ROOT / "crates" / crate, work / "crates" / crate
-    lines, failed = [], 0
-    if "logic=proved" not in dev(work, crate):
-        return [f"{crate}: not proved before any edit"], 1
+    """The same, in a copy of the repository in which the crate is proved."""
+    clean, copy = work / "clean", work / "crates" / crate
     edits = [Edit(path, clean) for path in sorted((clean / "must-fail" / "together").glob("*.edit"))]
+    verdicts = []
     for together in rounds(edits):
         for part in ("src", "specs"):
             if (clean / part).is_dir():
@@ -127,11 +136,8 @@ def try_rounds(work, crate):
         for edit in together:
             edit.apply(copy)
         log = dev(work, crate)
-        for edit in together:
-            where = judge(edit, crate, log) if "logic=not-proved" in log else None
-            failed += where is None
-            lines.append(f"edit {crate}/{edit.name}: " + (f"refused at {where[:160]}" if where else "NOT REFUSED"))
-    return lines, failed
+        verdicts += [verdict(edit, crate, log) for edit in together]
+    return [line for line, _ in verdicts], sum(failed for _, failed in verdicts)
 
 
 def summary(what, answers):
@@ -146,7 +152,8 @@ def summary(what, answers):
 
 
 def main():
-    crates = sys.argv[1:] or sorted(p.parent.parent.name for p in ROOT.glob("crates/*/must-fail/together"))
+    folders = sorted(ROOT.glob("crates/*/must-fail/together"), key=lambda p: -len(list(p.iterdir())))
+    crates = sys.argv[1:] or [p.parent.parent.name for p in folders]
     with ThreadPoolExecutor(2) as pool:
         summary("edits tried together", pool.map(try_crate, crates))
 
