@@ -51,16 +51,10 @@ pub fn count_of(batch: &[u8]) -> usize
 pub fn entry_at(batch: &[u8], at: usize) -> &[u8]
     ensures { λ r. ⌜ now r ≡ entryAt (now (batch .entry)) at ⌝ }
 {
-    let n = batch.len();
-    if n <= at {
+    if batch.len() <= at {
         return &batch[..0];
     }
-    let size = batch[at] as usize;
-    let start = at + 1;
-    if n - start < size {
-        return &batch[start..];
-    }
-    &batch[start..start + size]
+    splice::part(batch, at + 1, batch[at] as usize)
 }
 
 // The position after that entry; the batch's length where it would run past it.

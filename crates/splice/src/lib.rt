@@ -1,6 +1,6 @@
 // Changes to a byte buffer in place: copy into it, move a part of it left or right, clear a part,
 // insert into and cut from the bytes in use, and write a two-byte number. And what stands at a
-// position of any bytes.
+// position of any bytes, and a part of them.
 //
 // Each contract is one equation: the buffer at exit is a definition of `specs/Bytes.antt` at the
 // buffer at entry. Each `requires` keeps the indices within the buffer; the callers are inside this
@@ -108,4 +108,17 @@ pub fn two_at(s: &[u8], at: usize) -> usize
     ensures { λ r. ⌜ r ≡ twoAt (now (s .entry)) at ⌝ }
 {
     byte_at(s, at) as usize + 256 * (byte_at(s, at + 1) as usize)
+}
+
+// The bytes from a position on, size of them at most: a part of the slice.
+pub fn part(s: &[u8], from: usize, size: usize) -> &[u8]
+    ensures { λ r. ⌜ now r ≡ part (now (s .entry)) from size ⌝ }
+{
+    if s.len() < from {
+        return &s[..0];
+    }
+    if s.len() - from <= size {
+        return &s[from..];
+    }
+    &s[from..from + size]
 }

@@ -1,12 +1,12 @@
 // The lines of a tick and of a refusal.
 use crate::digits::digit_count;
-use crate::parse::part;
 use crate::text::payload_size;
 use crate::text::put_field;
 use crate::text::put_fields;
 use crate::text::put_give;
 use crate::text::put_word;
 use splice::byte_at;
+use splice::part;
 use splice::two_at;
 ghost use mathlib.Core.Path.{_≡_};
 ghost use Prim.Native.Nat.{_+_, _*_, _≤_, _<_, _^_};

@@ -1,26 +1,13 @@
 // From the bytes of a trace to the arguments of a call. A byte that is missing reads as 0.
 use splice::byte_at;
+use splice::part;
 use splice::two_at;
 use timestamp::Setup;
 use timestamp::holdback_length;
 use timestamp::in_limits;
 ghost use mathlib.Core.Path.{_≡_};
-ghost use lib.ListN.{take, drop};
 ghost use Rattle.timestamp.specs.Views.{setupOf};
 ghost use Rattle.trace.specs.Trace.{traceSetup, setupNumber, tickCount, oneBefore, clockOf, sendOf, payloadOf, batchOf, tickEnd, needed, tickNumber};
-
-// The bytes from a position on, size of them at most.
-pub fn part(s: &[u8], from: usize, size: usize) -> &[u8]
-    ensures { λ r. ⌜ now r ≡ take size (drop from (now (s .entry))) ⌝ }
-{
-    if s.len() < from {
-        return &s[..0];
-    }
-    if s.len() - from <= size {
-        return &s[from..];
-    }
-    &s[from..from + size]
-}
 
 // The setup of a trace, at its start.
 pub fn read_setup(s: &[u8]) -> Setup

@@ -2,7 +2,8 @@
 use mathlib.Core.Path.{sym}
 use native.Mathlib.Omega.{arith}
 use borrow.Author.Needs.{needs}
-use Rattle.batch.proofs.Walk.{entry-past, entry-rest, entry-between}
+use Rattle.batch.proofs.Walk.{entry-past}
+use Rattle.batch.specs.Walk.{entryAt}
 use Rattle.batch.proofs.entry_at.Statement.{statement}
 use Rattle.batch.proofs.entry_at.Tie as tie
 
@@ -10,63 +11,25 @@ slice-aggregate-result : tie.Need-slice-aggregate-result
 slice-aggregate-result c = search needs
 
 returns : tie.Need-returns
-returns c = sym (entry-past (c .before .before .args .batch .now) (c .before .before .args .at) (omega arith))
+returns c = sym (entry-past (c .before .before .before .args .batch .now) (c .before .before .before .args .at) (omega arith))
 
-shared-slice-read-size : tie.Need-shared-slice-read-size
-shared-slice-read-size c = search needs
+add-part : tie.Need-add-part
+add-part c = search needs
 
-cast-size : tie.Need-cast-size
-cast-size c = omega (arith, c .shared-slice-known .given (c .before .before .args .at))
+shared-slice-read-part : tie.Need-shared-slice-read-part
+shared-slice-read-part c = search needs
 
-add-start : tie.Need-add-start
-add-start c = search needs
+cast-part : tie.Need-cast-part
+cast-part c = omega (arith, c .shared-slice-known2 .given (c .before .before .before .args .at))
 
-sub-if2 : tie.Need-sub-if2
-sub-if2 c = search needs
-
-sub-result : tie.Need-sub-result
-sub-result c = search needs
-
-part-result-start : tie.Need-part-result-start
-part-result-start c = search needs
-
-part-result-end : tie.Need-part-result-end
-part-result-end c = search needs
+part-requires : tie.Need-part-requires
+part-requires c κs = search needs
 
 returns-2 : tie.Need-returns-2
-returns-2 c = entry-rest (c .before .before .before .before .args .batch .now) (c .before .before .before .before .args .at) (omega arith)
-
-add-result : tie.Need-add-result
-add-result c = search needs
-
-sub-result-2 : tie.Need-sub-result-2
-sub-result-2 c = search needs
-
-part-result-start-2 : tie.Need-part-result-start-2
-part-result-start-2 c = search needs
-
-part-result-end-2 : tie.Need-part-result-end-2
-part-result-end-2 c = search needs
-
-returns-3 : tie.Need-returns-3
-returns-3 c = entry-between (c .before .before .before .before .args .batch .now) (c .before .before .before .before .args .at)
+unfolding entryAt
+returns-2 c = c .part .ensures
 
 pub entry-at-spec : {M : Type 1} → statement M
 entry-at-spec =
     tie.close
-    (tie.spec
-    slice-aggregate-result
-    returns
-    shared-slice-read-size
-    cast-size
-    add-start
-    sub-if2
-    sub-result
-    part-result-start
-    part-result-end
-    returns-2
-    add-result
-    sub-result-2
-    part-result-start-2
-    part-result-end-2
-    returns-3)
+    (tie.spec slice-aggregate-result returns add-part shared-slice-read-part cast-part part-requires returns-2)

@@ -6,7 +6,6 @@ use Rattle.trace.proofs.parse.payload_of.Statement.{statement}
 use Rattle.trace.proofs.parse.payload_of.Tie as tie
 use Rattle.trace.proofs.parse.payload_of.Reads as reads
 use Rattle.trace.proofs.parse.payload_of.Lts as lts
-use Rattle.trace.proofs.parse.part.Reads as part-reads
 
 byte-at-requires : tie.Need-byte-at-requires
 byte-at-requires c κs = search needs

@@ -1,14 +1,14 @@
--- `trace::parse::part` meets its contract. Assumes nothing.
+-- `splice::part` meets its contract. Assumes nothing.
 use Prim.Native.Nat.{_+_, _-_}
 use mathlib.Core.Path.{_≡_, sym, ap, _∙_}
 use lib.ListN.{length, take, drop, length-drop, drop-of-length-le}
 use lib.Seq.{take-all, take-nil}
 use native.Mathlib.Omega.{arith}
 use borrow.Author.Needs.{needs}
-use Rattle.trace.proofs.parse.part.Statement.{statement}
-use Rattle.trace.proofs.parse.part.Tie as tie
-use Rattle.trace.proofs.parse.part.Reads as reads
-use Rattle.trace.proofs.parse.part.Lts as lts
+use Rattle.splice.proofs.part.Statement.{statement}
+use Rattle.splice.proofs.part.Tie as tie
+use Rattle.splice.proofs.part.Reads as reads
+use Rattle.splice.proofs.part.Lts as lts
 
 slice-aggregate-result : tie.Need-slice-aggregate-result
 slice-aggregate-result c = search needs
