@@ -1,19 +1,18 @@
 -- The walk over the frames of a queue: one frame judged, one turn, the end.
 -- Assumes nothing.
-use Prim.Native.Nat.{ℕ, zero, suc, _+_, _*_, _-_, _≤_, _<_}
+use Prim.Native.Nat.{ℕ, zero, suc, _+_, _-_, _≤_, _<_}
 use native.Mathlib.Numerals.{add-one}
 use native.Mathlib.Nat.{not-suc-le-zero}
 use native.Mathlib.Omega.{arith}
 use mathlib.Core.Path.{_≡_, refl, sym, ap, ap₂, _∙_}
-use mathlib.Core.Bool.{Bool, true, false, _&&_, _||_, not, cond}
+use mathlib.Core.Bool.{Bool, true, false, _||_, not, cond}
 use mathlib.Core.Logic.{_⊎_, inl, inr}
-use mathlib.Core.List.{List, [], _∷_, _++_, List·Memᴰ}
-use lib.Dec.{leb, eqb}
+use mathlib.Core.List.{List, [], _∷_, List·Memᴰ}
+use lib.Dec.{eqb}
 use lib.ListN.{length, take, drop, getD, length-drop}
 use lib.Seq.{take-all}
-use borrow.Author.Tests.{lt-leb}
-use Rattle.laws.specs.Lists.{tab, any, every, leading}
-use Rattle.laws.proofs.Numbers.{clash, lt-or-ge, false-of-no, false-of-not, true-of-not, not-of-true, not-of-false, and-left, and-intro}
+use Rattle.laws.specs.Lists.{tab, any, leading}
+use Rattle.laws.proofs.Numbers.{clash, lt-or-ge, false-of-no, false-of-not, true-of-not, not-of-true, not-of-false, and-intro}
 use Rattle.laws.proofs.Lists.{length-tab, getD-tab, tab-suc, any-append, index-of-mem, take-tab, every-tab, leading-unique}
 use Rattle.model.specs.Setup.{Setup, depth}
 use Rattle.model.specs.Frame.{Frame, twoAt, decode, frameEnd, wellFormed}
@@ -23,11 +22,10 @@ use Rattle.lemmas.proofs.Bounds.{Limits}
 use Rattle.holdback.specs.Queue.{frameStart, bytesAt, frameAt, Stands}
 use Rattle.holdback.specs.Sound.{fits, follows, isNew, frameSound, Walking, Between, Starting, Opened, openedQueue}
 use Rattle.holdback.specs.Seen.{InWindow, isMarked, marked, slotOf, seenTable, tableLength}
-use Rattle.holdback.proofs.RoundTrip.{Passing, passing}
+use Rattle.holdback.proofs.RoundTrip.{passing}
 use Rattle.holdback.proofs.Frames.{start-zero, start-suc, start-inside, start-within, held-tab, FormedUpTo}
-use Rattle.holdback.proofs.Judging.{Fitting, fitting, frame-fits, frame-follows, frame-new, sound-by, sound-few, sound-frames, sound-formed}
+use Rattle.holdback.proofs.Judging.{fitting, frame-fits, frame-follows, frame-new, sound-by, sound-few, sound-frames, sound-formed}
 use Rattle.holdback.proofs.Seen.{fitting-window, seen-at, seen-more, length-seen}
-use Rattle.holdback.proofs.Changes.{length-held}
 
 -- ---- where a frame stands, by the code's numbers
 
@@ -318,70 +316,91 @@ opened-yes {s} {v} {b} {count} {i} begin walk le ge =
           (ap (λ (n : ℕ). tab n (frameAt (s .epsilon) b)) all ∙ sym (held-tab (s .epsilon) b) ∙ rw sound);
     }
 
--- ---- the frames at the front of which a test holds
+-- ---- a search in a sound queue: the frames at the front of which a test holds
 
-pub record Led (p : Frame → Bool) (epsilon : ℕ) (b : List ℕ) (count i at : ℕ) : Type 0 where
-  pub starts : at ≡ frameStart epsilon b i
+-- the walk has come to frame i, which starts at `at`, and the test holds of every frame before it
+pub record Led (p : Frame → Bool) (s : Setup) (v : ℕ) (b : List ℕ) (count i at : ℕ) : Type 0 where
+  pub sound : soundHoldback s v b ≡ true
+  pub two : 2 ≤ length b
+  pub counted : count ≡ twoAt b 0
+  pub starts : at ≡ frameStart (s .epsilon) b i
   pub most : i ≤ count
-  pub ahead : (k : ℕ) → k < i → p (frameAt epsilon b k) ≡ true
+  pub ahead : (k : ℕ) → k < i → p (frameAt (s .epsilon) b k) ≡ true
 
-pub led-starts : (p : Frame → Bool) (epsilon : ℕ) (b : List ℕ) (count : ℕ) → Led p epsilon b count 0 2
-led-starts p epsilon b count =
-    record { starts = sym (start-zero epsilon b); most = omega arith; ahead = λ k h. absurd (not-suc-le-zero h) }
+pub led-starts : {p : Frame → Bool} {s : Setup} {v : ℕ} {b : List ℕ} {count : ℕ} → (soundHoldback s v b ≡ true) × ((2 ≤ length b) × (count ≡ twoAt b 0)) → Led p s v b count 0 2
+led-starts {s} {b} q =
+    record {
+      sound = q .0;
+      two = q .1 .0;
+      counted = q .1 .1;
+      starts = sym (start-zero (s .epsilon) b);
+      most = omega arith;
+      ahead = λ k h. absurd (not-suc-le-zero h);
+    }
 
-module _ {p : Frame → Bool} {epsilon : ℕ} {b : List ℕ} {count i at : ℕ} (led : Led p epsilon b count i at) where
-  pub led-turns : (next : ℕ) → i < count → next ≡ frameStart epsilon b (suc i) → p (frameAt epsilon b i) ≡ true → Led p epsilon b count (i + 1) next
-  led-turns next l e h =
-      record {
-        starts = e ∙ ap (frameStart epsilon b) (sym (add-one i));
-        most = omega arith;
-        ahead = λ k m. go k m (lt-or-ge k i);
-      }
-    where
-      go : (k : ℕ) → k < i + 1 → (k < i) ⊎ (i ≤ k) → p (frameAt epsilon b k) ≡ true
-      go k m (inl q) = led .ahead k q
-      go k m (inr q) = let e : i ≡ k = omega arith in rw (← e) h
-
-  pub led-stands : count ≡ twoAt b 0 → (i < count → p (frameAt epsilon b i) ≡ false) → Stands epsilon b (leading p (held epsilon b)) i at
-  led-stands counted last =
+module _ {p : Frame → Bool} {s : Setup} {v : ℕ} {b : List ℕ} {count i at : ℕ} (led : Led p s v b count i at) where
+  stands : (i < count → p (frameAt (s .epsilon) b i) ≡ false) → Stands (s .epsilon) b (leading p (held (s .epsilon) b)) i at
+  stands last =
       let n : ℕ = twoAt b 0 in
-      let frame : ℕ → Frame = frameAt epsilon b in
-      let le : i ≤ n = omega (arith, led .most) in
+      let frame : ℕ → Frame = frameAt (s .epsilon) b in
+      let le : i ≤ n = omega (arith, led .most, led .counted) in
       record {
         frames =
             sym
-            (ap (leading p) (held-tab epsilon b)
+            (ap (leading p) (held-tab (s .epsilon) b)
             ∙ leading-unique p (tab n frame) i (frame 0) (rw (length-tab n frame) le)
             (rw (take-tab i n frame le) (every-tab p i frame (led .ahead)))
-            (λ h. let l : i < n = rw (length-tab n frame) at h in ap p (getD-tab n frame i (frame 0) l) ∙ last (omega arith)));
+            (λ h. let l : i < n = rw (length-tab n frame) at h in ap p (getD-tab n frame i (frame 0) l) ∙ last (omega (arith, led .counted))));
         starts = led .starts;
       }
 
--- a frame of a sound queue
-module _ (s : Setup) (v : ℕ) (b : List ℕ) (sound : soundHoldback s v b ≡ true) (two : 2 ≤ length b) where
-  pub sound-fits : (i : ℕ) → i < twoAt b 0 → Fitting s v (bytesAt (s .epsilon) b i)
-  sound-fits i l = fitting s v (bytesAt (s .epsilon) b i) (frame-fits s v b i (sound-frames s v b sound i l))
+  -- it holds of all
+  pub led-ends : count ≤ i → Stands (s .epsilon) b (leading p (held (s .epsilon) b)) i at
+  led-ends h = stands (λ l. absurd (omega arith))
 
-  pub all-formed : FormedUpTo (s .epsilon) b (twoAt b 0)
-  all-formed = sound-formed s v b (twoAt b 0) (λ i l. sound-frames s v b sound i l)
+  -- one turn
+  module _ (more : i < count) where
+    formed : FormedUpTo (s .epsilon) b (twoAt b 0)
+    formed = sound-formed s v b (twoAt b 0) (λ k l. sound-frames s v b (led .sound) k l)
 
-  pub sound-inside : (i at : ℕ) → i < twoAt b 0 → at ≡ frameStart (s .epsilon) b i → at ≤ length b
-  sound-inside i at l e = rw e (start-within (s .epsilon) b i two (λ k h. all-formed k (omega arith)))
+    pub led-inside : at ≤ length b
+    led-inside = rw (led .starts) (start-within (s .epsilon) b i (led .two) (λ k h. formed k (omega (arith, led .counted))))
 
-  pub sound-next : (i next : ℕ) → i < twoAt b 0 → next ≡ frameStart (s .epsilon) b (suc i) → next ≤ length b
-  sound-next i next l e = rw e (start-inside (s .epsilon) b i (all-formed i l))
+    module _ {size : ℕ} (e : size ≡ frameEnd (s .epsilon) (take (length b - at) (drop at b))) where
+      next : at + size ≡ frameStart (s .epsilon) b (suc i)
+      next = next-start (s .epsilon) b i at size (led .starts) e
 
-  pub sound-part : (i at next : ℕ) → i < twoAt b 0 → at ≡ frameStart (s .epsilon) b i → next ≡ frameStart (s .epsilon) b (suc i) → passes s (take (next - at) (drop at b)) ≡ true
-  sound-part i at next l ea en = ap (passes s) (bytes-part (s .epsilon) b i at next ea en) ∙ sound-fits i l .passed
+      part : take (at + size - at) (drop at b) ≡ bytesAt (s .epsilon) b i
+      part = bytes-part (s .epsilon) b i at (at + size) (led .starts) next
 
--- a test of the bytes at a place is one of the frame there
-module _ (p : Frame → Bool) (epsilon : ℕ) (b : List ℕ) (i at next : ℕ) (ea : at ≡ frameStart epsilon b i) (en : next ≡ frameStart epsilon b (suc i)) (t : Bool) (e : t ≡ p (decode epsilon (take (next - at) (drop at b)))) where
-  test-at : t ≡ p (frameAt epsilon b i)
-  unfolding frameAt
-  test-at = e ∙ ap (λ (l : List ℕ). p (decode epsilon l)) (bytes-part epsilon b i at next ea en)
+      pub led-next : at + size ≤ length b
+      led-next = rw next (start-inside (s .epsilon) b i (formed i (omega (arith, led .counted))))
 
-  pub test-holds : not t ≡ false → p (frameAt epsilon b i) ≡ true
-  test-holds n = sym test-at ∙ true-of-not t n
+      pub led-passes : passes s (take (at + size - at) (drop at b)) ≡ true
+      led-passes =
+          let l : i < twoAt b 0 = omega (arith, led .counted) in
+          ap (passes s) part ∙ fitting s v (bytesAt (s .epsilon) b i) (frame-fits s v b i (sound-frames s v b (led .sound) i l)) .passed
 
-  pub test-fails : not t ≡ true → p (frameAt epsilon b i) ≡ false
-  test-fails n = sym test-at ∙ false-of-not t n
+      -- the test t of the frame's bytes
+      module _ {t : Bool} (h : t ≡ p (decode (s .epsilon) (take (at + size - at) (drop at b)))) where
+        test-is : t ≡ p (frameAt (s .epsilon) b i)
+        unfolding frameAt
+        test-is = h ∙ ap (λ (l : List ℕ). p (decode (s .epsilon) l)) part
+
+        pub led-stops : not t ≡ true → Stands (s .epsilon) b (leading p (held (s .epsilon) b)) i at
+        led-stops n = stands (λ _. sym test-is ∙ false-of-not t n)
+
+        pub led-turns : not t ≡ false → Led p s v b count (i + 1) (at + size)
+        led-turns n =
+            record {
+              sound = led .sound;
+              two = led .two;
+              counted = led .counted;
+              starts = next ∙ ap (frameStart (s .epsilon) b) (sym (add-one i));
+              most = omega arith;
+              ahead = λ k m. go k m (lt-or-ge k i);
+            }
+          where
+            go : (k : ℕ) → k < i + 1 → (k < i) ⊎ (i ≤ k) → p (frameAt (s .epsilon) b k) ≡ true
+            go k m (inl q) = led .ahead k q
+            go k m (inr q) = let same : i ≡ k = omega arith in rw (← same) (sym test-is ∙ true-of-not t n)

@@ -2,8 +2,14 @@
 use native.Mathlib.Omega.{arith}
 use Rattle.timestamp.specs.Views.{setupOf}
 use Rattle.lemmas.proofs.Questions.{limits-from}
-use Prim.Native.Nat.{_-_}
+use Prim.Native.Nat.{ℕ, _-_}
+use mathlib.Core.Path.{_≡_}
+use mathlib.Core.Bool.{true}
 use lib.ListN.{length, take, drop}
+use Rattle.model.specs.Setup.{Setup}
+use Rattle.model.specs.Frame.{frameEnd}
+use Rattle.holdback.specs.Queue.{bytesAt}
+use Rattle.holdback.specs.Sound.{fits, Walking}
 use Rattle.holdback.proofs.Frames.{end-small, bytes-take, bytes-drop}
 use Rattle.holdback.proofs.Walks.{at-inside, judged-cut, judged-unfit, fit-of, neighbours, judged-unordered, fit-window, table-long, judged-repeated, judged-sound}
 use borrow.Author.Needs.{needs}
@@ -62,23 +68,33 @@ returns-2 c =
     let start = c .before .before .before .before .before .before .before .before .before in
     judged-unfit (start .pre .1) (c .before .before .before .before .frame-end .result) (c .before .before .before .before .frame-end .ensures) (c .before .fits2 .result) (c .before .fits2 .ensures) (c .if2 .taken)
 
+-- a frame that fits
+module _ (c : tie.Else2) where
+  abbrev start : tie.Start
+  start = c .before .before .before .before .before .before .before .before .before
+
+  abbrev setup : Setup
+  setup = setupOf (start .args .s)
+
+  abbrev walk : Walking setup (start .args .v) (start .args .buf .now) (start .args .seen .now) (start .args .i) (start .args .prev) (start .args .at)
+  walk = start .pre .1
+
+  abbrev size : ℕ
+  size = c .before .before .before .before .frame-end .result
+
+  abbrev ends : size ≡ frameEnd (setup .epsilon) (take (length (start .args .buf .now) - start .args .at) (drop (start .args .at) (start .args .buf .now)))
+  ends = c .before .before .before .before .frame-end .ensures
+
+  fit : fits setup (start .args .v) (bytesAt (setup .epsilon) (start .args .buf .now) (start .args .i)) ≡ true
+  fit = fit-of walk size ends (c .before .fits2 .result) (c .before .fits2 .ensures) (c .if2 .left)
+
 follows-requires : tie.Need-follows-requires
-follows-requires c κs =
-    let start = c .before .before .before .before .before .before .before .before .before in
-    let walk = start .pre .1 in
-    let size = c .before .before .before .before .frame-end .result in
-    let ends = c .before .before .before .before .frame-end .ensures in
-    let fit = fit-of walk size ends (c .before .fits2 .result) (c .before .fits2 .ensures) (c .if2 .left) in
-    (start .pre .0, neighbours walk size ends fit)
+follows-requires c κs = (start c .pre .0, neighbours (walk c) (size c) (ends c) (fit c))
 
 returns-3 : tie.Need-returns-3
 returns-3 c =
-    let start = c .before .before .before .before .before .before .before .before .before .before .before in
-    let walk = start .pre .1 in
-    let size = c .before .before .before .before .before .before .frame-end .result in
-    let ends = c .before .before .before .before .before .before .frame-end .ensures in
-    let fit = fit-of walk size ends (c .before .before .before .fits2 .result) (c .before .before .before .fits2 .ensures) (c .before .before .if2 .left) in
-    judged-unordered walk size ends fit (c .before .follows .result) (c .before .follows .ensures) (c .if3 .taken)
+    let at = c .before .before in
+    judged-unordered (walk at) (size at) (ends at) (fit at) (c .before .follows .result) (c .before .follows .ensures) (c .if3 .taken)
 
 sub-repeats : tie.Need-sub-repeats
 sub-repeats c = search needs
@@ -91,32 +107,19 @@ part-repeats-end c = search needs
 
 repeats-requires : tie.Need-repeats-requires
 repeats-requires c κs =
-    let start = c .before .before .before .before .before .before .before .before .before .before .before .before in
-    let walk = start .pre .1 in
-    let size = c .before .before .before .before .before .before .before .frame-end .result in
-    let ends = c .before .before .before .before .before .before .before .frame-end .ensures in
-    let fit = fit-of walk size ends (c .before .before .before .before .fits2 .result) (c .before .before .before .before .fits2 .ensures) (c .before .before .before .if2 .left) in
-    (start .pre .0, (fit-window walk size ends fit, table-long walk))
+    let at = c .before .before .before in
+    (start at .pre .0, (fit-window (walk at) (size at) (ends at) (fit at), table-long (walk at)))
 
 returns-4 : tie.Need-returns-4
 returns-4 c =
-    let start = c .before .before .before .before .before .before .before .before .before .before .before .before .before .before in
-    let walk = start .pre .1 in
-    let size = c .before .before .before .before .before .before .before .before .before .frame-end .result in
-    let ends = c .before .before .before .before .before .before .before .before .before .frame-end .ensures in
-    let fit = fit-of walk size ends (c .before .before .before .before .before .before .fits2 .result) (c .before .before .before .before .before .before .fits2 .ensures) (c .before .before .before .before .before .if2 .left) in
-    let limits = limits-from (setupOf (start .args .s)) (start .pre .0 .0) in
-    judged-repeated walk size ends fit limits (start .pre .0 .1) (c .before .repeats .result) (c .before .repeats .ensures) (c .if4 .taken)
+    let at = c .before .before .before .before .before in
+    judged-repeated (walk at) (size at) (ends at) (fit at) (limits-from (setup at) (start at .pre .0 .0)) (start at .pre .0 .1) (c .before .repeats .result) (c .before .repeats .ensures) (c .if4 .taken)
 
 returns-5 : tie.Need-returns-5
 returns-5 c =
-    let start = c .before .before .before .before .before .before .before .before .before .before .before .before .before .before in
-    let walk = start .pre .1 in
-    let size = c .before .before .before .before .before .before .before .before .before .frame-end .result in
-    let ends = c .before .before .before .before .before .before .before .before .before .frame-end .ensures in
-    let fit = fit-of walk size ends (c .before .before .before .before .before .before .fits2 .result) (c .before .before .before .before .before .before .fits2 .ensures) (c .before .before .before .before .before .if2 .left) in
-    let limits = limits-from (setupOf (start .args .s)) (start .pre .0 .0) in
-    judged-sound walk size ends fit limits (start .pre .0 .1) (c .before .before .before .before .follows .result) (c .before .repeats .result) (c .before .before .before .before .follows .ensures) (c .before .before .before .if3 .left) (c .before .repeats .ensures) (c .if4 .left)
+    let at = c .before .before .before .before .before in
+    let follows = c .before .before .before .before .follows in
+    judged-sound (walk at) (size at) (ends at) (fit at) (limits-from (setup at) (start at .pre .0 .0)) (start at .pre .0 .1) (follows .result) (c .before .repeats .result) (follows .ensures) (c .before .before .before .if3 .left) (c .before .repeats .ensures) (c .if4 .left)
 
 pub judge-at-spec : {M : Type 1} → statement M
 judge-at-spec =

@@ -2,10 +2,14 @@
 use native.Mathlib.Omega.{arith}
 use Rattle.timestamp.specs.Views.{setupOf}
 use mathlib.Core.Path.{_≡_}
-use Prim.Native.Nat.{_-_, _≤_, _<_}
+use Prim.Native.Nat.{ℕ, suc, _-_, _≤_, _<_}
+use mathlib.Core.Bool.{true}
+use mathlib.Core.List.{List}
 use lib.ListN.{length}
+use Rattle.model.specs.Setup.{Setup}
 use Rattle.model.specs.Frame.{twoAt}
-use Rattle.holdback.specs.Sound.{Walking}
+use Rattle.holdback.specs.Queue.{frameStart}
+use Rattle.holdback.specs.Sound.{frameSound, Walking}
 use Rattle.holdback.proofs.Seen.{seen-cleared}
 use Rattle.holdback.proofs.Walks.{walk-starts, starting-long, table-long, verdict-no, verdict-yes, walk-fails, opened-no, opened-yes, judged-inside, judged-window, walk-turns}
 use Rattle.holdback.proofs.soundness.walk_frames.Statement.{statement}
@@ -64,43 +68,42 @@ returns c =
     (verdict-no (setupOf (start .args .s)) (start .args .v) b (loop .i) (judged .result) (judged .ensures) (c .before .before .before .before .if1 .taken)))
     (seen-cleared (setupOf (start .args .s)) (start .args .v) (loop .seen) _ (length (start .args .seen .now)) long slots (c .before .before .clear .ensures))
 
+-- a frame that is sound, and where it ends
+module _ (c : tie.Else1 Inv-loop μ-loop) where
+  abbrev start : tie.Start Inv-loop μ-loop
+  start = c .before .before .before .before .before .before .before
+
+  abbrev buffer : List ℕ
+  buffer = start .args .buf .now
+
+  abbrev setup : Setup
+  setup = setupOf (start .args .s)
+
+  abbrev walk : Walking setup (start .args .v) buffer (c .before .before .before .before .loop .seen) (c .before .before .before .before .loop .i) (c .before .before .before .before .loop .prev) (c .before .before .before .before .loop .at)
+  walk = c .before .before .before .before .loop .inv .0
+
+  abbrev next : ℕ
+  next = c .before .judge-at .result
+
+  right : (frameSound setup (start .args .v) buffer (c .before .before .before .before .loop .i) ≡ true) × (next ≡ frameStart (setup .epsilon) buffer (suc (c .before .before .before .before .loop .i)))
+  right = verdict-yes setup (start .args .v) buffer (c .before .before .before .before .loop .i) next (c .before .judge-at .ensures) (c .if1 .left)
+
+  inside : (c .before .before .before .before .loop .at ≤ next) × (next ≤ length buffer)
+  inside = judged-inside walk next right
+
 sub-mark : tie.Need-sub-mark Inv-loop μ-loop
-sub-mark c =
-    let start = c .before .before .before .before .before .before .before in
-    let b = start .args .buf .now in
-    let loop = c .before .before .before .before .loop in
-    let judged = c .before .judge-at in
-    let right = verdict-yes (setupOf (start .args .s)) (start .args .v) b (loop .i) (judged .result) (judged .ensures) (c .if1 .left) in
-    judged-inside (loop .inv .0) (judged .result) right .0
+sub-mark c = inside c .0
 
 part-mark-start : tie.Need-part-mark-start Inv-loop μ-loop
-part-mark-start c =
-    let start = c .before .before .before .before .before .before .before in
-    let b = start .args .buf .now in
-    let loop = c .before .before .before .before .loop in
-    let judged = c .before .judge-at in
-    let right = verdict-yes (setupOf (start .args .s)) (start .args .v) b (loop .i) (judged .result) (judged .ensures) (c .if1 .left) in
-    let o = judged-inside (loop .inv .0) (judged .result) right in
-    omega arith
+part-mark-start c = omega (arith, inside c)
 
 part-mark-end : tie.Need-part-mark-end Inv-loop μ-loop
-part-mark-end c =
-    let start = c .before .before .before .before .before .before .before in
-    let b = start .args .buf .now in
-    let loop = c .before .before .before .before .loop in
-    let judged = c .before .judge-at in
-    let right = verdict-yes (setupOf (start .args .s)) (start .args .v) b (loop .i) (judged .result) (judged .ensures) (c .if1 .left) in
-    let o = judged-inside (loop .inv .0) (judged .result) right in
-    omega arith
+part-mark-end c = omega (arith, inside c)
 
 mark-requires : tie.Need-mark-requires Inv-loop μ-loop
 mark-requires c κs =
-    let start = c .before .before .before .before .before .before .before .before .before in
-    let b = start .args .buf .now in
-    let loop = c .before .before .before .before .before .before .loop in
-    let judged = c .before .before .before .judge-at in
-    let right = verdict-yes (setupOf (start .args .s)) (start .args .v) b (loop .i) (judged .result) (judged .ensures) (c .before .before .if1 .left) in
-    (start .pre .0, (judged-window (loop .inv .0) (judged .result) right, table-long (loop .inv .0)))
+    let at = c .before .before in
+    (start at .pre .0, (judged-window (walk at) (next at) (right at), table-long (walk at)))
 
 add-i : tie.Need-add-i Inv-loop μ-loop
 add-i c = omega arith
@@ -110,12 +113,8 @@ loop-less c = omega arith
 
 loop-again : tie.Need-loop-again Inv-loop μ-loop
 loop-again c =
-    let start = c .before .before .before .before .before .before .before .before .before .before .before .before in
-    let b = start .args .buf .now in
-    let loop = c .before .before .before .before .before .before .before .before .before .loop in
-    let judged = c .before .before .before .before .before .before .judge-at in
-    let right = verdict-yes (setupOf (start .args .s)) (start .args .v) b (loop .i) (judged .result) (judged .ensures) (c .before .before .before .before .before .if1 .left) in
-    (walk-turns (loop .inv .0) (judged .result) right _ (c .before .before .mark .ensures), omega arith)
+    let at = c .before .before .before .before .before in
+    (walk-turns (walk at) (next at) (right at) _ (c .before .before .mark .ensures), omega arith)
 
 same-length-2 : tie.Need-same-length-2 Inv-loop μ-loop
 same-length-2 c =
