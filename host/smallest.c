@@ -1,0 +1,63 @@
+/* The smallest host: two stations that hear each other, and themselves, without loss. Each board shows both tickets in one order. */
+#include <stdio.h>
+#include <string.h>
+
+#include "yarngravel.h"
+
+enum { N = 2, EPSILON = 1, DELTA = 2, B = 9 };
+enum { FRAME = YARNGRAVEL_FRAME(EPSILON), SHELF = YARNGRAVEL_SHELF(N, EPSILON, DELTA) };
+
+/* What a station keeps between ticks, and what it has heard since its last one: a bundle. */
+struct station {
+    uint8_t tables[YARNGRAVEL_TABLES];
+    uint8_t shelf[SHELF];
+    uint8_t bundle[1 + 4 * (1 + FRAME)];
+    size_t bundle_len;
+};
+
+static void hear(struct station *s, const uint8_t *frame, size_t len) {
+    s->bundle[0]++;
+    s->bundle[s->bundle_len++] = (uint8_t)len;
+    memcpy(s->bundle + s->bundle_len, frame, len);
+    s->bundle_len += len;
+}
+
+static void show(unsigned board, const uint8_t *frames, unsigned count) {
+    for (; count > 0; count--) {
+        size_t len = 7 + 2 * EPSILON + frames[6 + 2 * EPSILON];
+        uint8_t stamp[YARNGRAVEL_TABLES];
+        uint64_t read = yarngravel_read(N, EPSILON, DELTA, B, board, frames, len, stamp);
+        printf("board %u: station %u says %.*s\n", board, yarngravel_station(read), (int)yarngravel_ticket_len(read),
+               (const char *)frames + yarngravel_ticket_at(read));
+        frames += len;
+    }
+}
+
+int main(void) {
+    static const char *const tickets[N] = {"bale 7", "dry"};
+    static struct station yard[N];
+    static uint8_t outgoing[FRAME], verdicts[YARNGRAVEL_VERDICTS], handout[SHELF];
+    for (unsigned own = 0; own < N; own++) {
+        yard[own].tables[3 + EPSILON] = 1; /* fresh at clock 0; the first tick is for clock 1 */
+        yard[own].bundle_len = 1;          /* an empty bundle is one byte 0 */
+    }
+    for (unsigned clock = 1; clock <= 6; clock++) {
+        for (unsigned own = 0; own < N; own++) {
+            struct station *s = &yard[own];
+            uint64_t answer =
+                yarngravel_tick(N, EPSILON, DELTA, B, own, clock % B, s->tables, s->shelf, SHELF, s->bundle, s->bundle_len,
+                                clock == 1, (const uint8_t *)tickets[own], strlen(tickets[own]), outgoing, FRAME, verdicts,
+                                YARNGRAVEL_VERDICTS, handout, SHELF);
+            if (yarngravel_number(answer) != 0) {
+                return 1;
+            }
+            show(own, handout + 2, yarngravel_gave(answer));
+            s->bundle[0] = 0;
+            s->bundle_len = 1;
+            for (unsigned to = 0; to < N && yarngravel_sent(answer) > 0; to++) {
+                hear(&yard[to], outgoing, yarngravel_sent(answer));
+            }
+        }
+    }
+    return 0;
+}
