@@ -174,6 +174,12 @@ pasted-over l at s t h e =
       drop-pasted-after l at s h (at + length t) (omega arith),
     )
 
+-- a part pasted where it stands: nothing changes
+pub pasted-own : (l : List ℕ) (from to n : ℕ) → to ≡ from → from + n ≤ length l → l ≡ pasted l to (part l from n)
+pasted-own l from to n e h =
+    rw (e, pasted-is l from (part l from n), length-part l from n h, ← drop-drop n from l, take-append-drop n (drop from l))
+    (sym (take-append-drop from l))
+
 -- ---- a part of a list, with one byte more at its end or at its start
 
 slice-snoc : (i j : ℕ) (s : List ℕ) → i ≤ j → j < length s → slice i j s ++ (getD s j 0 ∷ []) ≡ slice i (j + 1) s
