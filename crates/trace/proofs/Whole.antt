@@ -1,4 +1,4 @@
--- What reading a tick as it comes rests on: whoever reads as many bytes as are needed never reads past the tick, and a tick that is whole stays so.
+-- What reading a tick as it comes rests on: whoever reads up to where it ends so far never reads past the tick, and a tick that is whole stays so.
 -- The batch of a whole tick ends exactly after its last entry. Assumes nothing.
 use Prim.Native.Nat.{ℕ, zero, suc, _+_, _-_, _%_, _≤_, _<_}
 use mathlib.Core.Path.{_≡_, refl, sym, ap, subst, _∙_}
@@ -107,7 +107,7 @@ tick-there s t h k =
     tick-is (s ++ t)
     ∙ rw (batch-same s t h, List·getD-append s t 0 (batchAt s) k, drop-append-le (batchAt s + 1) s t (omega arith))
 
--- what is needed next belongs to the tick, whatever comes
+-- what it has so far belongs to the tick, whatever comes
 pub never-past : (s t : List ℕ) → tickEnd s ≤ tickEnd (s ++ t)
 never-past s t =
     ⊎-elim

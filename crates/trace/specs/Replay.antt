@@ -4,13 +4,14 @@ use mathlib.Core.Bool.{cond}
 use mathlib.Core.List.{List, [], _∷_, _++_}
 use lib.Dec.{ltb, eqb}
 use lib.ListN.{length, take, drop, replicate}
-use Rattle.model.specs.Setup.{Setup, longestFrame, verdictLength}
+use Rattle.model.specs.Setup.{Setup, verdictLength}
 use Rattle.model.specs.Timestamp.{Timestamp, fresh, widened}
 use Rattle.model.specs.Holdback.{encodeHoldback}
 use Rattle.model.specs.Tick.{Input, Output, holdbackSize, tick}
 use Rattle.trace.specs.Text.{linesOf, refusedLine}
 use Rattle.trace.specs.Trace.{
   setupLength,
+  largestHoldback,
   traceSetup,
   setupNumber,
   tickCount,
@@ -23,7 +24,7 @@ use Rattle.trace.specs.Trace.{
   tickNumber,
 }
 
--- the call of a tick's bytes, with the tables and the hold-back queue as they stand, and buffers of zeros
+-- the call of a tick's bytes, with the tables and the hold-back queue as they stand, and buffers of zeros that have room for any setup
 unfoldable pub callOf : Setup → Timestamp → List ℕ → List ℕ → Input
 callOf s tables holdback bytes =
     record {
@@ -34,40 +35,65 @@ callOf s tables holdback bytes =
       batch = batchOf bytes;
       send = sendOf bytes;
       payload = payloadOf bytes;
-      outgoing = replicate (longestFrame (s .epsilon)) 0;
+      outgoing = replicate 71 0;
       verdicts = replicate verdictLength 0;
-      delivery = replicate (holdbackSize s) 0;
+      delivery = replicate largestHoldback 0;
     }
 
--- 01: "its lines printed before the next. On a refusal it prints `refused` and the number, and stops"
-abbrev pub answered : ℕ → Input → Output → List ℕ → List ℕ
-answered zero i o rest = linesOf i o ++ rest
-answered (suc k) i o rest = refusedLine (suc k)
+-- what a tick comes to: 0 or the number of its refusal, what it leaves, and its lines
+pub record Turn : Type 0 where
+  pub number : ℕ
+  pub tables : Timestamp
+  pub holdback : List ℕ
+  pub text : List ℕ
 
-abbrev pub ticked : ℕ → List ℕ → List ℕ
-ticked zero lines = lines
-ticked (suc k) lines = refusedLine (suc k)
+-- the lines of a call that is not refused
+abbrev pub textBy : ℕ → List ℕ → List ℕ
+textBy zero lines = lines
+textBy (suc k) lines = []
+
+unfoldable pub calledTurn : Setup → Timestamp → List ℕ → List ℕ → Turn
+calledTurn s tables holdback bytes =
+    let i : Input = callOf s tables holdback bytes in
+    let o : Output = tick i in
+    record {
+      number = o .answer .number;
+      tables = o .answer .tables;
+      holdback = o .holdback;
+      text = textBy (o .answer .number) (linesOf i o);
+    }
+
+-- bytes that are not one tick are not called
+abbrev pub turnBy : ℕ → Setup → Timestamp → List ℕ → List ℕ → Turn
+turnBy zero s tables holdback bytes = calledTurn s tables holdback bytes
+turnBy (suc k) s tables holdback bytes = record { number = suc k; tables = tables; holdback = holdback; text = [] }
+
+-- 01: "each tick is read whole, called, and its lines printed"
+unfoldable pub turn : Setup → Timestamp → List ℕ → List ℕ → Turn
+turn s tables holdback bytes = turnBy (tickNumber bytes) s tables holdback bytes
+
+-- 01: "On a refusal it prints `refused` and the number, and stops"
+abbrev pub stopped : ℕ → List ℕ → List ℕ
+stopped zero rest = rest
+stopped (suc k) rest = refusedLine (suc k)
+
+-- 01: "It starts fresh one before the first clock"; the bytes are the first tick's
+unfoldable pub freshBefore : Setup → List ℕ → Timestamp
+freshBefore s bytes = widened (fresh (s .epsilon) (oneBefore (s .modulus) (clockOf bytes)))
 
 -- the lines of k ticks
 unfoldable pub replayTicks : Setup → ℕ → Timestamp → List ℕ → List ℕ → List ℕ
 replayTicks s zero tables holdback bytes = cond (eqb (length bytes) 0) [] (refusedLine 5)
 replayTicks s (suc k) tables holdback bytes =
-    let mine : List ℕ = take (tickEnd bytes) bytes in
-    let i : Input = callOf s tables holdback mine in
-    let o : Output = tick i in
-    ticked (tickNumber mine)
-    (answered (o .answer .number) i o
-    (replayTicks s k (o .answer .tables) (o .holdback) (drop (tickEnd bytes) bytes)))
+    let one : Turn = turn s tables holdback (take (tickEnd bytes) bytes) in
+    one .text ++ stopped (one .number) (replayTicks s k (one .tables) (one .holdback) (drop (tickEnd bytes) bytes))
 
 -- 01: "It starts fresh one before the first clock, shelf empty"
 unfoldable pub replayFrom : Setup → List ℕ → List ℕ
 replayFrom s bytes =
-    let first : List ℕ = drop 2 bytes in
     cond (ltb (length bytes) 2) (refusedLine 5)
-    (replayTicks s (tickCount bytes) (widened (fresh (s .epsilon) (oneBefore (s .modulus) (clockOf first))))
-    (encodeHoldback (holdbackSize s) [])
-    first)
+    (replayTicks s (tickCount bytes) (freshBefore s (drop 2 bytes)) (encodeHoldback (holdbackSize s) []) (drop 2 bytes))
 
--- 01: "The setup is judged once read; then each tick is read whole, called"
+-- 01: "The setup is judged once read"
 unfoldable pub replay : List ℕ → List ℕ
-replay bytes = ticked (setupNumber bytes) (replayFrom (traceSetup bytes) (drop setupLength bytes))
+replay bytes = stopped (setupNumber bytes) (replayFrom (traceSetup bytes) (drop setupLength bytes))

@@ -69,9 +69,9 @@ entriesSize (suc k) s = 1 + getD s 0 0 + entriesSize k (drop (1 + getD s 0 0) s)
 unfoldable pub tickEnd : List ℕ → ℕ
 tickEnd s = batchAt s + 1 + entriesSize (getD s (batchAt s) 0) (drop (batchAt s + 1) s)
 
--- the bytes that the tick has still to have, at least, where s is what was read of it; 0 when it is whole
-unfoldable pub needed : List ℕ → ℕ
-needed s = tickEnd s - length s
+-- the bytes of the longest: a payload and a batch of 255 entries, each of 255 bytes
+abbrev pub longestTick : ℕ
+longestTick = 65540
 
 unfoldable pub batchOf : List ℕ → List ℕ
 batchOf s = take (tickEnd s - batchAt s) (drop (batchAt s) s)

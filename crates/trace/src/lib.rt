@@ -11,7 +11,6 @@ pub use lines::put_lines;
 pub use lines::put_refused;
 pub use parse::Call;
 pub use parse::batch_of;
-pub use parse::need;
 pub use parse::one_before;
 pub use parse::payload_of;
 pub use parse::read_call;

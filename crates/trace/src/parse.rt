@@ -6,8 +6,9 @@ use timestamp::Setup;
 use timestamp::holdback_length;
 use timestamp::in_limits;
 ghost use mathlib.Core.Path.{_≡_};
+ghost use Prim.Native.Nat.{_≤_};
 ghost use Rattle.timestamp.specs.Views.{setupOf};
-ghost use Rattle.trace.specs.Trace.{traceSetup, setupNumber, tickCount, oneBefore, clockOf, sendOf, payloadOf, batchOf, tickEnd, needed, tickNumber};
+ghost use Rattle.trace.specs.Trace.{traceSetup, setupNumber, tickCount, oneBefore, clockOf, sendOf, payloadOf, batchOf, tickEnd, longestTick, tickNumber};
 
 // The setup of a trace, at its start.
 pub fn read_setup(s: &[u8]) -> Setup
@@ -67,9 +68,9 @@ pub fn one_before(modulus: usize, clock: usize) -> usize
 }
 
 // Where the tick at the start of s ends; before all of it is there, the fewest bytes that it can
-// have.
+// have. Whoever reads up to there never reads past the tick.
 pub fn tick_end(s: &[u8]) -> usize
-    ensures { λ r. ⌜ r ≡ tickEnd (now (s .entry)) ⌝ }
+    ensures { λ r. ⌜ (r ≡ tickEnd (now (s .entry))) × (r ≤ longestTick) ⌝ }
 {
     let batch = 4 + byte_at(s, 3) as usize;
     let mut left = byte_at(s, batch) as usize;
@@ -79,18 +80,6 @@ pub fn tick_end(s: &[u8]) -> usize
         left -= 1;
     }
     end
-}
-
-// How many bytes the tick has still to have, at least, where s is what was read of it: 0 when it is
-// whole. Whoever reads so many at a time never reads past the tick.
-pub fn need(s: &[u8]) -> usize
-    ensures { λ r. ⌜ r ≡ needed (now (s .entry)) ⌝ }
-{
-    let end = tick_end(s);
-    if end <= s.len() {
-        return 0;
-    }
-    end - s.len()
 }
 
 // What a tick's bytes ask for; payload and batch are payload_of's and batch_of's.

@@ -19,13 +19,13 @@ tick-end-requires : tie.Need-tick-end-requires
 tick-end-requires c κs = search needs
 
 sub-part : tie.Need-sub-part
-sub-part c = omega (arith, batch-from (c .before .before .before .args .s .now) (c .before .byte-at .result) (c .before .byte-at .ensures), c .tick-end .ensures)
+sub-part c = omega (arith, batch-from (c .before .before .before .args .s .now) (c .before .byte-at .result) (c .before .byte-at .ensures), c .tick-end .ensures .0)
 
 part-requires : tie.Need-part-requires
 part-requires c κs = search needs
 
 returns : tie.Need-returns
-returns c = c .part .ensures ∙ batch-part (c .before .before .before .before .args .s .now) (c .before .before .byte-at .result) (c .before .tick-end .result) (c .before .before .byte-at .ensures) (c .before .tick-end .ensures)
+returns c = c .part .ensures ∙ batch-part (c .before .before .before .before .args .s .now) (c .before .before .byte-at .result) (c .before .tick-end .result) (c .before .before .byte-at .ensures) (c .before .tick-end .ensures .0)
 
 pub batch-of-spec : {M : Type 1} → statement M
 batch-of-spec =

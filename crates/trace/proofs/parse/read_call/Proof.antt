@@ -19,21 +19,21 @@ tick-end-requires c κs = search needs
 returns : tie.Need-returns
 returns c =
     let s = c .before .before .before .before .before .args .s .now in (
-      call-cut s (c .before .tick-end .result) (c .before .tick-end .ensures) (c .if1 .taken),
+      call-cut s (c .before .tick-end .result) (c .before .tick-end .ensures .0) (c .if1 .taken),
       (clock-is s (c .before .before .before .two-at .ensures), send-flag s (c .before .before .byte-at .result) (c .before .before .byte-at .ensures)),
     )
 
 returns-2 : tie.Need-returns-2
 returns-2 c =
     let s = c .before .before .before .before .before .before .args .s .now in (
-      call-bad s (c .before .before .tick-end .result) (c .before .before .before .byte-at .result) (c .before .before .tick-end .ensures) (c .before .if1 .left) (c .before .before .before .byte-at .ensures) (c .if2 .taken),
+      call-bad s (c .before .before .tick-end .result) (c .before .before .before .byte-at .result) (c .before .before .tick-end .ensures .0) (c .before .if1 .left) (c .before .before .before .byte-at .ensures) (c .if2 .taken),
       (clock-is s (c .before .before .before .before .two-at .ensures), send-not s (c .before .before .before .byte-at .result) (c .before .before .before .byte-at .ensures) (c .if2 .taken)),
     )
 
 returns-3 : tie.Need-returns-3
 returns-3 c =
     let s = c .before .before .before .before .before .before .args .s .now in (
-      call-good s (c .before .before .tick-end .result) (c .before .before .before .byte-at .result) (c .before .before .tick-end .ensures) (c .before .if1 .left) (c .before .before .before .byte-at .ensures) (c .if2 .left),
+      call-good s (c .before .before .tick-end .result) (c .before .before .before .byte-at .result) (c .before .before .tick-end .ensures .0) (c .before .if1 .left) (c .before .before .before .byte-at .ensures) (c .if2 .left),
       (clock-is s (c .before .before .before .before .two-at .ensures), send-flag s (c .before .before .before .byte-at .result) (c .before .before .before .byte-at .ensures)),
     )
 

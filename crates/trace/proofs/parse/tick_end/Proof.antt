@@ -64,7 +64,7 @@ loop-again c =
     )
 
 returns : tie.Need-returns Inv-loop μ-loop
-returns c = sym (c .before .loop .inv .0 ∙ entries-end (c .before .before .before .before .before .args .s .now) (c .before .loop .end) (c .before .loop .left) (omega arith))
+returns c = (sym (c .before .loop .inv .0 ∙ entries-end (c .before .before .before .before .before .args .s .now) (c .before .loop .end) (c .before .loop .left) (omega arith)), omega arith)
 
 pub tick-end-spec : {M : Type 1} → statement M
 tick-end-spec =

@@ -1,0 +1,54 @@
+-- `replay::playing::tables_at` meets its contract. Assumes nothing.
+use Prim.Native.Nat.{ℕ}
+use mathlib.Core.Path.{ap, _∙_}
+use native.Mathlib.Omega.{arith}
+use borrow.Author.Needs.{needs}
+use borrow.Author.Tests.{eq-eqb, ne-eqb}
+use Rattle.model.specs.Timestamp.{widened, fresh}
+use Rattle.lemmas.proofs.Questions.{limits-from}
+use Rattle.timestamp.specs.Views.{setupOf}
+use Rattle.trace.specs.Trace.{oneBefore}
+use Rattle.trace.specs.Replay.{freshBefore}
+use Rattle.replay.proofs.playing.tables_at.Statement.{statement}
+use Rattle.replay.proofs.playing.tables_at.Tie as tie
+
+returns : tie.Need-returns
+returns c = rw (ne-eqb (c .before .before .args .i) 0 (omega arith))
+
+read-call-requires : tie.Need-read-call-requires
+read-call-requires c κs = search needs
+
+cast-one-before : tie.Need-cast-one-before
+cast-one-before c = search needs
+
+one-before-requires : tie.Need-one-before-requires
+one-before-requires c κs = search needs
+
+cast-fresh : tie.Need-cast-fresh
+cast-fresh c = search needs
+
+fresh-requires : tie.Need-fresh-requires
+fresh-requires c κs =
+    let start = c .before .before .before .before .before .before in
+    let limits = limits-from (setupOf (start .args .setup)) (start .pre .limits) in
+    (limits .epsilon-pos, limits .epsilon-most)
+
+returns-2 : tie.Need-returns-2
+unfolding freshBefore
+returns-2 c =
+    let setup = c .before .before .before .before .before .before .before .args .setup in
+    rw (eq-eqb (c .before .before .before .before .before .before .before .args .i) 0 (omega arith))
+    (c .fresh .ensures
+    ∙ ap (λ (clock : ℕ). widened (fresh (setup .epsilon) clock)) (c .before .before .one-before .ensures ∙ ap (oneBefore (setup .modulus)) (c .before .before .before .before .read-call .ensures .1 .0)))
+
+pub tables-at-spec : {M : Type 1} → statement M
+tables-at-spec =
+    tie.close
+    (tie.spec
+    returns
+    read-call-requires
+    cast-one-before
+    one-before-requires
+    cast-fresh
+    fresh-requires
+    returns-2)

@@ -1,0 +1,57 @@
+-- `replay::replay` meets its contract. Assumes nothing.
+use mathlib.Core.Path.{sym, _∙_}
+use native.Mathlib.Omega.{arith}
+use lib.ListN.{take}
+use Rattle.replay.proofs.Refusals.{setup-most, setup-ready}
+use borrow.Author.Needs.{needs}
+use Rattle.replay.proofs.replay.Statement.{statement}
+use Rattle.replay.proofs.replay.Tie as tie
+
+slice-aggregate-read-full : tie.Need-slice-aggregate-read-full
+slice-aggregate-read-full c = search needs
+
+read-full-requires : tie.Need-read-full-requires
+read-full-requires c κs = search needs
+
+array-share-prefix-head : tie.Need-array-share-prefix-head
+array-share-prefix-head c = search needs
+
+slice-aggregate-setup-number : tie.Need-slice-aggregate-setup-number
+slice-aggregate-setup-number c = search needs
+
+setup-number-requires : tie.Need-setup-number-requires
+setup-number-requires c κs = search needs
+
+returns : tie.Need-returns
+returns c = omega (arith, c .before .setup-number .ensures, setup-most (take (c .before .before .before .before .read-full .result) (c .before .before .before .before .read-full .last .1 .0)))
+
+array-share-prefix-head-2 : tie.Need-array-share-prefix-head-2
+array-share-prefix-head-2 c = search needs
+
+slice-aggregate-read-setup : tie.Need-slice-aggregate-read-setup
+slice-aggregate-read-setup c = search needs
+
+read-setup-requires : tie.Need-read-setup-requires
+read-setup-requires c κs = search needs
+
+run-requires : tie.Need-run-requires
+run-requires c κs = rw (c .read-setup .ensures) (setup-ready _ (sym (c .before .before .before .setup-number .ensures) ∙ c .before .before .if1 .left))
+
+returns-2 : tie.Need-returns-2
+returns-2 c = search needs
+
+pub replay-spec : {M : Type 1} → statement M
+replay-spec =
+    tie.close
+    (tie.spec
+    slice-aggregate-read-full
+    read-full-requires
+    array-share-prefix-head
+    slice-aggregate-setup-number
+    setup-number-requires
+    returns
+    array-share-prefix-head-2
+    slice-aggregate-read-setup
+    read-setup-requires
+    run-requires
+    returns-2)

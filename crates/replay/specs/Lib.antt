@@ -1,0 +1,2 @@
+-- `Playing` has what the contracts of `replay` cite.
+pub mod Playing
