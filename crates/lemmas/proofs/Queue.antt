@@ -6,12 +6,12 @@ use native.Mathlib.Nat.{mul-le-mul-right, mul-suc}
 use mathlib.Core.Path.{_≡_, refl, sym, ap, ap₂, _∙_}
 use mathlib.Core.Bool.{Bool, true, false, not, _&&_, cond}
 use mathlib.Core.Logic.{_⊎_, inl, inr}
-use mathlib.Core.List.{List, [], _∷_, List·Memᴰ, List·Memᴰ·not-nil, Memᴰ·of-map}
+use mathlib.Core.List.{List, [], _∷_, _++_, List·Memᴰ, List·Memᴰ·not-nil, Memᴰ·of-map}
 use lib.Dec.{leb, eqb}
 use lib.ListN.{length, drop}
 use lib.Seq.{drop-at}
 use borrow.Author.Tests.{le-leb, lt-ltb, eq-eqb, leb-true, eqb-false}
-use Rattle.laws.specs.Lists.{any, every, chained, apart, insertAt, select}
+use Rattle.laws.specs.Lists.{any, every, chained, apart, insertAt, select, padded}
 use Rattle.laws.specs.Lex.{lexCompare}
 use Rattle.laws.proofs.Numbers.{clash, and-intro, and-left, and-right, false-of-not, eqb-sym}
 use Rattle.laws.proofs.Lists.{length-tab, every-mem, every-of-mem, every-map, every-insertAt, any-false, mem-of-insertAt, mem-of-select}
@@ -21,13 +21,13 @@ use Rattle.model.specs.Setup.{Setup, width, depth}
 use Rattle.model.specs.Timestamp.{sum, near, atMost}
 use Rattle.model.specs.Frame.{Frame, encode, decode, twoAt}
 use Rattle.model.specs.Order.{countsDown, key, keyNear, compareFrames, before, due, dueNear}
-use Rattle.model.specs.Holdback.{sameOrigin, passes, notEarly, notOverdue, heldBytes, held, soundHoldback, encodeHoldback}
+use Rattle.model.specs.Holdback.{sameOrigin, passes, notEarly, notOverdue, heldBytes, held, soundHoldback, encodeFrames, encodeHoldback}
 use Rattle.model.specs.Question.{firstNo}
 use Rattle.model.specs.Judge.{readingOf, askLate, askEarly, askCounts, askRepeat, askRoom, placeQuestions, judgeQuestions, placeFor}
 use Rattle.model.specs.Tick.{Input, queueSound, openingQueue, dueNow, holdbackSize}
 use Rattle.lemmas.proofs.Bounds.{Limits, FrameOk, QueueOk}
 use Rattle.lemmas.proofs.Reading.{near-high, near-next, near-injective}
-use Rattle.lemmas.proofs.RoundTrip.{decode-encode, none-no, frame-passes, frame-passed, passes-encode, passes-decode, two-at-holdback, held-bytes-holdback, held-holdback}
+use Rattle.lemmas.proofs.RoundTrip.{decode-encode, none-no, frame-passes, frame-passed, passes-encode, passes-decode, two-at-encode, held-encode, held-frames}
 
 -- the tests of a frame's time, as facts
 pub early-from : (s : Setup) (v : ℕ) (f : Frame) → notEarly s v f ≡ true → readingOf s v f + f .stamp .c ≤ s .modulus + (s .epsilon - 1)
@@ -291,16 +291,17 @@ pub queue-few : (s : Setup) (v : ℕ) (queue : List Frame) → Limits s → v < 
 queue-few s v queue limits below ok =
     omega (arith, queue-bound s v queue limits below ok, mul-le-mul-right (s .delta + 3 * s .epsilon - 1) (limits .n-most))
 
-pub queue-sound : (s : Setup) (v : ℕ) (queue : List Frame) → Limits s → v < s .modulus → QueueOk s v queue → soundHoldback s v (encodeHoldback (holdbackSize s) queue) ≡ true
+-- the frames of a queue in a buffer, with anything behind them
+pub frames-sound : (s : Setup) (v : ℕ) (queue : List Frame) (rest : List ℕ) → Limits s → v < s .modulus → QueueOk s v queue → soundHoldback s v (encodeFrames queue ++ rest) ≡ true
 unfolding soundHoldback
-queue-sound s v queue limits below ok =
+frames-sound s v queue rest limits below ok =
     let wide : (f : Frame) → List·Memᴰ f queue → length (f .stamp .kn) ≡ width (s .epsilon) = λ f m. ok .frames f m .sound .wide in
     let few = queue-few s v queue limits below ok in
     let room = queue-room s v queue limits below ok in
     rw (
-      two-at-holdback (holdbackSize s) queue,
-      held-bytes-holdback (s .epsilon) (holdbackSize s) queue wide few,
-      held-holdback (s .epsilon) (holdbackSize s) queue wide few,
+      two-at-encode queue rest,
+      held-encode (s .epsilon) queue rest wide few,
+      held-frames (s .epsilon) queue rest wide few,
       le-leb (length queue) (depth (s .n) (s .epsilon) (s .delta)) (omega arith),
       every-map (passes s) encode queue,
       every-of-mem (λ f. passes s (encode f)) queue (λ f m. passes-encode s f limits (ok .frames f m)),
@@ -309,3 +310,8 @@ queue-sound s v queue limits below ok =
       ok .early,
       ok .overdue,
     )
+
+-- and with zeros
+pub queue-sound : (s : Setup) (v : ℕ) (queue : List Frame) → Limits s → v < s .modulus → QueueOk s v queue → soundHoldback s v (encodeHoldback (holdbackSize s) queue) ≡ true
+unfolding encodeHoldback padded
+queue-sound s v queue limits below ok = frames-sound s v queue _ limits below ok

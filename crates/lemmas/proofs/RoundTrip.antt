@@ -231,17 +231,6 @@ pub two-at-encode : (queue : List Frame) (rest : List ℕ) → twoAt (encodeFram
 unfolding encodeFrames twoAt twoBytes
 two-at-encode queue rest = two-bytes (length queue)
 
-pub two-at-holdback : (size : ℕ) (queue : List Frame) → twoAt (encodeHoldback size queue) 0 ≡ length queue
-unfolding encodeHoldback padded
-two-at-holdback size queue = two-at-encode queue (replicate (size - length (encodeFrames queue)) 0)
-
-pub held-bytes-holdback :
-    (epsilon size : ℕ) (queue : List Frame)
-    → ((f : Frame) → List·Memᴰ f queue → length (f .stamp .kn) ≡ width epsilon) → length queue < 65536
-    → heldBytes epsilon (encodeHoldback size queue) ≡ map encode queue
-unfolding encodeHoldback padded
-held-bytes-holdback epsilon size queue wide few = held-encode epsilon queue (replicate (size - length (encodeFrames queue)) 0) wide few
-
 -- what was encoded decodes
 pub decode-frames :
     (epsilon : ℕ) (queue : List Frame) → ((f : Frame) → List·Memᴰ f queue → length (f .stamp .kn) ≡ width epsilon)

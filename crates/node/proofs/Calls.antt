@@ -1,67 +1,76 @@
 -- The questions of a call, one by one, as the code asks them. Assumes nothing.
 use Prim.Native.Nat.{_≤_, _<_}
-use mathlib.Core.Path.{_≡_, _∙_}
+use mathlib.Core.Path.{_≡_, sym, _∙_}
 use mathlib.Core.Bool.{true, false}
-use lib.Dec.{leb}
+use mathlib.Core.List.{List, [], _∷_}
+use lib.Dec.{leb, ltb, eqb}
 use lib.ListN.{length}
 use borrow.Author.Tests.{lt-ltb, le-ltb, le-leb, lt-leb, eq-eqb, ne-eqb}
 use Rattle.model.specs.Setup.{inLimits, longestFrame}
 use Rattle.model.specs.Batch.{exactBatch}
-use Rattle.model.specs.Question.{firstNo, askSetup}
+use Rattle.model.specs.Question.{Question, ask, firstNo, askSetup}
 use Rattle.model.specs.Codec.{askPayload}
 use Rattle.model.specs.Tick.{Input, holdbackSize, roomy, callQuestions}
+use Rattle.lemmas.proofs.Questions.{yes-cons, no-cons}
 
 module _ (i : Input) where
+  -- the questions from each on
+  abbrev from6 : List Question
+  from6 = ask (roomy i) 6 ∷ []
+
+  abbrev from5 : List Question
+  from5 = ask (exactBatch (i .batch)) 5 ∷ from6
+
+  abbrev from4 : List Question
+  from4 = askPayload (i .payload) ∷ from5
+
+  abbrev from3 : List Question
+  from3 = ask (eqb (length (i .holdback)) (holdbackSize (i .setup))) 3 ∷ from4
+
+  abbrev from2 : List Question
+  from2 = ask (ltb (i .clock) (i .setup .modulus)) 2 ∷ from3
+
   pub setup-no : inLimits (i .setup) ≡ false → 1 ≡ firstNo (callQuestions i)
-  unfolding firstNo callQuestions askSetup
-  setup-no h = rw h
+  unfolding callQuestions askSetup
+  setup-no h = sym (no-cons (inLimits (i .setup)) 1 from2 h)
 
   module _ (h1 : inLimits (i .setup) ≡ true) where
+    left2 : firstNo (callQuestions i) ≡ firstNo from2
+    unfolding callQuestions askSetup
+    left2 = yes-cons (inLimits (i .setup)) 1 from2 h1
+
     pub clock-no : i .setup .modulus ≤ i .clock → 2 ≡ firstNo (callQuestions i)
-    unfolding firstNo callQuestions askSetup
-    clock-no h = rw (h1, le-ltb (i .clock) (i .setup .modulus) h)
+    clock-no h = sym (left2 ∙ no-cons _ 2 from3 (le-ltb (i .clock) (i .setup .modulus) h))
 
     module _ (h2 : i .clock < i .setup .modulus) where
+      left3 : firstNo (callQuestions i) ≡ firstNo from3
+      left3 = left2 ∙ yes-cons _ 2 from3 (lt-ltb (i .clock) (i .setup .modulus) h2)
+
       pub length-no : (length (i .holdback) ≡ holdbackSize (i .setup) → ⊥) → 3 ≡ firstNo (callQuestions i)
-      unfolding firstNo callQuestions askSetup
-      length-no h =
-          rw (h1, lt-ltb (i .clock) (i .setup .modulus) h2, ne-eqb (length (i .holdback)) (holdbackSize (i .setup)) h)
+      length-no h = sym (left3 ∙ no-cons _ 3 from4 (ne-eqb (length (i .holdback)) (holdbackSize (i .setup)) h))
 
       module _ (h3 : length (i .holdback) ≡ holdbackSize (i .setup)) where
+        left4 : firstNo (callQuestions i) ≡ firstNo from4
+        left4 = left3 ∙ yes-cons _ 3 from4 (eq-eqb (length (i .holdback)) (holdbackSize (i .setup)) h3)
+
         pub payload-no : 32 < length (i .payload) → 4 ≡ firstNo (callQuestions i)
-        unfolding firstNo callQuestions askSetup askPayload
-        payload-no h =
-            rw (
-              h1,
-              lt-ltb (i .clock) (i .setup .modulus) h2,
-              eq-eqb (length (i .holdback)) (holdbackSize (i .setup)) h3,
-              lt-leb (length (i .payload)) 32 h,
-            )
+        unfolding askPayload
+        payload-no h = sym (left4 ∙ no-cons _ 4 from5 (lt-leb (length (i .payload)) 32 h))
 
         module _ (h4 : length (i .payload) ≤ 32) where
+          left5 : firstNo (callQuestions i) ≡ firstNo from5
+          unfolding askPayload
+          left5 = left4 ∙ yes-cons _ 4 from5 (le-leb (length (i .payload)) 32 h4)
+
           pub batch-no : exactBatch (i .batch) ≡ false → 5 ≡ firstNo (callQuestions i)
-          unfolding firstNo callQuestions askSetup askPayload
-          batch-no h =
-              rw (
-                h1,
-                lt-ltb (i .clock) (i .setup .modulus) h2,
-                eq-eqb (length (i .holdback)) (holdbackSize (i .setup)) h3,
-                le-leb (length (i .payload)) 32 h4,
-                h,
-              )
+          batch-no h = sym (left5 ∙ no-cons _ 5 from6 h)
 
           module _ (h5 : exactBatch (i .batch) ≡ true) where
+            left6 : firstNo (callQuestions i) ≡ firstNo from6
+            left6 = left5 ∙ yes-cons _ 5 from6 h5
+
             room-no : roomy i ≡ false → 6 ≡ firstNo (callQuestions i)
-            unfolding firstNo callQuestions askSetup askPayload
-            room-no h =
-                rw (
-                  h1,
-                  lt-ltb (i .clock) (i .setup .modulus) h2,
-                  eq-eqb (length (i .holdback)) (holdbackSize (i .setup)) h3,
-                  le-leb (length (i .payload)) 32 h4,
-                  h5,
-                  h,
-                )
+            room-no h = sym (left6 ∙ no-cons (roomy i) 6 [] h)
 
             pub outgoing-no : length (i .outgoing) < longestFrame (i .setup .epsilon) → 6 ≡ firstNo (callQuestions i)
             unfolding roomy
@@ -82,14 +91,5 @@ module _ (i : Input) where
                 delivery-no h = room-no (roomy-is ∙ lt-leb (holdbackSize (i .setup)) (length (i .delivery)) h)
 
                 pub none-no : holdbackSize (i .setup) ≤ length (i .delivery) → 0 ≡ firstNo (callQuestions i)
-                unfolding firstNo callQuestions askSetup askPayload
-                none-no h =
-                    rw (
-                      h1,
-                      lt-ltb (i .clock) (i .setup .modulus) h2,
-                      eq-eqb (length (i .holdback)) (holdbackSize (i .setup)) h3,
-                      le-leb (length (i .payload)) 32 h4,
-                      h5,
-                      roomy-is,
-                      le-leb (holdbackSize (i .setup)) (length (i .delivery)) h,
-                    )
+                unfolding firstNo
+                none-no h = sym (left6 ∙ yes-cons (roomy i) 6 [] (roomy-is ∙ le-leb (holdbackSize (i .setup)) (length (i .delivery)) h))

@@ -5,14 +5,13 @@ use native.Mathlib.Numerals.{add-one}
 use native.Mathlib.Omega.{arith}
 use mathlib.Core.Path.{_≡_, refl, sym, ap, _∙_}
 use mathlib.Core.Bool.{true, false}
-use mathlib.Core.List.{List, [], _++_, List·Memᴰ}
+use mathlib.Core.List.{List, [], List·Memᴰ}
 use lib.Dec.{leb}
 use lib.ListN.{length, take, drop, length-drop}
 use lib.Seq.{take-all}
-use borrow.Author.Tests.{le-leb}
 use Rattle.laws.proofs.Numbers.{and-left, and-right}
 use Rattle.laws.specs.Lists.{every, joined, overlay, insertAt}
-use Rattle.laws.proofs.Lists.{every-mem, every-of-mem, every-map, leading-le, length-overlay, length-joined-le}
+use Rattle.laws.proofs.Lists.{every-mem, every-of-mem, leading-le, length-overlay, length-joined-le}
 use Rattle.model.specs.Setup.{Setup, width, depth, longestFrame, holdbackLength}
 use Rattle.model.specs.Frame.{Frame, twoAt, twoBytes, wellFormed, encode, decode, frameEnd}
 use Rattle.model.specs.Order.{before}
@@ -21,8 +20,8 @@ use Rattle.model.specs.Judge.{placeFor, judgeQuestions}
 use Rattle.model.specs.Tick.{holdbackSize}
 use Rattle.lemmas.proofs.Bounds.{Limits, FrameOk, QueueOk}
 use Rattle.lemmas.proofs.Questions.{limits-from}
-use Rattle.lemmas.proofs.RoundTrip.{formed-from, form-passed, passes-formed, passes-encode, two-at-encode, held-encode, held-frames, held-holdback, frame-fits, length-holdback}
-use Rattle.lemmas.proofs.Queue.{Passed, judged-passed, sound-queue, queue-none, queue-take, queue-room, queue-few, queue-sound}
+use Rattle.lemmas.proofs.RoundTrip.{formed-from, form-passed, passes-formed, held-frames, held-holdback, frame-fits, length-holdback}
+use Rattle.lemmas.proofs.Queue.{Passed, judged-passed, sound-queue, queue-none, queue-take, queue-room, queue-few, frames-sound, queue-sound}
 use Rattle.holdback.specs.Queue.{frameStart}
 use Rattle.holdback.specs.Seen.{InWindow, seenTable, marked}
 use Rattle.holdback.specs.Sound.{openedQueue}
@@ -63,26 +62,6 @@ sound-formed s v buffer h =
 pub size-two : (s : Setup) (n : ℕ) → n ≡ holdbackSize s → 2 ≤ n
 unfolding holdbackLength
 size-two s n e = omega arith
-
--- the frames of a queue in a buffer, with anything behind them
-pub frames-sound : (s : Setup) (v : ℕ) (queue : List Frame) (rest : List ℕ) → Limits s → v < s .modulus → QueueOk s v queue → soundHoldback s v (encodeFrames queue ++ rest) ≡ true
-unfolding soundHoldback
-frames-sound s v queue rest limits below ok =
-    let wide : (f : Frame) → List·Memᴰ f queue → length (f .stamp .kn) ≡ width (s .epsilon) = λ f m. ok .frames f m .sound .wide in
-    let few = queue-few s v queue limits below ok in
-    let room = queue-room s v queue limits below ok in
-    rw (
-      two-at-encode queue rest,
-      held-encode (s .epsilon) queue rest wide few,
-      held-frames (s .epsilon) queue rest wide few,
-      le-leb (length queue) (depth (s .n) (s .epsilon) (s .delta)) (omega arith),
-      every-map (passes s) encode queue,
-      every-of-mem (λ f. passes s (encode f)) queue (λ f m. passes-encode s f limits (ok .frames f m)),
-      ok .ordered,
-      ok .single,
-      ok .early,
-      ok .overdue,
-    )
 
 frames-long : (s : Setup) (queue : List Frame) → Limits s → ((f : Frame) → List·Memᴰ f queue → FrameOk s f) → length queue ≤ depth (s .n) (s .epsilon) (s .delta) → length (encodeFrames queue) ≤ holdbackSize s
 unfolding encodeFrames twoBytes holdbackLength
