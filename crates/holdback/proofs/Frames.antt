@@ -1,20 +1,18 @@
 -- The frames of a queue by their index.
 -- Assumes nothing.
-use Prim.Native.Nat.{ℕ, zero, suc, _+_, _*_, _-_, _≤_, _<_}
-use native.Mathlib.Nat.{add-zero, zero-add, suc-add, add-suc, suc-mul}
+use Prim.Native.Nat.{ℕ, zero, suc, _+_, _*_, _≤_, _<_}
+use native.Mathlib.Nat.{add-zero, zero-add}
 use native.Mathlib.Omega.{arith}
 use mathlib.Core.Path.{_≡_, refl, sym, ap, ap₂, _∙_}
-use mathlib.Core.Bool.{Bool, true, false, _&&_}
-use mathlib.Core.Logic.{_⊎_, inl, inr}
+use mathlib.Core.Bool.{true}
+use mathlib.Core.Logic.{inl, inr}
 use mathlib.Core.List.{List, [], _∷_, _++_, map, append-assoc, append-nil}
-use lib.Dec.{leb, eqb}
-use lib.ListN.{length, take, drop, getD, length-take, length-drop, take-append-drop, List·getD-eq-default}
-use lib.Seq.{drop-drop, getD-drop, getD-take, take-add, length-take-le}
-use borrow.Author.Tests.{eqb-true, leb-true}
+use lib.ListN.{length, take, drop, getD, length-take, length-drop, List·getD-eq-default}
+use lib.Seq.{drop-drop, getD-drop, getD-take, take-add}
 use Rattle.laws.specs.Lists.{tab, joined}
-use Rattle.laws.proofs.Numbers.{and-left, and-right, lt-or-ge}
+use Rattle.laws.proofs.Numbers.{lt-or-ge}
 use Rattle.laws.proofs.Lists.{tab-ext, tab-suc, map-tab, joined-append}
-use Rattle.model.specs.Setup.{Setup, width}
+use Rattle.model.specs.Setup.{width}
 use Rattle.model.specs.Frame.{twoAt, twoBytes, encode, wellFormed, payloadCountAt, frameEnd, decode}
 use Rattle.model.specs.Holdback.{cutFrames, heldBytes, held}
 use Rattle.holdback.specs.Queue.{frameStart, bytesAt, frameAt}
@@ -91,14 +89,6 @@ module _ (epsilon : ℕ) (s : List ℕ) (k : ℕ) (ok : wellFormed epsilon (byte
       let i : frameEnd epsilon rest ≤ length rest = formed-inside epsilon rest ok in
       let p : payloadCountAt epsilon < frameEnd epsilon rest = end-past epsilon rest in
       omega (arith, start-suc epsilon s k, length-drop (frameStart epsilon s k) s)
-
-  -- its bytes stand between its start and the next one's
-  pub bytes-between : bytesAt epsilon s k ≡ take (frameStart epsilon s (suc k) - frameStart epsilon s k) (drop (frameStart epsilon s k) s)
-  unfolding bytesAt
-  bytes-between =
-      let rest : List ℕ = drop (frameStart epsilon s k) s in
-      let e : frameEnd epsilon rest ≡ frameStart epsilon s (suc k) - frameStart epsilon s k = omega (arith, start-suc epsilon s k) in
-      ap (λ (n : ℕ). take n rest) e
 
 -- a frame is at most as long as the longest
 pub start-longest : (epsilon : ℕ) (s : List ℕ) (k : ℕ) → wellFormed epsilon (bytesAt epsilon s k) ≡ true

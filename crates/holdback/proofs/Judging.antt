@@ -1,27 +1,25 @@
 -- Soundness of a queue, frame by frame.
 -- Assumes nothing.
-use Prim.Native.Nat.{ℕ, zero, suc, _+_, _*_, _-_, _≤_, _<_}
+use Prim.Native.Nat.{ℕ, zero, suc, _≤_, _<_}
 use native.Mathlib.Nat.{not-suc-le-zero}
 use native.Mathlib.Omega.{arith}
 use mathlib.Core.Path.{_≡_, refl, sym, ap, ap₂, _∙_}
-use mathlib.Core.Bool.{Bool, true, false, _&&_, _||_, not}
-use mathlib.Core.List.{List, [], _∷_, _++_}
-use lib.Dec.{leb, eqb}
-use lib.ListN.{length, getD}
+use mathlib.Core.Bool.{Bool, true, false, _&&_, not}
+use mathlib.Core.List.{List, []}
+use lib.Dec.{leb}
 use borrow.Author.Tests.{leb-true, le-leb}
 use Rattle.laws.specs.Lists.{tab, every, any, chained, apart}
-use Rattle.laws.proofs.Numbers.{and-intro, and-left, and-right, or-false-left, or-false-right, or-false-intro, not-of-false, not-of-true, false-of-not, eqb-sym}
+use Rattle.laws.proofs.Numbers.{and-intro, and-left, and-right, or-false-left, or-false-right, or-false-intro, not-of-false, false-of-not}
 use Rattle.laws.proofs.Lists.{length-tab, getD-tab, every-index, every-tab}
-use Rattle.laws.proofs.Sorted.{pairwise, pairwise-of-index, apart-index, apart-of-pairwise}
+use Rattle.laws.proofs.Sorted.{pairwise-of-index, apart-index, apart-of-pairwise}
 use Rattle.model.specs.Setup.{Setup, depth}
-use Rattle.model.specs.Timestamp.{sum, near}
-use Rattle.model.specs.Frame.{Frame, twoAt, decode, wellFormed}
-use Rattle.model.specs.Order.{before, due, dueNear}
-use Rattle.model.specs.Judge.{readingOf}
+use Rattle.model.specs.Frame.{Frame, twoAt, decode}
+use Rattle.model.specs.Order.{before}
 use Rattle.model.specs.Holdback.{heldBytes, held, passes, notEarly, notOverdue, sameOrigin, soundHoldback}
+use Rattle.lemmas.proofs.Queue.{origin-sym}
 use Rattle.holdback.specs.Queue.{bytesAt, frameAt}
 use Rattle.holdback.specs.Sound.{fits, follows, isNew, frameSound}
-use Rattle.holdback.proofs.RoundTrip.{Passing, passing}
+use Rattle.holdback.proofs.RoundTrip.{passing}
 use Rattle.holdback.proofs.Frames.{heldBytes-tab, held-tab, FormedUpTo}
 
 -- ---- tests of a list that is given by its entries
@@ -72,10 +70,6 @@ module _ {A : Type 0} where
       ap₂ (λ (x y : A). not (same x y)) (getD-tab n f i (f 0) (omega arith)) (getD-tab n f j (f 0) m)
       ∙ not-of-false (h i j k m)))
 
-pub same-origin-sym : (f g : Frame) → sameOrigin f g ≡ sameOrigin g f
-unfolding sameOrigin
-same-origin-sym f g = ap₂ _&&_ (eqb-sym (f .station) (g .station)) (eqb-sym (f .stamp .r) (g .stamp .r))
-
 -- ---- one frame
 
 -- what is asked of a frame alone
@@ -94,15 +88,6 @@ fitting s v bytes h =
       early = and-left (notEarly s v f) (notOverdue s v f) t;
       overdue = and-right (notEarly s v f) (notOverdue s v f) t;
     }
-
--- the same in numbers
-pub not-early : (s : Setup) (v : ℕ) (f : Frame) → notEarly s v f ≡ true → readingOf s v f + f .stamp .c ≤ s .modulus + (s .epsilon - 1)
-unfolding notEarly readingOf sum
-not-early s v f h = leb-true (near (s .epsilon) (s .modulus) v (f .stamp .r) + f .stamp .c) (s .modulus + (s .epsilon - 1)) h
-
-pub not-overdue : (s : Setup) (v : ℕ) (f : Frame) → notOverdue s v f ≡ true → s .modulus ≤ readingOf s v f + f .stamp .c + s .delta + s .epsilon
-unfolding notOverdue dueNear due readingOf sum
-not-overdue s v f h = leb-true (s .modulus) (near (s .epsilon) (s .modulus) v (f .stamp .r) + f .stamp .c + s .delta + s .epsilon) h
 
 -- ---- the queue
 
@@ -143,7 +128,7 @@ module _ (s : Setup) (v : ℕ) (b : List ℕ) where
       (and-intro
       (apart-tab sameOrigin n frame
       (λ i j h l.
-      same-origin-sym (frame i) (frame j)
+      origin-sym (frame i) (frame j)
       ∙ any-tab-at (sameOrigin (frame j)) j frame (false-of-not (any (sameOrigin (frame j)) (tab j frame)) (frame-new j (each j l))) i h))
       (and-intro (every-tab (notEarly s v) n frame (λ k h. fit k (each k h) .early))
       (every-tab (notOverdue s v) n frame (λ k h. fit k (each k h) .overdue))))))
@@ -202,7 +187,7 @@ module _ (s : Setup) (v : ℕ) (b : List ℕ) where
         not-of-false
         (any-tab (sameOrigin (frame k)) k frame
         (λ i m.
-        same-origin-sym (frame k) (frame i)
+        origin-sym (frame k) (frame i)
         ∙ apart-tab-at sameOrigin (twoAt b 0) frame (rw (held-tab (s .epsilon) b) at sound-single) i k m l))
 
     fits-at : (k : ℕ) → k < twoAt b 0 → fits s v (bytesAt (s .epsilon) b k) ≡ true

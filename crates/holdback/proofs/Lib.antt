@@ -13,5 +13,3 @@ pub mod Changes
 pub mod Testing
 pub mod Walks
 pub mod Cut
--- For callers: a queue stays sound as frames are placed.
-pub mod Keep

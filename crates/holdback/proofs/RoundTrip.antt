@@ -1,32 +1,27 @@
 -- What is written reads back the same, and what passes 10 to 12 is written back as it was, in the terms of this crate; the proofs are those of `lemmas`.
 -- Assumes nothing.
-use Prim.Native.Nat.{ℕ, suc, _+_, _*_, _-_, _/_, _%_, _≤_, _<_}
+use Prim.Native.Nat.{ℕ, _+_, _*_, _-_, _/_, _%_, _≤_, _<_}
 use native.Mathlib.Omega.{arith}
-use mathlib.Core.Path.{_≡_, sym, ap, _∙_}
+use mathlib.Core.Path.{_≡_, sym}
 use mathlib.Core.Bool.{Bool, true, _&&_}
-use mathlib.Core.List.{List, [], _∷_, _++_, map, List·Memᴰ}
+use mathlib.Core.List.{List, [], _∷_}
 use lib.Dec.{leb, ltb}
 use lib.ListN.{length, take, getD}
 use borrow.Author.Tests.{ltb-true, eqb-true, leb-true, lt-ltb}
 use Rattle.laws.specs.Lists.{tab}
 use Rattle.laws.proofs.Numbers.{and-left, and-right}
 use Rattle.laws.proofs.Lists.{tab-take, every-of-index}
-use Rattle.model.specs.Setup.{Setup, width}
+use Rattle.model.specs.Setup.{Setup}
 use Rattle.model.specs.Timestamp.{soundTimestamp}
-use Rattle.model.specs.Frame.{Frame, twoBytes, twoAt, encode, decode, wellFormed}
+use Rattle.model.specs.Frame.{twoBytes, twoAt, encode, decode, wellFormed}
 use Rattle.model.specs.Question.{firstNo, askForm, askRange, askStamp, frameQuestions}
-use Rattle.model.specs.Holdback.{heldBytes, held, passes, encodeFrames}
+use Rattle.model.specs.Holdback.{passes}
 use Rattle.lemmas.proofs.Questions.{first-yes, other-yes}
-use Rattle.lemmas.proofs.RoundTrip.{formed-from, two-bytes, cut-joined, two-at-encode, decode-frames}
 use Rattle.lemmas.proofs.RoundTrip as trips
 
 -- a list of bytes
 abbrev pub Bytes : List ℕ → Type 0
 Bytes s = (i : ℕ) → getD s i 0 < 256
-
--- what a well-formed frame holds
-pub decode-wide : (epsilon : ℕ) (s : List ℕ) → wellFormed epsilon s ≡ true → length (decode epsilon s .stamp .kn) ≡ width epsilon
-decode-wide epsilon s h = trips.decode-wide epsilon s (formed-from epsilon s h)
 
 -- a well-formed frame is the one that the writer makes of its contents
 pub encode-decode : (epsilon : ℕ) (s : List ℕ) → Bytes s → wellFormed epsilon s ≡ true → encode (decode epsilon s) ≡ s
@@ -65,22 +60,3 @@ passing s bytes h =
       r-below = ltb-true (f .stamp .r) (s .modulus) (and-right (ltb (f .station) (s .n)) (ltb (f .stamp .r) (s .modulus)) q11);
       close = leb-true (f .stamp .c) (s .epsilon - 1) (and-left (leb (f .stamp .c) (s .epsilon - 1)) _ q12);
     }
-
--- frames as wide as the setup has them
-abbrev pub Wide : ℕ → List Frame → Type 0
-Wide epsilon queue = (f : Frame) → List·Memᴰ f queue → length (f .stamp .kn) ≡ width epsilon
-
--- the frames of a queue or a delivery, whatever stands behind them
-pub count-encode : (queue : List Frame) (rest : List ℕ) → twoAt (encodeFrames queue ++ rest) 0 ≡ length queue
-count-encode queue rest = two-at-encode queue rest
-
-pub heldBytes-encode : (epsilon : ℕ) (queue : List Frame) (rest : List ℕ) → Wide epsilon queue
-    → heldBytes epsilon (encodeFrames queue ++ rest) ≡ map encode queue
-unfolding heldBytes encodeFrames twoAt twoBytes
-heldBytes-encode epsilon queue rest wide = rw (two-bytes (length queue)) (cut-joined epsilon queue rest wide)
-
-pub held-encode : (epsilon : ℕ) (queue : List Frame) (rest : List ℕ) → Wide epsilon queue
-    → held epsilon (encodeFrames queue ++ rest) ≡ queue
-unfolding held
-held-encode epsilon queue rest wide =
-    ap (map (decode epsilon)) (heldBytes-encode epsilon queue rest wide) ∙ decode-frames epsilon queue wide

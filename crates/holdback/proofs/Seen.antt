@@ -1,14 +1,14 @@
 -- The table of origins: looking up, marking, and the empty table.
 -- Assumes nothing.
-use Prim.Native.Nat.{ℕ, zero, suc, _+_, _*_, _-_, _≤_, _<_}
+use Prim.Native.Nat.{ℕ, _+_, _*_, _-_, _<_}
 use native.Mathlib.Omega.{arith}
-use mathlib.Core.Path.{_≡_, refl, sym, ap, ap₂, _∙_}
-use mathlib.Core.Bool.{Bool, true, false, _&&_, _||_, not, cond}
-use mathlib.Core.List.{List, [], _∷_, _++_, List·Memᴰ}
-use lib.Dec.{leb, eqb}
-use lib.ListN.{length, getD, set, replicate}
+use mathlib.Core.Path.{_≡_, refl, sym, ap, _∙_}
+use mathlib.Core.Bool.{Bool, true, false, _||_, cond}
+use mathlib.Core.List.{List, [], List·Memᴰ}
+use lib.Dec.{eqb}
+use lib.ListN.{length, getD, replicate}
 use borrow.Author.Tests.{eqb-true, eq-eqb}
-use Rattle.laws.specs.Lists.{tab, any, insertAt}
+use Rattle.laws.specs.Lists.{any, insertAt}
 use Rattle.laws.proofs.Numbers.{and-intro, and-left, and-right, same-test, eqb-sym}
 use Rattle.laws.proofs.Lists.{length-tab, getD-tab, set-tab, tab-ext, replicate-tab, any-ext, any-insertAt}
 use Rattle.model.specs.Setup.{Setup}
@@ -16,19 +16,20 @@ use Rattle.model.specs.Timestamp.{near}
 use Rattle.model.specs.Frame.{Frame, decode}
 use Rattle.model.specs.Judge.{readingOf}
 use Rattle.model.specs.Holdback.{sameOrigin}
-use Rattle.holdback.specs.Seen.{InWindow, isMarked, rowLength, tableLength, slotOf, seenTable, marked}
+use Rattle.holdback.specs.Seen.{InWindow, tableLength, slotOf, seenTable, marked}
 use Rattle.lemmas.proofs.Bounds.{Limits}
-use Rattle.holdback.proofs.RoundTrip.{Passing, passing}
+use Rattle.holdback.proofs.RoundTrip.{passing}
+use Rattle.lemmas.proofs.Queue.{overdue-from}
 use Rattle.lemmas.proofs.Reading.{near-high, near-injective}
 use Rattle.splice.specs.Bytes.{cleared, zeros}
 use Rattle.holdback.proofs.Changes.{all-cleared}
-use Rattle.holdback.proofs.Judging.{Fitting, not-overdue, same-origin-sym}
+use Rattle.holdback.proofs.Judging.{Fitting}
 
 -- a frame that a sound queue can have is one
 pub fitting-window : (s : Setup) (v : ℕ) (bytes : List ℕ) → Fitting s v bytes → InWindow s v (decode (s .epsilon) bytes)
 fitting-window s v bytes fit =
     let p = passing s bytes (fit .passed) in
-    let o = not-overdue s v (decode (s .epsilon) bytes) (fit .overdue) in
+    let o = overdue-from s v (decode (s .epsilon) bytes) (fit .overdue) in
     record { station-below = p .station-below; r-below = p .r-below; not-before = omega arith }
 
 module _ (s : Setup) (v : ℕ) (limits : Limits s) (below : v < s .modulus) where

@@ -73,9 +73,6 @@ module _ {s : Setup} {v : ℕ} {b table : List ℕ} {i prev at : ℕ} (walk : Wa
   pub at-inside : at ≤ length b
   at-inside = rw (walk .starts) (start-within (s .epsilon) b i (walk .two) formed-so-far)
 
-  pub at-low : 2 ≤ at
-  at-low = rw (walk .starts) (start-low (s .epsilon) b i)
-
   pub table-long : length table ≡ tableLength
   table-long = ap length (walk .table-is) ∙ length-seen s v (tab i (frameAt (s .epsilon) b))
 
