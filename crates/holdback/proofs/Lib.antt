@@ -10,6 +10,7 @@ pub mod Seen
 pub mod Order
 -- Changes of the bytes; the tests and walks as the code makes them; what is due.
 pub mod Changes
+pub mod Placed
 pub mod Testing
 pub mod Walks
 pub mod Cut

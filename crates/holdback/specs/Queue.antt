@@ -17,6 +17,10 @@ unfoldable pub frameStart : ℕ → List ℕ → ℕ → ℕ
 frameStart epsilon s zero = 2
 frameStart epsilon s (suc k) = frameStart epsilon s k + frameEnd epsilon (drop (frameStart epsilon s k) s)
 
+-- where the frames end
+abbrev pub endOf : ℕ → List ℕ → ℕ
+endOf epsilon s = frameStart epsilon s (twoAt s 0)
+
 -- the bytes of frame k
 unfoldable pub bytesAt : ℕ → List ℕ → ℕ → List ℕ
 bytesAt epsilon s k = take (frameEnd epsilon (drop (frameStart epsilon s k) s)) (drop (frameStart epsilon s k) s)

@@ -51,8 +51,8 @@ module _ (s : Setup) (v : ℕ) (t : Timestamp) where
   opened-kept lim = trimmed-widened (s .epsilon) (openedStamp s v t) (lim .epsilon-most) (opened-wide lim)
 
   -- the places past the 2ε counts are 0
-  pub listening : (t′ : Timestamp) (repair : ℕ) (batch verdicts : List ℕ) → Limits s → StampOpened s v t t′ repair → exactBatch batch ≡ true → 255 ≤ length verdicts → Listening (s .epsilon) t′ batch verdicts
-  listening t′ repair batch verdicts lim o exact room =
+  pub listening : {t′ : Timestamp} {repair : ℕ} {batch verdicts : List ℕ} → Limits s → StampOpened s v t t′ repair → exactBatch batch ≡ true → 255 ≤ length verdicts → Listening (s .epsilon) t′ batch verdicts
+  listening {t′} lim o exact room =
       record {
         narrow = o .stamp ∙ sym (ap (λ (x : Timestamp). widened (trimmed (s .epsilon) x)) (o .stamp) ∙ ap widened (opened-kept lim));
         exact = exact;
@@ -60,11 +60,11 @@ module _ (s : Setup) (v : ℕ) (t : Timestamp) where
       }
 
   -- the first three steps together
-  pub listened : (batch buffer verdicts : List ℕ) (t₁ : Timestamp) (repair emptied : ℕ) (buffer₁ table₁ : List ℕ) (t₂ : Timestamp) (count : ℕ) (buffer₂ table₂ verdicts₂ : List ℕ)
-      → Limits s → StampOpened s v t t₁ repair → QueueOpened s v buffer emptied buffer₁ table₁
-      → HeardAll s v t₁ batch buffer₁ verdicts t₂ count buffer₂ table₂ verdicts₂
-      → ListenedAll s v t batch buffer verdicts t₂ (repair + emptied) count buffer₂ verdicts₂
-  listened batch buffer verdicts t₁ repair emptied buffer₁ table₁ t₂ count buffer₂ table₂ verdicts₂ lim o q h =
+  pub listened : {batch buffer verdicts : List ℕ} {t₁ : Timestamp} {repair emptied stop₁ : ℕ} {buffer₁ table₁ : List ℕ} {t₂ : Timestamp} {count stop : ℕ} {buffer₂ table₂ verdicts₂ : List ℕ}
+      → Limits s → StampOpened s v t t₁ repair → QueueOpened s v buffer emptied stop₁ buffer₁ table₁
+      → HeardAll s v t₁ batch buffer₁ verdicts t₂ count stop buffer₂ table₂ verdicts₂
+      → ListenedAll s v t batch buffer verdicts t₂ (repair + emptied) count stop buffer₂ verdicts₂
+  listened {batch} {buffer} {verdicts} {t₁} {repair} {emptied} {stop₁} {buffer₁} lim o q h =
       let from : heardFrom (s .epsilon) t₁ buffer₁ ≡ openedHeard s v t buffer =
       rw (o .stamp, opened-kept lim, q .queue) in
       let all : heardAll s v t₁ batch buffer₁ ≡ listenedAll s v t batch buffer = ap (λ (x : Heard). hear s v x (batchEntries batch)) from in
@@ -73,6 +73,7 @@ module _ (s : Setup) (v : ℕ) (t : Timestamp) where
         repaired = rw (o .repaired, q .repaired);
         size = h .queued .size;
         sound = h .queued .sound;
+        ends = h .ends;
         queue = h .queue ∙ ap (λ (x : Heard). x .queue) all;
         numbers = h .numbers ∙ ap (λ (x : Heard). overlay (x .verdicts) verdicts) all;
         counted = h .counted ∙ ap (λ (x : Heard). takenCount (x .verdicts)) all;
@@ -120,28 +121,28 @@ call-timed i c = record { limits = c .limits-test; below = c .accepted .clock-be
 pub call-attending : (i : Input) → Call i → Attending (i .setup) (i .batch) (i .holdback) (i .verdicts)
 call-attending i c = record { size = c .size; exact = c .exact; room = c .verdicts-room }
 
-abbrev pub Heeded : Input → Timestamp → ℕ → ℕ → List ℕ → List ℕ → Type 0
-Heeded i t repair count buffer verdicts =
-    ListenedAll (i .setup) (i .clock) (i .tables) (i .batch) (i .holdback) (i .verdicts) t repair count buffer verdicts
+abbrev pub Heeded : Input → Timestamp → ℕ → ℕ → ℕ → List ℕ → List ℕ → Type 0
+Heeded i t repair count stop buffer verdicts =
+    ListenedAll (i .setup) (i .clock) (i .tables) (i .batch) (i .holdback) (i .verdicts) t repair count stop buffer verdicts
 
 heard-same : (i : Input) → listenedAll (i .setup) (i .clock) (i .tables) (i .batch) (i .holdback) ≡ heardOf i
 unfolding heardOf openingStamp openingQueue tablesSound queueSound ownStamp openedStamp openedQueue stampSound
 heard-same i = refl
 
 -- the own event fits
-pub own-room : (i : Input) (t : Timestamp) (repair count : ℕ) (buffer verdicts : List ℕ) → Call i → Heeded i t repair count buffer verdicts → getD (t .kn) (i .setup .epsilon) 0 ≤ 254
+pub own-room : (i : Input) {t : Timestamp} {repair count stop : ℕ} {buffer verdicts : List ℕ} → Call i → Heeded i t repair count stop buffer verdicts → getD (t .kn) (i .setup .epsilon) 0 ≤ 254
 unfolding widened
-own-room i t repair count buffer verdicts c h =
+own-room i {t} c h =
     let e : t ≡ widened (heardOf i .stamp) = h .stamp ∙ ap (λ (x : Heard). widened (x .stamp)) (heard-same i) in
     let same : getD (t .kn) (i .setup .epsilon) 0 ≡ getD (heardOf i .stamp .kn) (i .setup .epsilon) 0 =
     ap (λ (x : Timestamp). getD (x .kn) (i .setup .epsilon) 0) e ∙ getD-padded 32 (heardOf i .stamp .kn) (i .setup .epsilon) in
     omega (arith, hearing-end i (c .accepted) .opened .most (i .setup .epsilon), c .accepted .limits .n-most)
 
 -- the new stamp
-pub own-counted : (i : Input) (t t′ : Timestamp) (repair count : ℕ) (buffer verdicts : List ℕ) → Call i → Heeded i t repair count buffer verdicts
+pub own-counted : (i : Input) {t t′ : Timestamp} {repair count stop : ℕ} {buffer verdicts : List ℕ} → Call i → Heeded i t repair count stop buffer verdicts
     → t′ ≡ widened (countOwn (i .setup .epsilon) (i .clock) (trimmed (i .setup .epsilon) t)) → t′ ≡ widened (newStamp i)
 unfolding newStamp
-own-counted i t t′ repair count buffer verdicts c h e =
+own-counted i {t} c h e =
     let e₁ : t ≡ widened (heardOf i .stamp) = h .stamp ∙ ap (λ (x : Heard). widened (x .stamp)) (heard-same i) in
     let kept : trimmed (i .setup .epsilon) t ≡ heardOf i .stamp =
     ap (trimmed (i .setup .epsilon)) e₁ ∙ trimmed-widened (i .setup .epsilon) (heardOf i .stamp) (c .accepted .limits .epsilon-most) (hearing-end i (c .accepted) .opened .wide) in
@@ -176,13 +177,13 @@ sent-same i t c e =
     let same : trimmed (i .setup .epsilon) t ≡ trimmed (i .setup .epsilon) (newStamp i) = kept ∙ sym (trimmed-same (i .setup .epsilon) (newStamp i) wide) in
     ap (λ (x : Timestamp). cond (i .send) (encode (record { station = i .setup .own; stamp = x; payload = i .payload })) []) same
 
-pub call-closing : (i : Input) (t : Timestamp) (repair count : ℕ) (buffer verdicts : List ℕ) → Call i → Heeded i t repair count buffer verdicts → Closing (i .setup) (i .clock) buffer (i .delivery)
-call-closing i t repair count buffer verdicts c h =
-    record { timed = call-timed i c; size = h .size; sound = h .sound; room = c .delivery-room }
+pub call-closing : (i : Input) {t : Timestamp} {repair count stop : ℕ} {buffer verdicts : List ℕ} → Call i → Heeded i t repair count stop buffer verdicts → Closing (i .setup) (i .clock) stop buffer (i .delivery)
+call-closing i c h =
+    record { timed = call-timed i c; size = h .size; sound = h .sound; ends = h .ends; room = c .delivery-room }
 
 -- all of it
-module _ (i : Input) (e : firstNo (callQuestions i) ≡ 0) (t t′ : Timestamp) (repair count : ℕ) (buffer verdicts : List ℕ) (h : Heeded i t repair count buffer verdicts)
-    (size : ℕ) (outgoing : List ℕ) (delivered : ℕ) (holdback delivery : List ℕ) where
+module _ (i : Input) (e : firstNo (callQuestions i) ≡ 0) {t t′ : Timestamp} {repair count stop : ℕ} {buffer verdicts : List ℕ} (h : Heeded i t repair count stop buffer verdicts)
+    {size : ℕ} {outgoing : List ℕ} {delivered : ℕ} {holdback delivery : List ℕ} where
   pub accepted-output : t′ ≡ widened (newStamp i)
       → Sent (i .setup .epsilon) (i .setup .own) t′ (i .send) (i .payload) (i .outgoing) size outgoing
       → Delivered (i .setup) (i .clock) buffer (i .delivery) delivered holdback delivery

@@ -1,19 +1,17 @@
--- The queue's buffer within a tick: where frames stand, that one more fits, and what taking, opening and emptying leave. Assumes nothing.
+-- The queue's buffer within a tick: that one more frame fits, and what taking, opening and emptying leave. Assumes nothing.
 use Prim.Native.Nat.{ℕ, zero, suc, _+_, _*_, _-_, _≤_, _<_}
 use native.Mathlib.Nat.{mul-le-mul-right, mul-comm, suc-mul, add-mul, one-mul}
-use native.Mathlib.Numerals.{add-one}
 use native.Mathlib.Omega.{arith}
 use mathlib.Core.Path.{_≡_, refl, sym, ap, _∙_}
-use mathlib.Core.Bool.{true, false}
+use mathlib.Core.Bool.{true, false, cond}
 use mathlib.Core.List.{List, [], List·Memᴰ}
 use lib.Dec.{leb}
-use lib.ListN.{length, take, drop, length-drop}
-use lib.Seq.{take-all}
+use lib.ListN.{length, drop}
 use Rattle.laws.proofs.Numbers.{and-left, and-right}
 use Rattle.laws.specs.Lists.{every, joined, overlay, insertAt}
 use Rattle.laws.proofs.Lists.{every-mem, every-of-mem, leading-le, length-overlay, length-joined-le}
 use Rattle.model.specs.Setup.{Setup, width, depth, longestFrame, holdbackLength}
-use Rattle.model.specs.Frame.{Frame, twoAt, twoBytes, wellFormed, encode, decode, frameEnd}
+use Rattle.model.specs.Frame.{Frame, twoAt, twoBytes, wellFormed, encode, decode}
 use Rattle.model.specs.Order.{before}
 use Rattle.model.specs.Holdback.{heldBytes, held, passes, soundHoldback, encodeFrames, encodeHoldback}
 use Rattle.model.specs.Judge.{placeFor, judgeQuestions}
@@ -22,33 +20,17 @@ use Rattle.lemmas.proofs.Bounds.{Limits, FrameOk, QueueOk}
 use Rattle.lemmas.proofs.Questions.{limits-from}
 use Rattle.lemmas.proofs.RoundTrip.{formed-from, form-passed, passes-formed, held-frames, held-holdback, frame-fits, length-holdback}
 use Rattle.lemmas.proofs.Queue.{Passed, judged-passed, sound-queue, queue-none, queue-take, queue-room, queue-few, frames-sound, queue-sound}
-use Rattle.holdback.specs.Queue.{frameStart}
+use Rattle.timestamp.proofs.InLimits.{frames-most}
+use Rattle.holdback.specs.Queue.{frameStart, endOf, Figures}
 use Rattle.holdback.specs.Seen.{InWindow, seenTable, marked}
 use Rattle.holdback.specs.Sound.{openedQueue}
-use Rattle.holdback.proofs.Frames.{start-zero, start-suc, start-longest, start-within, FormedUpTo}
+use Rattle.holdback.proofs.RoundTrip.{Bytes}
+use Rattle.holdback.proofs.Frames.{start-zero, start-longest, FormedUpTo}
 use Rattle.holdback.proofs.Changes.{formed-frames, length-held}
+use Rattle.holdback.proofs.Placed.{end-behind}
 use Rattle.holdback.proofs.Seen.{seen-insert}
-use Rattle.node.specs.States.{Timed, Queued, Reached, Taking, QueueOpened}
+use Rattle.node.specs.States.{Timed, Queued, Taking, Placing, QueueOpened}
 use Rattle.node.proofs.Verdicts.{taken-passed, late-window}
-
--- ---- where frame index starts
-
-module _ (epsilon : ℕ) (s : List ℕ) (from start index : ℕ) (r : Reached epsilon s from start index) where
-  up-to : (k : ℕ) → k ≤ index → FormedUpTo epsilon s k
-  up-to k h = λ i l. formed-frames epsilon s (r .formed) i (omega (arith, r .inside))
-
-  pub reached-inside : (i at : ℕ) → i ≤ index → at ≡ frameStart epsilon s i → at ≤ length s
-  reached-inside i at h e = omega (arith, start-within epsilon s i (r .two) (up-to i h))
-
-  pub reached-next : (i at x : ℕ) → i < index → at ≡ frameStart epsilon s i → x ≡ frameEnd epsilon (take (length s - at) (drop at s)) → at + x ≡ frameStart epsilon s (i + 1)
-  reached-next i at x h e k =
-      let whole : take (length s - at) (drop at s) ≡ drop at s = take-all (length s - at) (drop at s) (omega (arith, length-drop at s)) in
-      let x-is : x ≡ frameEnd epsilon (drop (frameStart epsilon s i) s) = k ∙ (ap (frameEnd epsilon) whole ∙ ap (λ (a : ℕ). frameEnd epsilon (drop a s)) e) in
-      let next : frameStart epsilon s (suc i) ≡ frameStart epsilon s i + frameEnd epsilon (drop (frameStart epsilon s i) s) = start-suc epsilon s i in
-      rw add-one (omega arith)
-
-  pub reached-next-inside : (i : ℕ) → i < index → frameStart epsilon s (i + 1) ≤ length s
-  reached-next-inside i h = reached-inside (i + 1) (frameStart epsilon s (i + 1)) (omega arith) refl
 
 -- ---- a sound queue
 
@@ -62,6 +44,12 @@ sound-formed s v buffer h =
 pub size-two : (s : Setup) (n : ℕ) → n ≡ holdbackSize s → 2 ≤ n
 unfolding holdbackLength
 size-two s n e = omega arith
+
+-- it is short enough for any figure of it
+pub size-small : (s : Setup) → Limits s → holdbackSize s ≤ 127234
+unfolding holdbackLength
+size-small s lim =
+    omega (arith, frames-most (longestFrame (s .epsilon)) (depth (s .n) (s .epsilon) (s .delta)) (s .n) (s .epsilon) (s .delta) refl refl (lim .n-most) (lim .epsilon-most) (lim .delta-most))
 
 frames-long : (s : Setup) (queue : List Frame) → Limits s → ((f : Frame) → List·Memᴰ f queue → FrameOk s f) → length queue ≤ depth (s .n) (s .epsilon) (s .delta) → length (encodeFrames queue) ≤ holdbackSize s
 unfolding encodeFrames twoBytes holdbackLength
@@ -87,9 +75,9 @@ pub record Known (s : Setup) (v : ℕ) (buffer : List ℕ) (place : ℕ) (bytes 
   pub few : twoAt buffer 0 < 65535
   pub window : InWindow s v (decode (s .epsilon) bytes)
 
-pub known : (s : Setup) (v : ℕ) (buffer : List ℕ) (place : ℕ) (bytes : List ℕ) → Taking s v buffer place bytes → Known s v buffer place bytes
+pub known : {s : Setup} {v : ℕ} {buffer : List ℕ} {place : ℕ} {bytes : List ℕ} → Taking s v buffer place bytes → Known s v buffer place bytes
 unfolding placeFor judgeQuestions depth
-known s v buffer place bytes t =
+known {s} {v} {buffer} {place} {bytes} t =
     let lim : Limits s = limits-from s (t .timed .limits) in
     let queue : List Frame = held (s .epsilon) buffer in
     let ok : QueueOk s v queue = sound-queue s v buffer lim (t .sound) in
@@ -120,9 +108,9 @@ start-most epsilon buffer (suc k) ok =
     let this = start-longest epsilon buffer k (ok k (omega arith)) in
     omega (arith, suc-mul k (39 + 2 * epsilon))
 
-module _ (s : Setup) (v : ℕ) (buffer : List ℕ) (place : ℕ) (bytes : List ℕ) (t : Taking s v buffer place bytes) where
+module _ {s : Setup} {v : ℕ} {buffer : List ℕ} {place : ℕ} {bytes : List ℕ} (t : Taking s v buffer place bytes) where
   abbrev k : Known s v buffer place bytes
-  k = known s v buffer place bytes t
+  k = known t
 
   -- one more frame fits
   pub fits : frameStart (s .epsilon) buffer (twoAt buffer 0) + length bytes ≤ length buffer
@@ -138,6 +126,18 @@ module _ (s : Setup) (v : ℕ) (buffer : List ℕ) (place : ℕ) (bytes : List �
       let many : (twoAt buffer 0 + 1) * (39 + 2 * s .epsilon) ≤ depth (s .n) (s .epsilon) (s .delta) * (39 + 2 * s .epsilon) = mul-le-mul-right (39 + 2 * s .epsilon) one in
       omega (arith, mul-comm (depth (s .n) (s .epsilon) (s .delta)) (39 + 2 * s .epsilon), add-mul (twoAt buffer 0) 1 (39 + 2 * s .epsilon), one-mul (39 + 2 * s .epsilon))
 
+  -- what placing it is told
+  pub figures : {count at stop : ℕ} → count ≡ twoAt buffer 0 → Placing (s .epsilon) buffer place at stop → Figures (s .epsilon) buffer count stop place at
+  figures e p =
+      record {
+        formed = k .formed;
+        two = k .two;
+        counted = e;
+        ends = p .ends ∙ ap (frameStart (s .epsilon) buffer) (sym e);
+        inside = omega (arith, k .inside);
+        starts = p .starts;
+      }
+
   abbrev more : List Frame
   more = insertAt place (decode (s .epsilon) bytes) (held (s .epsilon) buffer)
 
@@ -145,16 +145,21 @@ module _ (s : Setup) (v : ℕ) (buffer : List ℕ) (place : ℕ) (bytes : List �
   more-ok = rw (← k .place-is) (queue-take s v (held (s .epsilon) buffer) (decode (s .epsilon) bytes) (k .limits) (k .below) (k .ok) (k .passed))
 
   -- what taking it leaves
-  module _ (buffer′ : List ℕ) (e : buffer′ ≡ overlay (encodeFrames more) buffer) where
+  module _ {buffer′ : List ℕ} (e : buffer′ ≡ overlay (encodeFrames more) buffer) where
     pub more-held : held (s .epsilon) buffer′ ≡ more
     unfolding overlay
     more-held =
         ap (held (s .epsilon)) e
         ∙ held-frames (s .epsilon) more (drop (length (encodeFrames more)) buffer) (λ g m. more-ok .frames g m .sound .wide) (queue-few s v more (k .limits) (k .below) more-ok)
 
-    pub more-queued : (table table′ : List ℕ) → table ≡ seenTable s v (held (s .epsilon) buffer) → table′ ≡ marked s v (decode (s .epsilon) bytes) table → Queued s v buffer′ table′
+    pub more-ends : Bytes buffer → Bytes bytes → endOf (s .epsilon) buffer′ ≡ endOf (s .epsilon) buffer + length bytes
+    more-ends clean bytes-clean =
+        let here : Placing (s .epsilon) buffer place (frameStart (s .epsilon) buffer place) (endOf (s .epsilon) buffer) = record { starts = refl; ends = refl } in
+        end-behind (figures refl here) clean bytes bytes-clean (k .form) (λ g m. more-ok .frames g m .sound .wide) buffer′ e
+
+    pub more-queued : {table table′ : List ℕ} → table ≡ seenTable s v (held (s .epsilon) buffer) → table′ ≡ marked s v (decode (s .epsilon) bytes) table → Queued s v buffer′ table′
     unfolding overlay
-    more-queued table table′ h h′ =
+    more-queued h h′ =
         let room : length more < depth (s .n) (s .epsilon) (s .delta) = queue-room s v more (k .limits) (k .below) more-ok in
         let long : length (encodeFrames more) ≤ length buffer = omega (arith, frames-long s more (k .limits) (more-ok .frames) (omega arith), t .size) in
         record {
@@ -167,22 +172,25 @@ module _ (s : Setup) (v : ℕ) (buffer : List ℕ) (place : ℕ) (bytes : List �
 -- ---- the queue opened
 
 module _ (s : Setup) (v : ℕ) (buffer : List ℕ) (t : Timed s v) (size : length buffer ≡ holdbackSize s) where
-  pub opened-sound : (table : List ℕ) → soundHoldback s v buffer ≡ true → table ≡ seenTable s v (openedQueue s v buffer) → QueueOpened s v buffer 0 buffer table
+  pub opened-sound : {stop : ℕ} {table : List ℕ} → soundHoldback s v buffer ≡ true → stop ≡ cond (soundHoldback s v buffer) (endOf (s .epsilon) buffer) 2 → table ≡ seenTable s v (openedQueue s v buffer)
+      → QueueOpened s v buffer 0 stop buffer table
   unfolding openedQueue
-  opened-sound table h e =
+  opened-sound h ends e =
       record {
         repaired = rw h;
         queued = record { size = size; sound = h; table-is = rw h at e };
+        ends = rw h at ends;
         queue = rw h;
       }
 
-  pub opened-empty : (buffer′ table : List ℕ) → soundHoldback s v buffer ≡ false → table ≡ seenTable s v (openedQueue s v buffer) → buffer′ ≡ encodeHoldback (length buffer) [] → QueueOpened s v buffer 2 buffer′ table
+  pub opened-empty : {buffer′ table : List ℕ} → soundHoldback s v buffer ≡ false → table ≡ seenTable s v (openedQueue s v buffer) → buffer′ ≡ encodeHoldback (length buffer) [] → QueueOpened s v buffer 2 2 buffer′ table
   unfolding openedQueue
-  opened-empty buffer′ table h e b =
+  opened-empty {buffer′} h e b =
       let lim : Limits s = limits-from s (t .limits) in
       let none : (f : Frame) → List·Memᴰ f [] → length (f .stamp .kn) ≡ width (s .epsilon) = λ f m. queue-none s v .frames f m .sound .wide in
       let b′ : buffer′ ≡ encodeHoldback (holdbackSize s) [] = b ∙ ap (λ (n : ℕ). encodeHoldback n []) size in
       let empty : held (s .epsilon) buffer′ ≡ [] = ap (held (s .epsilon)) b′ ∙ held-holdback (s .epsilon) (holdbackSize s) [] none (omega arith) in
+      let none-held : twoAt buffer′ 0 ≡ 0 = sym (length-held (s .epsilon) buffer′) ∙ ap length empty in
       record {
         repaired = rw h;
         queued =
@@ -191,5 +199,6 @@ module _ (s : Setup) (v : ℕ) (buffer : List ℕ) (t : Timed s v) (size : lengt
               sound = ap (soundHoldback s v) b′ ∙ queue-sound s v [] lim (t .below) (queue-none s v);
               table-is = rw h at e ∙ sym (ap (seenTable s v) empty);
             };
+        ends = sym (ap (frameStart (s .epsilon) buffer′) none-held ∙ start-zero (s .epsilon) buffer′);
         queue = rw h empty;
       }

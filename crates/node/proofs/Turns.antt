@@ -3,7 +3,7 @@ use Prim.Native.Nat.{ℕ, suc, _+_, _-_, _≤_, _<_}
 use native.Mathlib.Nat.{sub-zero, add-zero}
 use native.Mathlib.Numerals.{add-one}
 use native.Mathlib.Omega.{arith}
-use mathlib.Core.Path.{_≡_, refl, sym, ap, _∙_}
+use mathlib.Core.Path.{_≡_, refl, sym, ap, ap₂, _∙_}
 use mathlib.Core.List.{List, [], _∷_, _++_}
 use lib.Dec.{eqb}
 use lib.ListN.{length, take, drop, set, length-set, length-append, take-append-drop}
@@ -18,6 +18,7 @@ use Rattle.model.specs.Holdback.{held}
 use Rattle.model.specs.Judge.{Heard, Verdict, taken, refused, judge, hearBy, hearOne, hear, readingOf}
 use Rattle.model.specs.Tick.{takenCount}
 use Rattle.lemmas.proofs.Counts.{trimmed-widened, absorb-wide}
+use Rattle.holdback.specs.Queue.{endOf}
 use Rattle.batch.specs.Walk.{countOf, entryAt, nextAt, walked}
 use Rattle.batch.proofs.Walk.{batch-walked}
 use Rattle.node.specs.States.{Queued, Took, Listening, heardAll, HeardAll}
@@ -28,24 +29,26 @@ abbrev pub sofar : ℕ → Timestamp → List ℕ → List ℕ → Heard
 sofar epsilon t buffer done = record { stamp = trimmed epsilon t; queue = held epsilon buffer; verdicts = done }
 
 -- the loop's invariant, at entry i, whose length stands at `at`
-pub record Turning (s : Setup) (v : ℕ) (t₀ : Timestamp) (batch buffer₀ verdicts₀ : List ℕ) (t : Timestamp) (count at i : ℕ) (buffer table verdicts : List ℕ) : Type 0 where
+pub record Turning (s : Setup) (v : ℕ) (t₀ : Timestamp) (batch buffer₀ verdicts₀ : List ℕ) (t : Timestamp) (count stop at i : ℕ) (buffer table verdicts : List ℕ) : Type 0 where
   pub within : i ≤ countOf batch
   pub narrow : t ≡ widened (trimmed (s .epsilon) t)
   pub queued : Queued s v buffer table
+  pub ends : stop ≡ endOf (s .epsilon) buffer
   pub whole : heardAll s v t₀ batch buffer₀ ≡ hear s v (sofar (s .epsilon) t buffer (take i verdicts)) (walked (countOf batch - i) batch at)
   pub counted : count ≡ takenCount (take i verdicts)
   pub few : count ≤ i
   pub long : length verdicts ≡ length verdicts₀
   pub after : drop i verdicts ≡ drop i verdicts₀
 
-pub turning-start : (s : Setup) (v : ℕ) (t : Timestamp) (batch buffer table verdicts : List ℕ) → Listening (s .epsilon) t batch verdicts → Queued s v buffer table
-    → Turning s v t batch buffer verdicts t 0 1 0 buffer table verdicts
+pub turning-start : {s : Setup} {v : ℕ} {t : Timestamp} {stop : ℕ} {batch buffer table verdicts : List ℕ} → Listening (s .epsilon) t batch verdicts → Queued s v buffer table → stop ≡ endOf (s .epsilon) buffer
+    → Turning s v t batch buffer verdicts t 0 stop 1 0 buffer table verdicts
 unfolding takenCount select
-turning-start s v t batch buffer table verdicts l q =
+turning-start {batch} l q ends =
     record {
       within = omega arith;
       narrow = l .narrow;
       queued = q;
+      ends = ends;
       whole = rw (sub-zero (countOf batch), batch-walked batch (l .exact));
       counted = refl;
       few = omega arith;
@@ -77,25 +80,27 @@ walk-more batch at i h =
     let e : countOf batch - i ≡ suc (countOf batch - (i + 1)) = omega arith in
     rw e
 
-module _ (s : Setup) (v : ℕ) (t₀ : Timestamp) (batch buffer₀ verdicts₀ : List ℕ) (t : Timestamp) (count at i : ℕ) (buffer table verdicts : List ℕ)
-    (u : Turning s v t₀ batch buffer₀ verdicts₀ t count at i buffer table verdicts) (more : i < countOf batch) (few : countOf batch ≤ length verdicts₀) where
+-- one turn: the entry's bytes are judged, and the next entry stands at at′
+module _ {s : Setup} {v : ℕ} {t₀ : Timestamp} {batch buffer₀ verdicts₀ : List ℕ} {t : Timestamp} {count stop at i : ℕ} {buffer table verdicts : List ℕ}
+    (u : Turning s v t₀ batch buffer₀ verdicts₀ t count stop at i buffer table verdicts) (more : i < countOf batch) (few : countOf batch ≤ length verdicts₀)
+    {bytes : List ℕ} {at′ : ℕ} (entry : bytes ≡ entryAt batch at) (step : at′ ≡ nextAt batch at) where
   abbrev now : Heard
   now = sofar (s .epsilon) t buffer (take i verdicts)
 
-  abbrev bytes : List ℕ
-  bytes = entryAt batch at
+  abbrev others : List (List ℕ)
+  others = walked (countOf batch - (i + 1)) batch at′
 
   heard-one : (verdict : Verdict) → judge s v (held (s .epsilon) buffer) bytes ≡ verdict
-      → heardAll s v t₀ batch buffer₀ ≡ hear s v (hearBy s v verdict (decode (s .epsilon) bytes) now) (walked (countOf batch - (i + 1)) batch (nextAt batch at))
+      → heardAll s v t₀ batch buffer₀ ≡ hear s v (hearBy s v verdict (decode (s .epsilon) bytes) now) others
   unfolding hear hearOne
   heard-one verdict e =
       u .whole
-      ∙ (ap (hear s v now) (walk-more batch at i more)
-      ∙ ap (λ (d : Verdict). hear s v (hearBy s v d (decode (s .epsilon) bytes) now) (walked (countOf batch - (i + 1)) batch (nextAt batch at))) e)
+      ∙ (ap (hear s v now) (walk-more batch at i more ∙ ap₂ (λ (b : List ℕ) (k : ℕ). b ∷ walked (countOf batch - (i + 1)) batch k) (sym entry) (sym step))
+      ∙ ap (λ (d : Verdict). hear s v (hearBy s v d (decode (s .epsilon) bytes) now) others) e)
 
-  pub turn-refused : (number x : ℕ) → judge s v (held (s .epsilon) buffer) bytes ≡ refused number → x ≡ number
-      → Turning s v t₀ batch buffer₀ verdicts₀ t count (nextAt batch at) (i + 1) buffer table (set verdicts i x)
-  turn-refused number x e same =
+  pub turn-refused : {number x : ℕ} → judge s v (held (s .epsilon) buffer) bytes ≡ refused number → x ≡ number
+      → Turning s v t₀ batch buffer₀ verdicts₀ t count stop at′ (i + 1) buffer table (set verdicts i x)
+  turn-refused {number} {x} e same =
       let inside : i < length verdicts = omega (arith, u .long) in
       let no-zero : x ≡ 0 → ⊥ = λ z. refused-number s v (held (s .epsilon) buffer) bytes number e (sym same ∙ z) in
       let next : take (i + 1) (set verdicts i x) ≡ take i verdicts ++ (x ∷ []) = done-more verdicts i x inside in
@@ -103,20 +108,20 @@ module _ (s : Setup) (v : ℕ) (t₀ : Timestamp) (batch buffer₀ verdicts₀ :
         within = omega arith;
         narrow = u .narrow;
         queued = u .queued;
+        ends = u .ends;
         whole =
             heard-one (refused number) e
-            ∙ ap (λ (done : List ℕ). hear s v (sofar (s .epsilon) t buffer done) (walked (countOf batch - (i + 1)) batch (nextAt batch at)))
-            (ap (λ (k : ℕ). take i verdicts ++ (k ∷ [])) (sym same) ∙ sym next);
+            ∙ ap (λ (done : List ℕ). hear s v (sofar (s .epsilon) t buffer done) others) (ap (λ (k : ℕ). take i verdicts ++ (k ∷ [])) (sym same) ∙ sym next);
         counted = u .counted ∙ sym (ap takenCount next ∙ refused-more (take i verdicts) x no-zero);
         few = omega (arith, u .few);
         long = length-set verdicts i x ∙ u .long;
         after = rest-after verdicts verdicts₀ i x (u .after);
       }
 
-  pub turn-taken : (place : ℕ) (t′ : Timestamp) (buffer′ table′ : List ℕ) → s .epsilon ≤ 16 → judge s v (held (s .epsilon) buffer) bytes ≡ taken place
+  pub turn-taken : {place : ℕ} {t′ : Timestamp} {buffer′ table′ : List ℕ} → s .epsilon ≤ 16 → judge s v (held (s .epsilon) buffer) bytes ≡ taken place
       → Took s v t place bytes buffer t′ buffer′ table′
-      → Turning s v t₀ batch buffer₀ verdicts₀ t′ (count + 1) (nextAt batch at) (i + 1) buffer′ table′ (set verdicts i 0)
-  turn-taken place t′ buffer′ table′ small e k =
+      → Turning s v t₀ batch buffer₀ verdicts₀ t′ (count + 1) (stop + length bytes) at′ (i + 1) buffer′ table′ (set verdicts i 0)
+  turn-taken {place} {t′} {buffer′} small e k =
       let f : Frame = decode (s .epsilon) bytes in
       let a : Timestamp = absorb (s .epsilon) (s .modulus) (trimmed (s .epsilon) t) (readingOf s v f) (f .stamp) in
       let inside : i < length verdicts = omega (arith, u .long) in
@@ -128,7 +133,8 @@ module _ (s : Setup) (v : ℕ) (t₀ : Timestamp) (batch buffer₀ verdicts₀ :
         within = omega arith;
         narrow = k .stamp ∙ ap widened (sym kept);
         queued = k .queued;
-        whole = heard-one (taken place) e ∙ ap (λ (h : Heard). hear s v h (walked (countOf batch - (i + 1)) batch (nextAt batch at))) same;
+        ends = ap (λ (n : ℕ). n + length bytes) (u .ends) ∙ sym (k .ends);
+        whole = heard-one (taken place) e ∙ ap (λ (h : Heard). hear s v h others) same;
         counted = ap (λ (n : ℕ). n + 1) (u .counted) ∙ sym (ap takenCount next ∙ taken-more (take i verdicts));
         few = omega (arith, u .few);
         long = length-set verdicts i 0 ∙ u .long;
@@ -139,17 +145,18 @@ heard-none : (s : Setup) (v : ℕ) (h : Heard) (batch : List ℕ) (at k : ℕ) �
 unfolding hear walked
 heard-none s v h batch at k e = rw e
 
-pub turning-end : (s : Setup) (v : ℕ) (t₀ : Timestamp) (batch buffer₀ verdicts₀ : List ℕ) (t : Timestamp) (count at i : ℕ) (buffer table verdicts : List ℕ)
-    → Turning s v t₀ batch buffer₀ verdicts₀ t count at i buffer table verdicts → countOf batch ≤ i → countOf batch ≤ length verdicts₀
-    → HeardAll s v t₀ batch buffer₀ verdicts₀ t count buffer table verdicts
+pub turning-end : {s : Setup} {v : ℕ} {t₀ : Timestamp} {batch buffer₀ verdicts₀ : List ℕ} {t : Timestamp} {count stop at i : ℕ} {buffer table verdicts : List ℕ}
+    → Turning s v t₀ batch buffer₀ verdicts₀ t count stop at i buffer table verdicts → countOf batch ≤ i → countOf batch ≤ length verdicts₀
+    → HeardAll s v t₀ batch buffer₀ verdicts₀ t count stop buffer table verdicts
 unfolding overlay
-turning-end s v t₀ batch buffer₀ verdicts₀ t count at i buffer table verdicts u h few =
+turning-end {s} {v} {t₀} {batch} {buffer₀} {verdicts₀} {t} {count} {stop} {at} {i} {buffer} {table} {verdicts} u h few =
     let none : countOf batch - i ≡ 0 = omega arith in
     let all : heardAll s v t₀ batch buffer₀ ≡ sofar (s .epsilon) t buffer (take i verdicts) = u .whole ∙ heard-none s v (sofar (s .epsilon) t buffer (take i verdicts)) batch at (countOf batch - i) none in
     let size : length (take i verdicts) ≡ i = length-take-le i verdicts (omega (arith, u .long, u .within)) in
     record {
       stamp = u .narrow ∙ ap (λ (x : Heard). widened (x .stamp)) (sym all);
       queued = u .queued;
+      ends = u .ends;
       queue = ap (λ (x : Heard). x .queue) (sym all);
       numbers =
           sym (take-append-drop i verdicts)

@@ -19,11 +19,13 @@ use Rattle.lemmas.proofs.Bounds.{Limits, FrameOk, QueueOk}
 use Rattle.lemmas.proofs.Questions.{limits-from, first-yes}
 use Rattle.lemmas.proofs.Queue.{sound-queue, queue-window}
 use Rattle.lemmas.proofs.Queue as queues
+use Rattle.holdback.specs.Queue.{frameStart}
 use Rattle.holdback.specs.Seen.{InWindow, seenTable, isMarked, slotOf}
 use Rattle.holdback.proofs.Seen.{seen-at}
+use Rattle.holdback.specs.declared.change.Place.{Place}
 use Rattle.node.specs.declared.verdict.Verdict as codes
 use Rattle.node.specs.declared.verdict.Verdict.the-variants.{Taken, Refused}
-use Rattle.node.specs.Views.{verdictOf, timeQuestions}
+use Rattle.node.specs.Views.{verdictOf, Located, timeQuestions}
 use Rattle.node.specs.States.{Timed, Queued}
 
 -- ---- lists of questions, one after the other
@@ -135,12 +137,18 @@ refused-number s v queue bytes number e = verdict-refused (firstNo (judgeQuestio
 -- the tags of the code's verdict, by which a match tells them apart
 pub record Tags : Type 0 where
   pub tag : codes.Verdict → ℕ
-  pub at-taken : (place : ℕ) → tag (Taken place) ≡ 0
+  pub at-taken : (place : Place) → tag (Taken place) ≡ 0
   pub at-refused : (number : ℕ) → tag (Refused number) ≡ 1
 
 pub is-refused : (tags : Tags) (r : codes.Verdict) → tags .tag r ≡ 1 → verdictOf r ≡ refused (verdictNumber (verdictOf r))
 is-refused tags (Taken place) e = absurd (omega (arith, tags .at-taken place))
 is-refused tags (Refused number) e = refl
+
+pub refused-located : {epsilon : ℕ} {buffer : List ℕ} {number : ℕ} → Located epsilon buffer (Refused number)
+refused-located = record { stands = λ place e. absurd (let z : _≡_ {A = ℕ} 0 1 = cc in omega arith) }
+
+pub taken-located : {epsilon : ℕ} {buffer : List ℕ} {place : Place} → place .at ≡ frameStart epsilon buffer (place .index) → Located epsilon buffer (Taken place)
+taken-located {place} h = record { stands = λ place′ e. let same : place ≡ place′ = cc in rw (← same) h }
 
 -- ---- the table of origins
 

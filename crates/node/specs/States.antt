@@ -15,7 +15,7 @@ use Rattle.model.specs.Question.{firstNo, frameQuestions}
 use Rattle.model.specs.Codec.{frameOf}
 use Rattle.model.specs.Judge.{Heard, judge, taken, readingOf, hear}
 use Rattle.model.specs.Tick.{holdbackSize, dueNow, takenCount}
-use Rattle.holdback.specs.Queue.{frameStart}
+use Rattle.holdback.specs.Queue.{frameStart, endOf}
 use Rattle.holdback.specs.Seen.{seenTable}
 use Rattle.holdback.specs.Sound.{openedQueue}
 
@@ -40,15 +40,6 @@ pub record Queued (s : Setup) (v : ℕ) (buffer table : List ℕ) : Type 0 where
   pub sound : soundHoldback s v buffer ≡ true
   pub table-is : table ≡ seenTable s v (held (s .epsilon) buffer)
 
--- a place in a queue of well-formed frames, or its end, and an earlier one with where it stands
-pub record Reached (epsilon : ℕ) (buffer : List ℕ) (from start index : ℕ) : Type 0 where
-  pub narrow : epsilon ≤ 16
-  pub two : 2 ≤ length buffer
-  pub formed : every (wellFormed epsilon) (heldBytes epsilon buffer) ≡ true
-  pub inside : index ≤ twoAt buffer 0
-  pub order : from ≤ index
-  pub begins : start ≡ frameStart epsilon buffer from
-
 -- a frame that is to be taken, at its place
 pub record Taking (s : Setup) (v : ℕ) (buffer : List ℕ) (place : ℕ) (bytes : List ℕ) : Type 0 where
   pub timed : Timed s v
@@ -56,11 +47,17 @@ pub record Taking (s : Setup) (v : ℕ) (buffer : List ℕ) (place : ℕ) (bytes
   pub sound : soundHoldback s v buffer ≡ true
   pub judged : judge s v (held (s .epsilon) buffer) bytes ≡ taken place
 
+-- where its place stands, and where the frames end
+pub record Placing (epsilon : ℕ) (buffer : List ℕ) (place at stop : ℕ) : Type 0 where
+  pub starts : at ≡ frameStart epsilon buffer place
+  pub ends : stop ≡ endOf epsilon buffer
+
 -- what taking it leaves
 pub record Took (s : Setup) (v : ℕ) (t : Timestamp) (place : ℕ) (bytes buffer : List ℕ) (t′ : Timestamp) (buffer′ table′ : List ℕ) : Type 0 where
   pub stamp : t′ ≡ widened (absorb (s .epsilon) (s .modulus) (trimmed (s .epsilon) t) (readingOf s v (decode (s .epsilon) bytes)) (decode (s .epsilon) bytes .stamp))
   pub queued : Queued s v buffer′ table′
   pub queue : held (s .epsilon) buffer′ ≡ insertAt place (decode (s .epsilon) bytes) (held (s .epsilon) buffer)
+  pub ends : endOf (s .epsilon) buffer′ ≡ endOf (s .epsilon) buffer + length bytes
 
 -- what hearing asks: the places past the 2ε counts are 0, the batch is exact, and there is a place for each verdict
 pub record Listening (epsilon : ℕ) (t : Timestamp) (batch verdicts : List ℕ) : Type 0 where
@@ -76,9 +73,10 @@ abbrev pub heardAll : Setup → ℕ → Timestamp → List ℕ → List ℕ → 
 heardAll s v t batch buffer = hear s v (heardFrom (s .epsilon) t buffer) (batchEntries batch)
 
 -- what hearing leaves
-pub record HeardAll (s : Setup) (v : ℕ) (t : Timestamp) (batch buffer verdicts : List ℕ) (t′ : Timestamp) (count : ℕ) (buffer′ table′ verdicts′ : List ℕ) : Type 0 where
+pub record HeardAll (s : Setup) (v : ℕ) (t : Timestamp) (batch buffer verdicts : List ℕ) (t′ : Timestamp) (count stop : ℕ) (buffer′ table′ verdicts′ : List ℕ) : Type 0 where
   pub stamp : t′ ≡ widened (heardAll s v t batch buffer .stamp)
   pub queued : Queued s v buffer′ table′
+  pub ends : stop ≡ endOf (s .epsilon) buffer′
   pub queue : held (s .epsilon) buffer′ ≡ heardAll s v t batch buffer .queue
   pub numbers : verdicts′ ≡ overlay (heardAll s v t batch buffer .verdicts) verdicts
   pub counted : count ≡ takenCount (heardAll s v t batch buffer .verdicts)
@@ -95,9 +93,10 @@ pub record StampOpened (s : Setup) (v : ℕ) (t t′ : Timestamp) (repair : ℕ)
   pub repaired : repair ≡ cond (stampSound s v t) 0 1
 
 -- 01, tick 1: the queue judged, and emptied if it is unsound
-pub record QueueOpened (s : Setup) (v : ℕ) (buffer : List ℕ) (repair : ℕ) (buffer′ table′ : List ℕ) : Type 0 where
+pub record QueueOpened (s : Setup) (v : ℕ) (buffer : List ℕ) (repair stop : ℕ) (buffer′ table′ : List ℕ) : Type 0 where
   pub repaired : repair ≡ cond (soundHoldback s v buffer) 0 2
   pub queued : Queued s v buffer′ table′
+  pub ends : stop ≡ endOf (s .epsilon) buffer′
   pub queue : held (s .epsilon) buffer′ ≡ openedQueue s v buffer
 
 -- what the first three steps ask, of a call that has passed 1 and 2
@@ -113,11 +112,12 @@ openedHeard s v t buffer = record { stamp = openedStamp s v t; queue = openedQue
 abbrev pub listenedAll : Setup → ℕ → Timestamp → List ℕ → List ℕ → Heard
 listenedAll s v t batch buffer = hear s v (openedHeard s v t buffer) (batchEntries batch)
 
-pub record ListenedAll (s : Setup) (v : ℕ) (t : Timestamp) (batch buffer verdicts : List ℕ) (t′ : Timestamp) (repair count : ℕ) (buffer′ verdicts′ : List ℕ) : Type 0 where
+pub record ListenedAll (s : Setup) (v : ℕ) (t : Timestamp) (batch buffer verdicts : List ℕ) (t′ : Timestamp) (repair count stop : ℕ) (buffer′ verdicts′ : List ℕ) : Type 0 where
   pub stamp : t′ ≡ widened (listenedAll s v t batch buffer .stamp)
   pub repaired : repair ≡ cond (stampSound s v t) 0 1 + cond (soundHoldback s v buffer) 0 2
   pub size : length buffer′ ≡ holdbackSize s
   pub sound : soundHoldback s v buffer′ ≡ true
+  pub ends : stop ≡ endOf (s .epsilon) buffer′
   pub queue : held (s .epsilon) buffer′ ≡ listenedAll s v t batch buffer .queue
   pub numbers : verdicts′ ≡ overlay (listenedAll s v t batch buffer .verdicts) verdicts
   pub counted : count ≡ takenCount (listenedAll s v t batch buffer .verdicts)
@@ -131,10 +131,11 @@ pub record Sent (epsilon own : ℕ) (t : Timestamp) (send : Bool) (payload buffe
   pub bytes : buffer′ ≡ overlay (sentBy epsilon own t send payload) buffer
 
 -- 01, tick 6: what delivering asks, and leaves
-pub record Closing (s : Setup) (v : ℕ) (buffer delivery : List ℕ) : Type 0 where
+pub record Closing (s : Setup) (v stop : ℕ) (buffer delivery : List ℕ) : Type 0 where
   pub timed : Timed s v
   pub size : length buffer ≡ holdbackSize s
   pub sound : soundHoldback s v buffer ≡ true
+  pub ends : stop ≡ endOf (s .epsilon) buffer
   pub room : holdbackSize s ≤ length delivery
 
 pub record Delivered (s : Setup) (v : ℕ) (buffer delivery : List ℕ) (count : ℕ) (buffer′ delivery′ : List ℕ) : Type 0 where

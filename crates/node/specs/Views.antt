@@ -1,6 +1,7 @@
 -- What the code's values say in the model's terms.
 -- Assumes nothing.
 use Prim.Native.Nat.{ℕ}
+use mathlib.Core.Path.{_≡_}
 use mathlib.Core.Bool.{Bool}
 use mathlib.Core.List.{List, [], _∷_}
 use Rattle.model.specs.Setup as setups
@@ -12,6 +13,8 @@ use Rattle.model.specs.Tick.{Input}
 use Rattle.timestamp.specs.Views.{setupOf, stampOf}
 use Rattle.timestamp.specs.declared.limits.Setup.{Setup}
 use Rattle.timestamp.specs.declared.stamp.Timestamp.{Timestamp}
+use Rattle.holdback.specs.Queue.{frameStart}
+use Rattle.holdback.specs.declared.change.Place.{Place}
 use Rattle.node.specs.declared.verdict.Verdict.{Verdict}
 use Rattle.node.specs.declared.verdict.Verdict.the-variants.{Taken, Refused}
 
@@ -33,8 +36,12 @@ inputOf setup clock tables holdback batch send payload outgoing verdicts deliver
 
 -- 01: "A verdict is either taken, with its place on the shelf, or refused, with the number"
 abbrev pub verdictOf : Verdict → judging.Verdict
-verdictOf (Taken place) = taken place
+verdictOf (Taken place) = taken (place .index)
 verdictOf (Refused number) = refused number
+
+-- where the place of a taken frame stands
+pub record Located (epsilon : ℕ) (buffer : List ℕ) (r : Verdict) : Type 0 where
+  pub stands : (place : Place) → r ≡ Taken place → place .at ≡ frameStart epsilon buffer (place .index)
 
 -- 01, 13 to 15: what is asked of a frame's clock and counts
 unfoldable pub timeQuestions : setups.Setup → ℕ → Frame → List Question

@@ -7,31 +7,36 @@ use batch::count_of;
 use batch::walker::walk_step;
 use frame::r_of;
 use frame::stamp_of;
+use holdback::Place;
 use holdback::mark;
 use timestamp::Setup;
 use timestamp::Timestamp;
 use timestamp::near;
+ghost use mathlib.Core.Path.{_≡_};
 ghost use Rattle.timestamp.specs.Views.{setupOf, stampOf};
-ghost use Rattle.node.specs.States.{Timed, Queued, Taking, Took, Listening, HeardAll};
+ghost use Rattle.holdback.specs.Queue.{endOf};
+ghost use Rattle.node.specs.States.{Timed, Queued, Taking, Placing, Took, Listening, HeardAll};
 
 // "A taken frame goes on the shelf, and c and each count become the larger of own and frame's". Its origin is marked.
 fn take(
     setup: Setup,
     clock: usize,
     stamp: Timestamp,
-    place: usize,
+    place: Place,
+    end: usize,
     s: &[u8],
     holdback: &mut [u8],
     seen: &mut [u8],
 ) -> Timestamp
-    requires { ⌜ Taking (setupOf setup) clock (now holdback) place (now s) ⌝ }
+    requires { ⌜ Taking (setupOf setup) clock (now holdback) (place .index) (now s) ⌝ }
+    requires { ⌜ Placing (setup .epsilon) (now holdback) (place .index) (place .at) end ⌝ }
     requires { ⌜ Queued (setupOf setup) clock (now holdback) (now seen) ⌝ }
-    ensures { λ r. ⌜ Took (setupOf setup) clock (stampOf stamp) place (now (s .entry)) (now (holdback .entry))
+    ensures { λ r. ⌜ Took (setupOf setup) clock (stampOf stamp) (place .index) (now (s .entry)) (now (holdback .entry))
         (stampOf r) (now (holdback .exit)) (now (seen .exit)) ⌝ }
 {
     let epsilon = setup.epsilon as usize;
     let modulus = setup.modulus as usize;
-    place_frame(setup, clock, place, s, holdback);
+    place_frame(setup, clock, place, end, s, holdback);
     mark(setup, clock, s, seen);
     let reading = near(epsilon, modulus, clock, r_of(s));
     let other = stamp_of(epsilon, s);
@@ -43,28 +48,33 @@ pub struct Heard {
     pub stamp: Timestamp,
     // how many frames were taken
     pub taken: usize,
+    // where the queue's frames end
+    pub end: usize,
 }
 
 // The hearing loop. The batch's walker says where each entry stands. A verdict is taken apart for its place; of a refused
-// frame the number is recorded, and it goes on.
+// frame the number is recorded, and it goes on. The queue's frames end at end, and a taken one moves that by its length.
 pub fn hear(
     setup: Setup,
     clock: usize,
     stamp: Timestamp,
     batch: &[u8],
+    end: usize,
     holdback: &mut [u8],
     seen: &mut [u8],
     verdicts: &mut [u8],
 ) -> Heard
     requires { ⌜ Timed (setupOf setup) clock ⌝ }
     requires { ⌜ Queued (setupOf setup) clock (now holdback) (now seen) ⌝ }
+    requires { ⌜ end ≡ endOf (setup .epsilon) (now holdback) ⌝ }
     requires { ⌜ Listening (setup .epsilon) (stampOf stamp) (now batch) (now verdicts) ⌝ }
     ensures { λ r. ⌜ HeardAll (setupOf setup) clock (stampOf stamp) (now (batch .entry)) (now (holdback .entry)) (now (verdicts .entry))
-        (stampOf (r .stamp)) (r .taken) (now (holdback .exit)) (now (seen .exit)) (now (verdicts .exit)) ⌝ }
+        (stampOf (r .stamp)) (r .taken) (r .end) (now (holdback .exit)) (now (seen .exit)) (now (verdicts .exit)) ⌝ }
 {
     let count = count_of(batch);
     let mut own = stamp;
     let mut taken = 0;
+    let mut stop = end;
     let mut at = 1;
     let mut i = 0;
     while i < count {
@@ -78,10 +88,15 @@ pub fn hear(
             i += 1;
             continue;
         };
-        own = take(setup, clock, own, place, s, holdback, seen);
+        own = take(setup, clock, own, place, stop, s, holdback, seen);
+        stop += s.len();
         verdicts[i] = 0;
         taken += 1;
         i += 1;
     }
-    Heard { stamp: own, taken }
+    Heard {
+        stamp: own,
+        taken,
+        end: stop,
+    }
 }

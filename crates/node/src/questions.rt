@@ -16,7 +16,7 @@ ghost use Rattle.model.specs.Question.{firstNo};
 ghost use Rattle.model.specs.Holdback.{held};
 ghost use Rattle.model.specs.Judge as model;
 ghost use Rattle.timestamp.specs.Views.{setupOf};
-ghost use Rattle.node.specs.Views.{verdictOf, timeQuestions};
+ghost use Rattle.node.specs.Views.{verdictOf, Located, timeQuestions};
 ghost use Rattle.node.specs.States.{Timed, Readable, Queued};
 
 // 01, 13 to 15: the number of the first no, or 0.
@@ -40,11 +40,12 @@ pub fn check_time(setup: Setup, clock: usize, s: &[u8]) -> u8
     0
 }
 
-// One frame judged: the first no's number, or its place in the queue. The table has the origins of the queue's frames.
+// One frame judged: the first no's number, or its place in the queue, and where that stands. The table has the origins of the queue's frames.
 pub fn judge(setup: Setup, clock: usize, holdback: &[u8], seen: &[u8], s: &[u8]) -> Verdict
     requires { ⌜ Timed (setupOf setup) clock ⌝ }
     requires { ⌜ Queued (setupOf setup) clock (now holdback) (now seen) ⌝ }
     ensures { λ r. ⌜ verdictOf r ≡ model.judge (setupOf setup) clock (held (setup .epsilon) (now (holdback .entry))) (now (s .entry)) ⌝ }
+    ensures { λ r. ⌜ Located (setup .epsilon) (now (holdback .entry)) r ⌝ }
 {
     let form = check(setup, s);
     if form != 0 {
@@ -68,5 +69,5 @@ pub fn judge(setup: Setup, clock: usize, holdback: &[u8], seen: &[u8], s: &[u8])
         return Verdict::Refused(17);
     }
     let place = place_for(setup, clock, holdback, count, s);
-    Verdict::Taken(place.index)
+    Verdict::Taken(place)
 }

@@ -1,5 +1,4 @@
 // The hold-back queue (01: the shelf) within one tick: opened, a frame placed, what is due delivered.
-use frame::frame_end;
 use holdback::Place;
 use holdback::cut_due;
 use holdback::empty;
@@ -13,59 +12,64 @@ ghost use Rattle.laws.specs.Lists.{overlay, insertAt};
 ghost use Rattle.model.specs.Frame.{decode};
 ghost use Rattle.model.specs.Holdback.{held, encodeFrames};
 ghost use Rattle.timestamp.specs.Views.{setupOf};
-ghost use Rattle.holdback.specs.Queue.{frameStart};
 ghost use Rattle.holdback.specs.Seen.{tableLength};
-ghost use Rattle.node.specs.States.{Timed, Stored, Reached, Taking, Closing, QueueOpened, Delivered};
+ghost use Rattle.node.specs.States.{Timed, Stored, Taking, Placing, Closing, QueueOpened, Delivered};
 
-// Where frame index of a queue starts; at its count, where the frames end. An earlier frame, from, starts at start.
-fn start_of(epsilon: usize, buf: &[u8], from: usize, start: usize, index: usize) -> usize
-    requires { ⌜ Reached epsilon (now buf) from start index ⌝ }
-    ensures { λ r. ⌜ r ≡ frameStart epsilon (now (buf .entry)) index ⌝ }
-{
-    let mut i = from;
-    let mut at = start;
-    while i < index {
-        at += frame_end(epsilon, &buf[at..]);
-        i += 1;
-    }
-    at
+// What opening the queue answers beside the buffers.
+pub struct OpenedQueue {
+    // 2 where it was emptied
+    pub repair: u8,
+    // where its frames end
+    pub end: usize,
 }
 
-// 01, tick 1: "An unsound shelf is emptied (mend 2)". Answers its share of the repair; the table gets the frames' origins.
-pub fn open_queue(setup: Setup, clock: usize, holdback: &mut [u8], seen: &mut [u8]) -> u8
+// 01, tick 1: "An unsound shelf is emptied (mend 2)". The table gets the frames' origins.
+pub fn open_queue(setup: Setup, clock: usize, holdback: &mut [u8], seen: &mut [u8]) -> OpenedQueue
     requires { ⌜ Timed (setupOf setup) clock ⌝ }
     requires { ⌜ Stored (setupOf setup) (now holdback) ⌝ }
     requires { ⌜ length (now seen) ≡ tableLength ⌝ }
-    ensures { λ r. ⌜ QueueOpened (setupOf setup) clock (now (holdback .entry)) r (now (holdback .exit)) (now (seen .exit)) ⌝ }
+    ensures { λ r. ⌜ QueueOpened (setupOf setup) clock (now (holdback .entry)) (r .repair) (r .end) (now (holdback .exit)) (now (seen .exit)) ⌝ }
 {
     let walk = sound(setup, clock, holdback, seen);
     if walk.sound {
-        return 0;
+        return OpenedQueue {
+            repair: 0,
+            end: walk.end,
+        };
     }
     empty(holdback);
-    2
+    OpenedQueue { repair: 2, end: 2 }
 }
 
 // 01, tick 3: "A taken frame goes on the shelf", at its place.
-pub fn place_frame(setup: Setup, clock: usize, place: usize, s: &[u8], holdback: &mut [u8])
-    requires { ⌜ Taking (setupOf setup) clock (now holdback) place (now s) ⌝ }
+pub fn place_frame(
+    setup: Setup,
+    clock: usize,
+    place: Place,
+    end: usize,
+    s: &[u8],
+    holdback: &mut [u8],
+)
+    requires { ⌜ Taking (setupOf setup) clock (now holdback) (place .index) (now s) ⌝ }
+    requires { ⌜ Placing (setup .epsilon) (now holdback) (place .index) (place .at) end ⌝ }
     ensures { λ _. ⌜ now (holdback .exit)
-        ≡ overlay (encodeFrames (insertAt place (decode (setup .epsilon) (now (s .entry))) (held (setup .epsilon) (now (holdback .entry))))) (now (holdback .entry)) ⌝ }
+        ≡ overlay (encodeFrames (insertAt (place .index) (decode (setup .epsilon) (now (s .entry))) (held (setup .epsilon) (now (holdback .entry))))) (now (holdback .entry)) ⌝ }
 {
-    let epsilon = setup.epsilon as usize;
     let count = two_at(holdback, 0);
-    let at = start_of(epsilon, holdback, 0, 2, place);
-    let end = start_of(epsilon, holdback, place, at, count);
-    put(epsilon, holdback, count, end, Place { index: place, at }, s);
+    put(setup.epsilon as usize, holdback, count, end, place, s);
 }
 
 // 01, tick 6: every frame that is due "is handed out, in order, and leaves the shelf". Answers how many.
-pub fn deliver(setup: Setup, clock: usize, holdback: &mut [u8], delivery: &mut [u8]) -> usize
-    requires { ⌜ Closing (setupOf setup) clock (now holdback) (now delivery) ⌝ }
+pub fn deliver(
+    setup: Setup,
+    clock: usize,
+    end: usize,
+    holdback: &mut [u8],
+    delivery: &mut [u8],
+) -> usize
+    requires { ⌜ Closing (setupOf setup) clock end (now holdback) (now delivery) ⌝ }
     ensures { λ r. ⌜ Delivered (setupOf setup) clock (now (holdback .entry)) (now (delivery .entry)) r (now (holdback .exit)) (now (delivery .exit)) ⌝ }
 {
-    let epsilon = setup.epsilon as usize;
     let count = two_at(holdback, 0);
-    let end = start_of(epsilon, holdback, 0, 2, count);
     cut_due(setup, clock, holdback, count, end, delivery)
 }

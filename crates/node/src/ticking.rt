@@ -42,6 +42,8 @@ pub struct Listened {
     pub stamp: Timestamp,
     pub repair: u8,
     pub taken: usize,
+    // where the queue's frames end
+    pub end: usize,
 }
 
 // 01, tick 1 to 3. The table of origins lives here.
@@ -56,18 +58,29 @@ fn listen(
     requires { ⌜ Timed (setupOf setup) clock ⌝ }
     requires { ⌜ Attending (setupOf setup) (now batch) (now holdback) (now verdicts) ⌝ }
     ensures { λ r. ⌜ ListenedAll (setupOf setup) clock (stampOf tables) (now (batch .entry)) (now (holdback .entry)) (now (verdicts .entry))
-        (stampOf (r .stamp)) (r .repair) (r .taken) (now (holdback .exit)) (now (verdicts .exit)) ⌝ }
+        (stampOf (r .stamp)) (r .repair) (r .taken) (r .end) (now (holdback .exit)) (now (verdicts .exit)) ⌝ }
 {
     let mut seen = [0u8; 2048];
     let opening = open_stamp(setup, clock, tables);
-    let emptied = open_queue(setup, clock, holdback, &mut seen);
+    let opened = open_queue(setup, clock, holdback, &mut seen);
     let stamp = opening.stamp;
-    let heard = hear(setup, clock, stamp, batch, holdback, &mut seen, verdicts);
+    let end = opened.end;
+    let heard = hear(
+        setup,
+        clock,
+        stamp,
+        batch,
+        end,
+        holdback,
+        &mut seen,
+        verdicts,
+    );
     let own = heard.stamp;
     Listened {
         stamp: own,
-        repair: opening.repair + emptied,
+        repair: opening.repair + opened.repair,
         taken: heard.taken,
+        end: heard.end,
     }
 }
 
@@ -106,7 +119,7 @@ fn accept(
     let own = listened.stamp;
     let stamp = own.count_own(setup.epsilon as usize, clock);
     let sent = send_frame(setup, stamp, send, payload, outgoing);
-    let delivered = deliver(setup, clock, holdback, delivery);
+    let delivered = deliver(setup, clock, listened.end, holdback, delivery);
     Answer {
         number: 0,
         tables: stamp,

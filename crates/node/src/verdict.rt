@@ -1,11 +1,12 @@
 // 01: "A verdict is either taken, with its place on the shelf, or refused, with the number".
+use holdback::Place;
 ghost use mathlib.Core.Path.{_≡_};
 ghost use Rattle.model.specs.Judge.{verdictNumber, verdictPlace};
 ghost use Rattle.node.specs.Views.{verdictOf};
 
 pub enum Verdict {
-    // its place in the queue (01: the shelf)
-    Taken(usize),
+    // its place in the queue (01: the shelf), and where that stands
+    Taken(Place),
     // the number of the first no
     Refused(u8),
 }
@@ -25,7 +26,7 @@ pub fn place_of(verdict: Verdict) -> usize
     ensures { λ r. ⌜ r ≡ verdictPlace (verdictOf verdict) ⌝ }
 {
     match verdict {
-        Verdict::Taken(place) => place,
+        Verdict::Taken(place) => place.index,
         Verdict::Refused(_) => 0,
     }
 }

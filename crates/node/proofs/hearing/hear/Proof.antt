@@ -7,14 +7,16 @@ use denote.Enum.Declared
 use lib.ListN.{length, take, drop}
 use borrow.Author.Needs.{needs}
 use Rattle.model.specs.Holdback.{held}
-use Rattle.model.specs.Judge.{taken, judge, verdictNumber}
+use Rattle.lemmas.proofs.Bounds.{Limits}
 use Rattle.lemmas.proofs.Questions.{limits-from}
 use Rattle.batch.specs.Walk.{countOf, entryAt, nextAt}
 use Rattle.batch.specs.declared.Step.{Step}
 use Rattle.batch.proofs.Walk.{step-ordered, step-within, step-next, step-entry}
 use Rattle.timestamp.specs.Views.{setupOf, stampOf}
 use Rattle.node.specs.Views.{verdictOf}
+use Rattle.node.specs.States.{Taking, Placing}
 use Rattle.node.proofs.Verdicts.{Tags, table-long, is-refused}
+use Rattle.node.proofs.Places.{size-small, fits}
 use Rattle.node.proofs.Turns.{Turning, turning-start, turn-refused, turn-taken, turning-end}
 use Rattle.node.proofs.hearing.hear.Statement.{statement}
 use Rattle.node.proofs.hearing.hear.Tie as tie
@@ -23,23 +25,25 @@ abbrev tags : Tags
 tags = record { tag = Declared.tagOf Rattle.node.proofs.verdict.Verdict.the-type; at-taken = λ place. refl; at-refused = λ number. refl }
 
 abbrev Inv-loop : tie.InvT-loop
-Inv-loop setup clock batch holdback₀ seen₀ verdicts₀ count own₀ taken₀ at₀ i₀ holdback seen verdicts own took at i =
-    Turning (setupOf setup) clock (stampOf own₀) batch holdback₀ verdicts₀ (stampOf own) took at i holdback seen verdicts
+Inv-loop setup clock batch end holdback₀ seen₀ verdicts₀ count own₀ taken₀ stop₀ at₀ i₀ holdback seen verdicts own took stop at i =
+    Turning (setupOf setup) clock (stampOf own₀) batch holdback₀ verdicts₀ (stampOf own) took stop at i holdback seen verdicts
 
 abbrev μ-loop : tie.MeasureT-loop
-μ-loop setup clock batch holdback₀ seen₀ verdicts₀ count own₀ taken₀ at₀ i₀ holdback seen verdicts own took at i = count - i
+μ-loop setup clock batch end holdback₀ seen₀ verdicts₀ count own₀ taken₀ stop₀ at₀ i₀ holdback seen verdicts own took stop at i = count - i
+
+limits : (c : tie.Start Inv-loop μ-loop) → Limits (setupOf (c .args .setup))
+limits c = limits-from (setupOf (c .args .setup)) (c .pre .0 .limits)
 
 count-of-requires : tie.Need-count-of-requires Inv-loop μ-loop
 count-of-requires c κs = search needs
 
 loop-holds : tie.Need-loop-holds Inv-loop μ-loop
-loop-holds c =
-    turning-start (setupOf (c .before .before .before .before .before .args .setup)) (c .before .before .before .before .before .args .clock) (stampOf (c .before .before .before .before .before .args .stamp)) (c .before .before .before .before .before .args .batch .now) (c .before .before .before .before .before .args .holdback .now) (c .before .before .before .before .before .args .seen .now) (c .before .before .before .before .before .args .verdicts .now) (c .before .before .before .before .before .pre .1 .1) (c .before .before .before .before .before .pre .1 .0)
+loop-holds c = let start = c .before .before .before .before .before in turning-start (start .pre .1 .1 .1) (start .pre .1 .0) (start .pre .1 .1 .0)
 
 -- so many entries have a place for their verdict
 few : (c : tie.After-count-of Inv-loop μ-loop) → (countOf (c .before .before .before .before .before .args .batch .now) ≤ 255) × (countOf (c .before .before .before .before .before .args .batch .now) ≤ length (c .before .before .before .before .before .args .verdicts .now))
 unfolding countOf
-few c = omega (arith, c .before .before .before .before .shared-slice-known .given 0, c .before .before .before .before .before .pre .1 .1 .room)
+few c = omega (arith, c .before .before .before .before .shared-slice-known .given 0, c .before .before .before .before .before .pre .1 .1 .1 .room)
 
 more : (c : tie.In-loop Inv-loop μ-loop) → c .before .loop .i < countOf (c .before .before .before .before .before .before .before .args .batch .now)
 more c = omega (arith, c .before .before .count-of .ensures)
@@ -82,9 +86,6 @@ part-s-end c = omega (arith, ordered c, within c)
 judge-requires : tie.Need-judge-requires Inv-loop μ-loop
 judge-requires c κs = (c .before .before .before .before .before .before .before .before .before .before .before .pre .0, c .before .before .before .before .before .loop .inv .queued)
 
-judged : (c : tie.After-judge Inv-loop μ-loop) → judge (setupOf (c .before .before .before .before .before .before .before .before .before .before .before .before .args .setup)) (c .before .before .before .before .before .before .before .before .before .before .before .before .args .clock) (held (c .before .before .before .before .before .before .before .before .before .before .before .before .args .setup .epsilon) (c .before .before .before .before .before .before .loop .holdback)) (entryAt (c .before .before .before .before .before .before .before .before .before .before .before .before .args .batch .now) (c .before .before .before .before .before .before .loop .at)) ≡ verdictOf (c .judge .result)
-judged c = sym (c .judge .ensures ∙ ap (judge (setupOf (c .before .before .before .before .before .before .before .before .before .before .before .before .args .setup)) (c .before .before .before .before .before .before .before .before .before .before .before .before .args .clock) (held (c .before .before .before .before .before .before .before .before .before .before .before .before .args .setup .epsilon) (c .before .before .before .before .before .before .loop .holdback))) (entry (c .before .before .before .before)))
-
 enum-known-verdict : tie.Need-enum-known-verdict Inv-loop μ-loop
 enum-known-verdict c = search needs
 
@@ -105,19 +106,30 @@ loop-less c = omega arith
 
 loop-again : tie.Need-loop-again Inv-loop μ-loop
 loop-again c =
-    rw (next (c .before .before .before .before .before .before .before))
-    (turn-refused (setupOf (c .before .before .before .before .before .before .before .before .before .before .before .before .before .before .before .args .setup)) (c .before .before .before .before .before .before .before .before .before .before .before .before .before .before .before .args .clock) (stampOf (c .before .before .before .before .before .before .before .before .before .before .before .before .before .before .before .args .stamp)) (c .before .before .before .before .before .before .before .before .before .before .before .before .before .before .before .args .batch .now) (c .before .before .before .before .before .before .before .before .before .before .before .before .before .before .before .args .holdback .now) (c .before .before .before .before .before .before .before .before .before .before .before .before .before .before .before .args .verdicts .now) (stampOf (c .before .before .before .before .before .before .before .before .before .loop .own)) (c .before .before .before .before .before .before .before .before .before .loop .taken) (c .before .before .before .before .before .before .before .before .before .loop .at) (c .before .before .before .before .before .before .before .before .before .loop .i) (c .before .before .before .before .before .before .before .before .before .loop .holdback) (c .before .before .before .before .before .before .before .before .before .loop .seen) (c .before .before .before .before .before .before .before .before .before .loop .verdicts) (c .before .before .before .before .before .before .before .before .before .loop .inv) (more (c .before .before .before .before .before .before .before .before)) (few (c .before .before .before .before .before .before .before .before .before .before) .1) (verdictNumber (verdictOf (c .before .before .before .judge .result))) (c .number-of .result) (judged (c .before .before .before) ∙ is-refused tags (c .before .before .before .judge .result) (c .before .before .match .keys2)) (c .number-of .ensures))
+    turn-refused (c .before .before .before .before .before .before .before .before .before .loop .inv) (more (c .before .before .before .before .before .before .before .before)) (few (c .before .before .before .before .before .before .before .before .before .before) .1) (entry (c .before .before .before .before .before .before .before)) (next (c .before .before .before .before .before .before .before)) (sym (c .before .before .before .judge .ensures .0) ∙ is-refused tags (c .before .before .before .judge .result) (c .before .before .match .keys2)) (c .number-of .ensures)
+
+-- what taking it asks
+module _ (c : tie.After-known-told Inv-loop μ-loop) where
+  abbrev bytes : List ℕ
+  bytes = take (c .before .before .before .before .before .before .before .walk-step .result .end - c .before .before .before .before .before .before .before .walk-step .result .start) (drop (c .before .before .before .before .before .before .before .walk-step .result .start) (c .before .before .before .before .before .before .before .before .before .before .before .before .before .before .before .args .batch .now))
+
+  taking : Taking (setupOf (c .before .before .before .before .before .before .before .before .before .before .before .before .before .before .before .args .setup)) (c .before .before .before .before .before .before .before .before .before .before .before .before .before .before .before .args .clock) (c .before .before .before .before .before .before .before .before .before .loop .holdback) (c .before .verdict .given .0 .0 .index) bytes
+  taking =
+      record {
+        timed = c .before .before .before .before .before .before .before .before .before .before .before .before .before .before .before .pre .0;
+        size = c .before .before .before .before .before .before .before .before .before .loop .inv .queued .size;
+        sound = c .before .before .before .before .before .before .before .before .before .loop .inv .queued .sound;
+        judged = sym (c .before .before .before .judge .ensures .0) ∙ ap verdictOf (c .before .verdict .given .1);
+      }
+
+  placing : Placing (c .before .before .before .before .before .before .before .before .before .before .before .before .before .before .before .args .setup .epsilon) (c .before .before .before .before .before .before .before .before .before .loop .holdback) (c .before .verdict .given .0 .0 .index) (c .before .verdict .given .0 .0 .at) (c .before .before .before .before .before .before .before .before .before .loop .stop)
+  placing = record { starts = c .before .before .before .judge .ensures .1 .stands (c .before .verdict .given .0 .0) (c .before .verdict .given .1); ends = c .before .before .before .before .before .before .before .before .before .loop .inv .ends }
 
 take-requires : tie.Need-take-requires Inv-loop μ-loop
-take-requires c κs = (
-  record {
-    timed = c .before .before .before .before .before .before .before .before .before .before .before .before .before .before .before .before .before .pre .0;
-    size = c .before .before .before .before .before .before .before .before .before .before .before .loop .inv .queued .size;
-    sound = c .before .before .before .before .before .before .before .before .before .before .before .loop .inv .queued .sound;
-    judged = sym (c .before .before .before .before .before .judge .ensures) ∙ ap verdictOf (c .before .before .before .verdict .given .1);
-  },
-  c .before .before .before .before .before .before .before .before .before .before .before .loop .inv .queued,
-)
+take-requires c κs = (taking (c .before .before), (placing (c .before .before), c .before .before .before .before .before .before .before .before .before .before .before .loop .inv .queued))
+
+add-stop : tie.Need-add-stop Inv-loop μ-loop
+add-stop c = omega (arith, fits (taking (c .before .before .before .before .before .before .before)), c .before .before .before .before .before .before .before .before .before .before .before .before .before .before .before .before .loop .inv .ends, c .before .before .before .before .before .before .before .before .before .before .before .before .before .before .before .before .loop .inv .queued .size, size-small (setupOf (c .before .before .before .before .before .before .before .before .before .before .before .before .before .before .before .before .before .before .before .before .before .before .args .setup)) (limits (c .before .before .before .before .before .before .before .before .before .before .before .before .before .before .before .before .before .before .before .before .before .before)))
 
 slice-write-verdicts-2 : tie.Need-slice-write-verdicts-2 Inv-loop μ-loop
 slice-write-verdicts-2 c = omega (arith, few (c .before .before .before .before .before .before .before .before .before .before .before .before .before .before .before .before .before), more (c .before .before .before .before .before .before .before .before .before .before .before .before .before .before .before), c .before .before .before .before .before .before .before .before .before .before .before .before .before .before .before .before .loop .inv .long)
@@ -133,23 +145,23 @@ loop-less-2 c = omega (arith, c .before .before .before .before .before .before 
 
 loop-again-2 : tie.Need-loop-again-2 Inv-loop μ-loop
 loop-again-2 c =
-    rw (next (c .before .before .before .before .before .before .before .before .before .before .before .before .before .before))
-    (turn-taken (setupOf (c .before .before .before .before .before .before .before .before .before .before .before .before .before .before .before .before .before .before .before .before .before .before .args .setup)) (c .before .before .before .before .before .before .before .before .before .before .before .before .before .before .before .before .before .before .before .before .before .before .args .clock) (stampOf (c .before .before .before .before .before .before .before .before .before .before .before .before .before .before .before .before .before .before .before .before .before .before .args .stamp)) (c .before .before .before .before .before .before .before .before .before .before .before .before .before .before .before .before .before .before .before .before .before .before .args .batch .now) (c .before .before .before .before .before .before .before .before .before .before .before .before .before .before .before .before .before .before .before .before .before .before .args .holdback .now) (c .before .before .before .before .before .before .before .before .before .before .before .before .before .before .before .before .before .before .before .before .before .before .args .verdicts .now) (stampOf (c .before .before .before .before .before .before .before .before .before .before .before .before .before .before .before .before .loop .own)) (c .before .before .before .before .before .before .before .before .before .before .before .before .before .before .before .before .loop .taken) (c .before .before .before .before .before .before .before .before .before .before .before .before .before .before .before .before .loop .at) (c .before .before .before .before .before .before .before .before .before .before .before .before .before .before .before .before .loop .i) (c .before .before .before .before .before .before .before .before .before .before .before .before .before .before .before .before .loop .holdback) (c .before .before .before .before .before .before .before .before .before .before .before .before .before .before .before .before .loop .seen) (c .before .before .before .before .before .before .before .before .before .before .before .before .before .before .before .before .loop .verdicts) (c .before .before .before .before .before .before .before .before .before .before .before .before .before .before .before .before .loop .inv) (more (c .before .before .before .before .before .before .before .before .before .before .before .before .before .before .before)) (few (c .before .before .before .before .before .before .before .before .before .before .before .before .before .before .before .before .before) .1) (c .before .before .before .before .before .before .before .before .verdict .given .0 .0) (stampOf (c .before .before .before .before .take .result)) _ _ (limits-from (setupOf (c .before .before .before .before .before .before .before .before .before .before .before .before .before .before .before .before .before .before .before .before .before .before .args .setup)) (c .before .before .before .before .before .before .before .before .before .before .before .before .before .before .before .before .before .before .before .before .before .before .pre .0 .limits) .epsilon-most) (judged (c .before .before .before .before .before .before .before .before .before .before) ∙ ap verdictOf (c .before .before .before .before .before .before .before .before .verdict .given .1)) (rw (entry (c .before .before .before .before .before .before .before .before .before .before .before .before .before .before)) at (c .before .before .before .before .take .ensures)))
+    let start = c .before .before .before .before .before .before .before .before .before .before .before .before .before .before .before .before .before .before .before .before .before .before in
+    turn-taken (c .before .before .before .before .before .before .before .before .before .before .before .before .before .before .before .before .loop .inv) (more (c .before .before .before .before .before .before .before .before .before .before .before .before .before .before .before)) (few (c .before .before .before .before .before .before .before .before .before .before .before .before .before .before .before .before .before) .1) (entry (c .before .before .before .before .before .before .before .before .before .before .before .before .before .before)) (next (c .before .before .before .before .before .before .before .before .before .before .before .before .before .before)) (limits start .epsilon-most) (taking (c .before .before .before .before .before .before .before) .judged) (c .before .before .before .before .take .ensures)
 
 same-length : tie.Need-same-length Inv-loop μ-loop
 same-length c = c .before .loop .inv .queued .size ∙ sym (c .before .before .before .before .before .before .before .pre .1 .0 .size)
 
 same-length-2 : tie.Need-same-length-2 Inv-loop μ-loop
 same-length-2 c =
-    (ap length (c .before .loop .inv .queued .table-is) ∙ table-long (setupOf (c .before .before .before .before .before .before .before .args .setup)) (c .before .before .before .before .before .before .before .args .clock) (held (c .before .before .before .before .before .before .before .args .setup .epsilon) (c .before .loop .holdback)))
-    ∙ sym (ap length (c .before .before .before .before .before .before .before .pre .1 .0 .table-is) ∙ table-long (setupOf (c .before .before .before .before .before .before .before .args .setup)) (c .before .before .before .before .before .before .before .args .clock) (held (c .before .before .before .before .before .before .before .args .setup .epsilon) (c .before .before .before .before .before .before .before .args .holdback .now)))
+    let start = c .before .before .before .before .before .before .before in
+    (ap length (c .before .loop .inv .queued .table-is) ∙ table-long (setupOf (start .args .setup)) (start .args .clock) (held (start .args .setup .epsilon) (c .before .loop .holdback)))
+    ∙ sym (ap length (start .pre .1 .0 .table-is) ∙ table-long (setupOf (start .args .setup)) (start .args .clock) (held (start .args .setup .epsilon) (start .args .holdback .now)))
 
 same-length-3 : tie.Need-same-length-3 Inv-loop μ-loop
 same-length-3 c = c .before .loop .inv .long
 
 returns : tie.Need-returns Inv-loop μ-loop
-returns c =
-    turning-end (setupOf (c .before .before .before .before .before .before .before .args .setup)) (c .before .before .before .before .before .before .before .args .clock) (stampOf (c .before .before .before .before .before .before .before .args .stamp)) (c .before .before .before .before .before .before .before .args .batch .now) (c .before .before .before .before .before .before .before .args .holdback .now) (c .before .before .before .before .before .before .before .args .verdicts .now) (stampOf (c .before .loop .own)) (c .before .loop .taken) (c .before .loop .at) (c .before .loop .i) (c .before .loop .holdback) (c .before .loop .seen) (c .before .loop .verdicts) (c .before .loop .inv) (omega (arith, c .before .before .count-of .ensures)) (few (c .before .before) .1)
+returns c = turning-end (c .before .loop .inv) (omega (arith, c .before .before .count-of .ensures)) (few (c .before .before) .1)
 
 pub hear-spec : {M : Type 1} → statement M
 hear-spec =
@@ -172,6 +184,7 @@ hear-spec =
     loop-less
     loop-again
     take-requires
+    add-stop
     slice-write-verdicts-2
     add-taken
     add-i-2

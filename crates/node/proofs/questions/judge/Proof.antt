@@ -21,7 +21,7 @@ use Rattle.timestamp.specs.Views.{setupOf}
 use Rattle.node.specs.Views.{timeQuestions}
 use Rattle.node.specs.States.{Readable}
 use Rattle.node.proofs.Times.{given}
-use Rattle.node.proofs.Verdicts.{form-no, time-no, repeat-no, room-no, all-yes, late-window, time-late, marked-is, table-long}
+use Rattle.node.proofs.Verdicts.{form-no, time-no, repeat-no, room-no, all-yes, late-window, time-late, marked-is, table-long, refused-located, taken-located}
 use Rattle.node.proofs.Places.{size-two}
 use Rattle.node.proofs.questions.judge.Statement.{statement}
 use Rattle.node.proofs.questions.judge.Tie as tie
@@ -39,7 +39,7 @@ check-requires : tie.Need-check-requires
 check-requires c κs = c .before .before .before .pre .0 .limits
 
 returns : tie.Need-returns
-returns c = form-no (setupOf (c .before .before .before .before .before .args .setup)) (c .before .before .before .before .before .args .clock) (queue (c .before .before .before .before .before)) (c .before .before .before .before .before .args .s .now) (c .before .check .result) (c .before .check .ensures) (c .if1 .taken)
+returns c = (form-no (setupOf (c .before .before .before .before .before .args .setup)) (c .before .before .before .before .before .args .clock) (queue (c .before .before .before .before .before)) (c .before .before .before .before .before .args .s .now) (c .before .check .result) (c .before .check .ensures) (c .if1 .taken), refused-located)
 
 passed : (c : tie.Else1) → firstNo (frameQuestions (setupOf (c .before .before .before .before .before .args .setup)) (c .before .before .before .before .before .args .s .now)) ≡ 0
 passed c = sym (c .before .check .ensures) ∙ c .if1 .left
@@ -51,7 +51,7 @@ check-time-requires : tie.Need-check-time-requires
 check-time-requires c κs = readable c
 
 returns-2 : tie.Need-returns-2
-returns-2 c = time-no (setupOf (c .before .before .before .before .before .before .before .args .setup)) (c .before .before .before .before .before .before .before .args .clock) (queue (c .before .before .before .before .before .before .before)) (c .before .before .before .before .before .before .before .args .s .now) (passed (c .before .before)) (c .before .check-time .result) (c .before .check-time .ensures) (c .if2 .taken)
+returns-2 c = (time-no (setupOf (c .before .before .before .before .before .before .before .args .setup)) (c .before .before .before .before .before .before .before .args .clock) (queue (c .before .before .before .before .before .before .before)) (c .before .before .before .before .before .before .before .args .s .now) (passed (c .before .before)) (c .before .check-time .result) (c .before .check-time .ensures) (c .if2 .taken), refused-located)
 
 timely : (c : tie.Else2) → firstNo (timeQuestions (setupOf (c .before .before .before .before .before .before .before .args .setup)) (c .before .before .before .before .before .before .before .args .clock) (frame (c .before .before .before .before .before .before .before))) ≡ 0
 timely c = sym (c .before .check-time .ensures) ∙ c .if2 .left
@@ -71,8 +71,7 @@ repeated : (c : tie.After-repeats) → c .repeats .result ≡ any (sameOrigin (f
 repeated c = c .repeats .ensures ∙ marked-is (setupOf (c .before .before .before .before .before .before .before .before .args .setup)) (c .before .before .before .before .before .before .before .before .args .clock) (c .before .before .before .before .before .before .before .before .args .holdback .now) (c .before .before .before .before .before .before .before .before .args .seen .now) (frame (c .before .before .before .before .before .before .before .before)) (c .before .before .before .before .before .before .before .before .pre .0) (c .before .before .before .before .before .before .before .before .pre .1) (window (c .before))
 
 returns-3 : tie.Need-returns-3
-returns-3 c =
-    repeat-no (setupOf (c .before .before .before .before .before .before .before .before .before .args .setup)) (c .before .before .before .before .before .before .before .before .before .args .clock) (queue (c .before .before .before .before .before .before .before .before .before)) (c .before .before .before .before .before .before .before .before .before .args .s .now) (passed (c .before .before .before .before)) (timely (c .before .before)) (sym (repeated (c .before)) ∙ c .if3 .taken)
+returns-3 c = (repeat-no (setupOf (c .before .before .before .before .before .before .before .before .before .args .setup)) (c .before .before .before .before .before .before .before .before .before .args .clock) (queue (c .before .before .before .before .before .before .before .before .before)) (c .before .before .before .before .before .before .before .before .before .args .s .now) (passed (c .before .before .before .before)) (timely (c .before .before)) (sym (repeated (c .before)) ∙ c .if3 .taken), refused-located)
 
 two-at-requires : tie.Need-two-at-requires
 two-at-requires c κs = search needs
@@ -96,8 +95,7 @@ full : (c : tie.Then4) → depth (c .before .before .before .before .before .bef
 full c = omega (arith, c .before .depth .ensures, long (c .before .before .before .before .before))
 
 returns-4 : tie.Need-returns-4
-returns-4 c =
-    room-no (setupOf (c .before .before .before .before .before .before .before .before .before .before .before .before .before .before .before .args .setup)) (c .before .before .before .before .before .before .before .before .before .before .before .before .before .before .before .args .clock) (queue (c .before .before .before .before .before .before .before .before .before .before .before .before .before .before .before)) (c .before .before .before .before .before .before .before .before .before .before .before .before .before .before .before .args .s .now) (passed (c .before .before .before .before .before .before .before .before .before .before)) (timely (c .before .before .before .before .before .before .before .before)) (sym (repeated (c .before .before .before .before .before .before .before)) ∙ c .before .before .before .before .before .before .if3 .left) (full c)
+returns-4 c = (room-no (setupOf (c .before .before .before .before .before .before .before .before .before .before .before .before .before .before .before .args .setup)) (c .before .before .before .before .before .before .before .before .before .before .before .before .before .before .before .args .clock) (queue (c .before .before .before .before .before .before .before .before .before .before .before .before .before .before .before)) (c .before .before .before .before .before .before .before .before .before .before .before .before .before .before .before .args .s .now) (passed (c .before .before .before .before .before .before .before .before .before .before)) (timely (c .before .before .before .before .before .before .before .before)) (sym (repeated (c .before .before .before .before .before .before .before)) ∙ c .before .before .before .before .before .before .if3 .left) (full c), refused-located)
 
 room : (c : tie.Else4) → length (queue (c .before .before .before .before .before .before .before .before .before .before .before .before .before .before .before)) < depth (c .before .before .before .before .before .before .before .before .before .before .before .before .before .before .before .args .setup .n) (c .before .before .before .before .before .before .before .before .before .before .before .before .before .before .before .args .setup .epsilon) (c .before .before .before .before .before .before .before .before .before .before .before .before .before .before .before .args .setup .delta)
 room c = omega (arith, c .before .depth .ensures, long (c .before .before .before .before .before))
@@ -113,9 +111,11 @@ place-for-requires c κs = (
 )
 
 returns-5 : tie.Need-returns-5
-returns-5 c =
-    ap taken (c .place-for .ensures .frames)
-    ∙ all-yes (setupOf (c .before .before .before .before .before .before .before .before .before .before .before .before .before .before .before .before .args .setup)) (c .before .before .before .before .before .before .before .before .before .before .before .before .before .before .before .before .args .clock) (queue (c .before .before .before .before .before .before .before .before .before .before .before .before .before .before .before .before)) (c .before .before .before .before .before .before .before .before .before .before .before .before .before .before .before .before .args .s .now) (passed (c .before .before .before .before .before .before .before .before .before .before .before)) (timely (c .before .before .before .before .before .before .before .before .before)) (sym (repeated (c .before .before .before .before .before .before .before .before)) ∙ c .before .before .before .before .before .before .before .if3 .left) (room (c .before))
+returns-5 c = (
+  ap taken (c .place-for .ensures .frames)
+      ∙ all-yes (setupOf (c .before .before .before .before .before .before .before .before .before .before .before .before .before .before .before .before .args .setup)) (c .before .before .before .before .before .before .before .before .before .before .before .before .before .before .before .before .args .clock) (queue (c .before .before .before .before .before .before .before .before .before .before .before .before .before .before .before .before)) (c .before .before .before .before .before .before .before .before .before .before .before .before .before .before .before .before .args .s .now) (passed (c .before .before .before .before .before .before .before .before .before .before .before)) (timely (c .before .before .before .before .before .before .before .before .before)) (sym (repeated (c .before .before .before .before .before .before .before .before)) ∙ c .before .before .before .before .before .before .before .if3 .left) (room (c .before)),
+  taken-located (c .place-for .ensures .starts),
+)
 
 pub judge-spec : {M : Type 1} → statement M
 judge-spec =

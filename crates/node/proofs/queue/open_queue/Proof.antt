@@ -8,10 +8,11 @@ use Rattle.node.proofs.queue.open_queue.Statement.{statement}
 use Rattle.node.proofs.queue.open_queue.Tie as tie
 
 sound-requires : tie.Need-sound-requires
-sound-requires c κs = (
-  (c .before .before .before .before .pre .0 .limits, c .before .before .before .before .pre .0 .below),
-  (size-two (setupOf (c .before .before .before .before .args .setup)) (length (c .before .before .before .before .args .holdback .now)) (c .before .before .before .before .pre .1 .0 .size), c .before .before .before .before .pre .1 .1),
-)
+sound-requires c κs =
+    let start = c .before .before .before .before in (
+      (start .pre .0 .limits, start .pre .0 .below),
+      (size-two (setupOf (start .args .setup)) (length (start .args .holdback .now)) (start .pre .1 .0 .size), start .pre .1 .1),
+    )
 
 same-length : tie.Need-same-length
 same-length c = search needs
@@ -21,10 +22,12 @@ same-length-2 c = search needs
 
 returns : tie.Need-returns
 returns c =
-    opened-sound (setupOf (c .before .before .before .before .before .before .before .before .args .setup)) (c .before .before .before .before .before .before .before .before .args .clock) (c .before .before .before .before .before .before .before .before .args .holdback .now) (c .before .before .before .before .before .before .before .before .pre .0) (c .before .before .before .before .before .before .before .before .pre .1 .0 .size) _ (sym (c .before .before .before .sound .ensures .sound-is) ∙ c .if1 .taken) (c .before .before .before .sound .ensures .table-is)
+    let start = c .before .before .before .before .before .before .before .before in
+    let walk = c .before .before .before .sound .ensures in
+    opened-sound (setupOf (start .args .setup)) (start .args .clock) (start .args .holdback .now) (start .pre .0) (start .pre .1 .0 .size) (sym (walk .sound-is) ∙ c .if1 .taken) (walk .stop-is) (walk .table-is)
 
 empty-requires : tie.Need-empty-requires
-empty-requires c κs = size-two (setupOf (c .before .before .before .before .before .before .before .before .before .args .setup)) (length (c .before .before .before .before .before .before .before .before .before .args .holdback .now)) (c .before .before .before .before .before .before .before .before .before .pre .1 .0 .size)
+empty-requires c κs = let start = c .before .before .before .before .before .before .before .before .before in size-two (setupOf (start .args .setup)) (length (start .args .holdback .now)) (start .pre .1 .0 .size)
 
 same-length-3 : tie.Need-same-length-3
 same-length-3 c = search needs
@@ -34,7 +37,9 @@ same-length-4 c = search needs
 
 returns-2 : tie.Need-returns-2
 returns-2 c =
-    opened-empty (setupOf (c .before .before .before .before .before .before .before .before .before .before .before .before .args .setup)) (c .before .before .before .before .before .before .before .before .before .before .before .before .args .clock) (c .before .before .before .before .before .before .before .before .before .before .before .before .args .holdback .now) (c .before .before .before .before .before .before .before .before .before .before .before .before .pre .0) (c .before .before .before .before .before .before .before .before .before .before .before .before .pre .1 .0 .size) _ _ (sym (c .before .before .before .before .before .before .before .sound .ensures .sound-is) ∙ c .before .before .before .before .if1 .left) (c .before .before .before .before .before .before .before .sound .ensures .table-is) (c .before .before .empty .ensures)
+    let start = c .before .before .before .before .before .before .before .before .before .before .before .before in
+    let walk = c .before .before .before .before .before .before .before .sound .ensures in
+    opened-empty (setupOf (start .args .setup)) (start .args .clock) (start .args .holdback .now) (start .pre .0) (start .pre .1 .0 .size) (sym (walk .sound-is) ∙ c .before .before .before .before .if1 .left) (walk .table-is) (c .before .before .empty .ensures)
 
 pub open-queue-spec : {M : Type 1} → statement M
 open-queue-spec =

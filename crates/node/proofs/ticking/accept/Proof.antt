@@ -17,29 +17,28 @@ call : (c : tie.Start) → Call (input c)
 call c = call-passed (input c) (c .pre)
 
 listen-requires : tie.Need-listen-requires
-listen-requires c κs = (call-timed (input (c .before .before .before .before .before .before .before .before)) (call (c .before .before .before .before .before .before .before .before)), call-attending (input (c .before .before .before .before .before .before .before .before)) (call (c .before .before .before .before .before .before .before .before)))
+listen-requires c κs = let start = c .before .before .before .before .before .before .before .before in (call-timed (input start) (call start), call-attending (input start) (call start))
 
 cast-count-own : tie.Need-cast-count-own
 cast-count-own c = search needs
 
 count-own-requires : tie.Need-count-own-requires
-count-own-requires c κs = (
-  call (c .before .before .before .before .before .before .before .before .before .before .before .before .before .before .before) .accepted .limits .epsilon-pos,
-  (call (c .before .before .before .before .before .before .before .before .before .before .before .before .before .before .before) .accepted .limits .epsilon-most, own-room (input (c .before .before .before .before .before .before .before .before .before .before .before .before .before .before .before)) (stampOf (c .before .before .before .before .before .before .listen .result .stamp)) (c .before .before .before .before .before .before .listen .result .repair) (c .before .before .before .before .before .before .listen .result .taken) _ _ (call (c .before .before .before .before .before .before .before .before .before .before .before .before .before .before .before)) (c .before .before .before .before .before .before .listen .ensures)),
-)
+count-own-requires c κs =
+    let start = c .before .before .before .before .before .before .before .before .before .before .before .before .before .before .before in
+    let limits = call start .accepted .limits in
+    (limits .epsilon-pos, (limits .epsilon-most, own-room (input start) (call start) (c .before .before .before .before .before .before .listen .ensures)))
 
 stamped : (c : tie.After-count-own) → stampOf (c .count-own .result) ≡ widened (newStamp (input (c .before .before .before .before .before .before .before .before .before .before .before .before .before .before .before .before)))
-stamped c =
-    own-counted (input (c .before .before .before .before .before .before .before .before .before .before .before .before .before .before .before .before)) (stampOf (c .before .before .before .before .before .before .before .listen .result .stamp)) (stampOf (c .count-own .result)) (c .before .before .before .before .before .before .before .listen .result .repair) (c .before .before .before .before .before .before .before .listen .result .taken) _ _ (call (c .before .before .before .before .before .before .before .before .before .before .before .before .before .before .before .before)) (c .before .before .before .before .before .before .before .listen .ensures) (c .count-own .ensures)
+stamped c = let start = c .before .before .before .before .before .before .before .before .before .before .before .before .before .before .before .before in own-counted (input start) (call start) (c .before .before .before .before .before .before .before .listen .ensures) (c .count-own .ensures)
 
 send-frame-requires : tie.Need-send-frame-requires
-send-frame-requires c κs = send-room (input (c .before .before .before .before .before .before .before .before .before .before .before .before .before .before .before .before .before)) (stampOf (c .before .count-own .result)) (call (c .before .before .before .before .before .before .before .before .before .before .before .before .before .before .before .before .before)) (stamped (c .before))
+send-frame-requires c κs = let start = c .before .before .before .before .before .before .before .before .before .before .before .before .before .before .before .before .before in send-room (input start) (stampOf (c .before .count-own .result)) (call start) (stamped (c .before))
 
 deliver-requires : tie.Need-deliver-requires
-deliver-requires c κs = call-closing (input (c .before .before .before .before .before .before .before .before .before .before .before .before .before .before .before .before .before .before .before .before .before .before)) (stampOf (c .before .before .before .before .before .before .before .before .before .before .before .before .before .listen .result .stamp)) (c .before .before .before .before .before .before .before .before .before .before .before .before .before .listen .result .repair) (c .before .before .before .before .before .before .before .before .before .before .before .before .before .listen .result .taken) _ _ (call (c .before .before .before .before .before .before .before .before .before .before .before .before .before .before .before .before .before .before .before .before .before .before)) (c .before .before .before .before .before .before .before .before .before .before .before .before .before .listen .ensures)
+deliver-requires c κs = let start = c .before .before .before .before .before .before .before .before .before .before .before .before .before .before .before .before .before .before .before .before .before .before in call-closing (input start) (call start) (c .before .before .before .before .before .before .before .before .before .before .before .before .before .listen .ensures)
 
 same-length : tie.Need-same-length
-same-length c = c .before .before .before .before .deliver .kept .1 .1 .0 ∙ c .before .before .before .before .before .before .before .before .before .before .before .before .before .before .before .before .before .before .listen .kept .1 .1 .1 .1 .0
+same-length c = c .before .before .before .before .deliver .kept .1 .1 .1 .0 ∙ c .before .before .before .before .before .before .before .before .before .before .before .before .before .before .before .before .before .before .listen .kept .1 .1 .1 .1 .0
 
 same-length-2 : tie.Need-same-length-2
 same-length-2 c = c .before .before .before .before .before .before .before .before .before .send-frame .kept .1 .1 .1 .1 .0
@@ -48,11 +47,12 @@ same-length-3 : tie.Need-same-length-3
 same-length-3 c = c .before .before .before .before .before .before .before .before .before .before .before .before .before .before .before .before .before .before .listen .kept .1 .1 .1 .1 .1 .0
 
 same-length-4 : tie.Need-same-length-4
-same-length-4 c = c .before .before .before .before .deliver .kept .1 .1 .1 .0
+same-length-4 c = c .before .before .before .before .deliver .kept .1 .1 .1 .1 .0
 
 returns : tie.Need-returns
 returns c =
-    accepted-output (input (c .before .before .before .before .before .before .before .before .before .before .before .before .before .before .before .before .before .before .before .before .before .before .before .before .before .before .before)) (c .before .before .before .before .before .before .before .before .before .before .before .before .before .before .before .before .before .before .before .before .before .before .before .before .before .before .before .pre) (stampOf (c .before .before .before .before .before .before .before .before .before .before .before .before .before .before .before .before .before .before .listen .result .stamp)) (stampOf (c .before .before .before .before .before .before .before .before .before .before .before .count-own .result)) (c .before .before .before .before .before .before .before .before .before .before .before .before .before .before .before .before .before .before .listen .result .repair) (c .before .before .before .before .before .before .before .before .before .before .before .before .before .before .before .before .before .before .listen .result .taken) _ _ (c .before .before .before .before .before .before .before .before .before .before .before .before .before .before .before .before .before .before .listen .ensures) (c .before .before .before .before .before .before .before .before .before .send-frame .result) _ (c .before .before .before .before .deliver .result) _ _ (stamped (c .before .before .before .before .before .before .before .before .before .before .before)) (c .before .before .before .before .before .before .before .before .before .send-frame .ensures) (c .before .before .before .before .deliver .ensures)
+    let start = c .before .before .before .before .before .before .before .before .before .before .before .before .before .before .before .before .before .before .before .before .before .before .before .before .before .before .before in
+    accepted-output (input start) (start .pre) (c .before .before .before .before .before .before .before .before .before .before .before .before .before .before .before .before .before .before .listen .ensures) (stamped (c .before .before .before .before .before .before .before .before .before .before .before)) (c .before .before .before .before .before .before .before .before .before .send-frame .ensures) (c .before .before .before .before .deliver .ensures)
 
 pub accept-spec : {M : Type 1} → statement M
 accept-spec =

@@ -23,32 +23,46 @@ slice-aggregate-open-queue : tie.Need-slice-aggregate-open-queue
 slice-aggregate-open-queue c = search needs
 
 open-queue-requires : tie.Need-open-queue-requires
-open-queue-requires c κs = (c .before .before .before .before .before .before .pre .0, (record { limits = c .before .before .before .before .before .before .pre .0 .limits; size = c .before .before .before .before .before .before .pre .1 .size }, search needs))
+open-queue-requires c κs =
+    let start = c .before .before .before .before .before .before in
+    (start .pre .0, (record { limits = start .pre .0 .limits; size = start .pre .1 .size }, search needs))
 
 slice-aggregate-hear : tie.Need-slice-aggregate-hear
-slice-aggregate-hear c = sym (ap length (c .before .before .before .before .before .before .open-queue .ensures .queued .table-is) ∙ table-long (setupOf (c .before .before .before .before .before .before .before .before .before .before .before .before .before .args .setup)) (c .before .before .before .before .before .before .before .before .before .before .before .before .before .args .clock) _)
+slice-aggregate-hear c =
+    let start = c .before .before .before .before .before .before .before .before .before .before .before .before .before in
+    sym (ap length (c .before .before .before .before .before .before .open-queue .ensures .queued .table-is) ∙ table-long (setupOf (start .args .setup)) (start .args .clock) _)
 
 hear-requires : tie.Need-hear-requires
-hear-requires c κs = (
-  c .before .before .before .before .before .before .before .before .before .before .before .before .before .before .pre .0,
-  (
-    c .before .before .before .before .before .before .before .open-queue .ensures .queued,
-    listening (setupOf (c .before .before .before .before .before .before .before .before .before .before .before .before .before .before .args .setup)) (c .before .before .before .before .before .before .before .before .before .before .before .before .before .before .args .clock) (stampOf (c .before .before .before .before .before .before .before .before .before .before .before .before .before .before .args .tables)) (stampOf (c .before .before .before .before .before .before .before .before .before .before .open-stamp .result .stamp)) (c .before .before .before .before .before .before .before .before .before .before .open-stamp .result .repair) (c .before .before .before .before .before .before .before .before .before .before .before .before .before .before .args .batch .now) (c .before .before .before .before .before .before .before .before .before .before .before .before .before .before .args .verdicts .now) (limits (c .before .before .before .before .before .before .before .before .before .before .before .before .before .before)) (c .before .before .before .before .before .before .before .before .before .before .open-stamp .ensures) (c .before .before .before .before .before .before .before .before .before .before .before .before .before .before .pre .1 .exact) (c .before .before .before .before .before .before .before .before .before .before .before .before .before .before .pre .1 .room),
-  ),
-)
+hear-requires c κs =
+    let start = c .before .before .before .before .before .before .before .before .before .before .before .before .before .before in
+    let opened = c .before .before .before .before .before .before .before .open-queue .ensures in (
+      start .pre .0,
+      (
+        opened .queued,
+        (
+          opened .ends,
+          listening (setupOf (start .args .setup)) (start .args .clock) (stampOf (start .args .tables)) (limits start) (c .before .before .before .before .before .before .before .before .before .before .open-stamp .ensures) (start .pre .1 .exact) (start .pre .1 .room),
+        ),
+      ),
+    )
 
-add-t23 : tie.Need-add-t23
-add-t23 c = omega (arith, repair-small (c .before .before .before .before .before .before .before .before .before .before .before .before .before .before .before .before .before .before .open-stamp .result .repair) (c .before .before .before .before .before .before .before .before .before .before .before .before .before .before .before .open-queue .result) (stampSound (setupOf (c .before .before .before .before .before .before .before .before .before .before .before .before .before .before .before .before .before .before .before .before .before .before .args .setup)) (c .before .before .before .before .before .before .before .before .before .before .before .before .before .before .before .before .before .before .before .before .before .before .args .clock) (stampOf (c .before .before .before .before .before .before .before .before .before .before .before .before .before .before .before .before .before .before .before .before .before .before .args .tables))) (soundHoldback (setupOf (c .before .before .before .before .before .before .before .before .before .before .before .before .before .before .before .before .before .before .before .before .before .before .args .setup)) (c .before .before .before .before .before .before .before .before .before .before .before .before .before .before .before .before .before .before .before .before .before .before .args .clock) (c .before .before .before .before .before .before .before .before .before .before .before .before .before .before .before .before .before .before .before .before .before .before .args .holdback .now)) (c .before .before .before .before .before .before .before .before .before .before .before .before .before .before .before .before .before .before .open-stamp .ensures .repaired) (c .before .before .before .before .before .before .before .before .before .before .before .before .before .before .before .open-queue .ensures .repaired))
+add-t24 : tie.Need-add-t24
+add-t24 c =
+    let start = c .before .before .before .before .before .before .before .before .before .before .before .before .before .before .before .before .before .before .before .before .before .before .before in
+    let stamp = c .before .before .before .before .before .before .before .before .before .before .before .before .before .before .before .before .before .before .before .open-stamp in
+    let opened = c .before .before .before .before .before .before .before .before .before .before .before .before .before .before .before .before .open-queue in
+    omega (arith, repair-small (stamp .result .repair) (opened .result .repair) (stampSound (setupOf (start .args .setup)) (start .args .clock) (stampOf (start .args .tables))) (soundHoldback (setupOf (start .args .setup)) (start .args .clock) (start .args .holdback .now)) (stamp .ensures .repaired) (opened .ensures .repaired))
 
 same-length : tie.Need-same-length
-same-length c = c .before .before .before .before .before .before .before .hear .kept .1 .1 .1 .1 .0 ∙ c .before .before .before .before .before .before .before .before .before .before .before .before .before .before .before .open-queue .kept .1 .1 .0
+same-length c = c .before .before .before .before .before .before .before .before .hear .kept .1 .1 .1 .1 .1 .0 ∙ c .before .before .before .before .before .before .before .before .before .before .before .before .before .before .before .before .open-queue .kept .1 .1 .0
 
 same-length-2 : tie.Need-same-length-2
-same-length-2 c = c .before .before .before .before .before .before .before .hear .kept .1 .1 .1 .1 .1 .1 .0
+same-length-2 c = c .before .before .before .before .before .before .before .before .hear .kept .1 .1 .1 .1 .1 .1 .1 .0
 
 returns : tie.Need-returns
 returns c =
-    listened (setupOf (c .before .before .before .before .before .before .before .before .before .before .before .before .before .before .before .before .before .before .before .before .before .before .args .setup)) (c .before .before .before .before .before .before .before .before .before .before .before .before .before .before .before .before .before .before .before .before .before .before .args .clock) (stampOf (c .before .before .before .before .before .before .before .before .before .before .before .before .before .before .before .before .before .before .before .before .before .before .args .tables)) (c .before .before .before .before .before .before .before .before .before .before .before .before .before .before .before .before .before .before .before .before .before .before .args .batch .now) (c .before .before .before .before .before .before .before .before .before .before .before .before .before .before .before .before .before .before .before .before .before .before .args .holdback .now) (c .before .before .before .before .before .before .before .before .before .before .before .before .before .before .before .before .before .before .before .before .before .before .args .verdicts .now) (stampOf (c .before .before .before .before .before .before .before .before .before .before .before .before .before .before .before .before .before .before .open-stamp .result .stamp)) (c .before .before .before .before .before .before .before .before .before .before .before .before .before .before .before .before .before .before .open-stamp .result .repair) (c .before .before .before .before .before .before .before .before .before .before .before .before .before .before .before .open-queue .result) _ _ (stampOf (c .before .before .before .before .before .before .before .hear .result .stamp)) (c .before .before .before .before .before .before .before .hear .result .taken) _ _ _ (limits (c .before .before .before .before .before .before .before .before .before .before .before .before .before .before .before .before .before .before .before .before .before .before)) (c .before .before .before .before .before .before .before .before .before .before .before .before .before .before .before .before .before .before .open-stamp .ensures) (c .before .before .before .before .before .before .before .before .before .before .before .before .before .before .before .open-queue .ensures) (c .before .before .before .before .before .before .before .hear .ensures)
+    let start = c .before .before .before .before .before .before .before .before .before .before .before .before .before .before .before .before .before .before .before .before .before .before .before in
+    listened (setupOf (start .args .setup)) (start .args .clock) (stampOf (start .args .tables)) (limits start) (c .before .before .before .before .before .before .before .before .before .before .before .before .before .before .before .before .before .before .before .open-stamp .ensures) (c .before .before .before .before .before .before .before .before .before .before .before .before .before .before .before .before .open-queue .ensures) (c .before .before .before .before .before .before .before .before .hear .ensures)
 
 pub listen-spec : {M : Type 1} → statement M
 listen-spec =
@@ -59,7 +73,7 @@ listen-spec =
     open-queue-requires
     slice-aggregate-hear
     hear-requires
-    add-t23
+    add-t24
     same-length
     same-length-2
     returns)
