@@ -139,19 +139,18 @@ impl Timestamp {
     }
 }
 
-// Every count from one place up to, not including, another is at most the bound.
+// Every count from one place up to, not including, another is at most the bound: the largest of them is.
 pub fn counts_at_most(kn: &[u8], from: usize, to: usize, bound: usize) -> bool
     requires { ⌜ to ≤ length (now kn) ⌝ }
     ensures { λ b. ⌜ b ≡ atMost bound (drop from (take to (now (kn .entry)))) ⌝ }
 {
+    let mut most = 0u8;
     let mut i = from;
     while i < to {
-        if bound < kn[i] as usize {
-            return false;
-        }
+        most = larger(most, kn[i]);
         i += 1;
     }
-    true
+    most as usize <= bound
 }
 
 // The counts that stand in a slice from a place on, by value, then zeros.
