@@ -6,7 +6,7 @@ ghost use Rattle.laws.specs.Lists.{tab, padded};
 ghost use Rattle.model.specs.Setup.{widest};
 ghost use Rattle.model.specs.Timestamp.{countAt, atMost, soundTimestamp, soundTables, trimmed, widened};
 ghost use Rattle.model.specs.Timestamp as model;
-ghost use Rattle.timestamp.specs.Views.{stampOf, largerAt};
+ghost use Rattle.timestamp.specs.Views.{stampOf, counted, largerAt};
 
 // 01: the stamp.
 pub struct Timestamp {
@@ -105,17 +105,7 @@ impl Timestamp {
         ensures { λ b. ⌜ b ≡ soundTimestamp n epsilon (trimmed epsilon (stampOf self)) ⌝ }
     {
         let kn = self.kn;
-        let c = self.c;
-        if epsilon <= c {
-            return false;
-        }
-        if !counts_at_most(&kn, 0, 2 * epsilon, n) {
-            return false;
-        }
-        if kn[epsilon + c] < 1 {
-            return false;
-        }
-        counts_at_most(&kn, epsilon + c + 1, 2 * epsilon, 0)
+        sound_counts(&kn[..2 * epsilon], self.c, n, epsilon)
     }
 
     // 01: "sound for a new clock v if the stamp is sound, r is below B and one before v modulo B, and counts at offsets 1
@@ -137,6 +127,23 @@ impl Timestamp {
         }
         counts_at_most(&kn, epsilon + 1, 2 * epsilon, n - 1)
     }
+}
+
+// The soundness of a stamp with that c and those 2ε counts.
+pub fn sound_counts(kn: &[u8], c: usize, n: usize, epsilon: usize) -> bool
+    requires { ⌜ (1 ≤ epsilon) × ((epsilon ≤ 16) × (length (now kn) ≡ 2 * epsilon)) ⌝ }
+    ensures { λ b. ⌜ b ≡ soundTimestamp n epsilon (counted c (now (kn .entry))) ⌝ }
+{
+    if epsilon <= c {
+        return false;
+    }
+    if !counts_at_most(kn, 0, 2 * epsilon, n) {
+        return false;
+    }
+    if kn[epsilon + c] < 1 {
+        return false;
+    }
+    counts_at_most(kn, epsilon + c + 1, 2 * epsilon, 0)
 }
 
 // Every count from one place up to, not including, another is at most the bound: the largest of them is.
