@@ -1,5 +1,5 @@
 -- The questions of reader and writer, one by one: a question that gets a yes is passed over, one that gets a no answers. Assumes nothing.
-use mathlib.Core.Path.{_≡_, refl, _∙_}
+use mathlib.Core.Path.{_≡_, refl, ap, _∙_}
 use mathlib.Core.Bool.{true, false, _&&_}
 use mathlib.Core.List.{List, [], _∷_}
 use Prim.Native.Nat.{ℕ, zero, suc, _+_, _*_, _-_, _≤_, _<_}
@@ -19,6 +19,7 @@ use Rattle.lemmas.proofs.Bounds.{Limits}
 use Rattle.lemmas.proofs.Questions.{yes-cons, no-cons, limits-from}
 use Rattle.lemmas.proofs.Counts.{trimmed-widened}
 use Rattle.lemmas.proofs.RoundTrip.{none-no, formed-from, decode-wide}
+use Rattle.timestamp.specs.Views.{counted}
 use Rattle.frame.specs.Lay.{Room}
 use Rattle.frame.proofs.Laying.{length-frame}
 
@@ -68,6 +69,22 @@ module _ (s : Setup) (bytes : List ℕ) where
       → firstNo (frameQuestions s bytes) ≡ firstNo (askRange s (decode (s .epsilon) bytes) ∷ askStamp s (decode (s .epsilon) bytes) ∷ [])
   unfolding frameQuestions askForm
   form-right h = yes-cons _ 10 (askRange s (decode (s .epsilon) bytes) ∷ askStamp s (decode (s .epsilon) bytes) ∷ []) h
+
+-- the counts of a frame, as the code lends them
+pub counts-part : (epsilon : ℕ) (s : List ℕ) → take (6 + 2 * epsilon - 6) (drop 6 s) ≡ decode epsilon s .stamp .kn
+unfolding decode width
+counts-part epsilon s = let e : 6 + 2 * epsilon - 6 ≡ 2 * epsilon = omega arith in ap (λ (n : ℕ). take n (drop 6 s)) e
+
+-- they are all of its counts
+pub counts-long : (epsilon : ℕ) (s : List ℕ) → wellFormed epsilon s ≡ true → length (take (6 + 2 * epsilon - 6) (drop 6 s)) ≡ 2 * epsilon
+unfolding width
+counts-long epsilon s w = ap length (counts-part epsilon s) ∙ decode-wide epsilon s (formed-from epsilon s w)
+
+-- and with c they decide whether its stamp is sound
+pub counts-sound : (n epsilon c : ℕ) (s : List ℕ) → c ≡ decode epsilon s .stamp .c
+    → soundTimestamp n epsilon (counted c (take (6 + 2 * epsilon - 6) (drop 6 s))) ≡ soundTimestamp n epsilon (decode epsilon s .stamp)
+unfolding soundTimestamp
+counts-sound n epsilon c s e = rw (counts-part epsilon s, e)
 
 -- the stamp that a well-formed frame holds is as wide as it should be, so that reading it by value loses nothing
 pub stamp-kept : (epsilon : ℕ) (s : List ℕ) → epsilon ≤ 16 → wellFormed epsilon s ≡ true

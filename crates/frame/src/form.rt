@@ -5,6 +5,7 @@ use splice::two_at;
 use timestamp::Setup;
 use timestamp::Timestamp;
 use timestamp::counts_of;
+use timestamp::sound_counts;
 ghost use mathlib.Core.Path.{_≡_};
 ghost use mathlib.Core.Bool.{true};
 ghost use Prim.Native.Nat.{ℕ, _≤_};
@@ -89,8 +90,8 @@ pub fn check(setup: Setup, s: &[u8]) -> u8
     if modulus <= r_of(s) {
         return 11;
     }
-    let stamp = stamp_of(epsilon, s);
-    if !stamp.is_sound(n, epsilon) {
+    let c = c_of(s);
+    if !sound_counts(&s[6..6 + 2 * epsilon], c, n, epsilon) {
         return 12;
     }
     0

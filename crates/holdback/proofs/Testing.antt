@@ -24,6 +24,7 @@ use Rattle.timestamp.specs.declared.ordering.Rank.{Rank}
 use Rattle.timestamp.specs.Ranks.{orderOf, rankedFrame, Ranked}
 use Rattle.lemmas.proofs.Bounds.{Limits}
 use Rattle.timestamp.proofs.Ordered.{Tags}
+use Rattle.frame.proofs.Asking.{counts-part}
 use Rattle.holdback.proofs.Shapes.{Formed, formed}
 use Rattle.holdback.specs.Queue.{rankOf}
 use Rattle.holdback.specs.Sound.{fits, Summed}
@@ -94,11 +95,6 @@ less-not tags o Ordering·lt e t =
     absurd (elim t [ inl a ↦ omega arith | inr a ↦ omega arith ])
 less-not tags o Ordering·eq e t = refl
 less-not tags o Ordering·gt e t = refl
-
--- the counts of a frame, as the code lends them
-counts-part : (epsilon : ℕ) (bytes : List ℕ) → take (6 + 2 * epsilon - 6) (drop 6 bytes) ≡ decode epsilon bytes .stamp .kn
-unfolding decode width
-counts-part epsilon bytes = let e : 6 + 2 * epsilon - 6 ≡ 2 * epsilon = omega arith in ap (λ (n : ℕ). take n (drop 6 bytes)) e
 
 pub counts-end : (s : Setup) (bytes : List ℕ) → passes s bytes ≡ true → 6 + 2 * s .epsilon ≤ length bytes
 counts-end s bytes ok = let o = formed (s .epsilon) bytes (passing s bytes ok .well) in omega arith

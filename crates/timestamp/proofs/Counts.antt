@@ -1,16 +1,18 @@
 -- Lists of counts: by place, padded with zeros, and the 2ε of a timestamp alone.
 -- Assumes nothing.
-use Prim.Native.Nat.{ℕ, zero, suc, _+_, _-_, _≤_, _<_}
+use Prim.Native.Nat.{ℕ, zero, suc, _+_, _-_, _≤_, _<_, max}
 use native.Mathlib.Numerals.{add-one}
 use native.Mathlib.Omega.{arith}
 use mathlib.Core.Path.{_≡_, refl, sym}
 use mathlib.Core.List.{List, [], _∷_, _++_, append-assoc}
 use lib.ListN.{length, take, drop, getD, set, replicate, length-append, length-set, length-replicate, length-drop, drop-of-length-le, replicate-append-replicate}
-use mathlib.Core.Bool.{true, false, _&&_}
+use mathlib.Core.Bool.{Bool, true, false, _&&_}
+use mathlib.Core.Logic.{_⊎_, inl, inr}
 use borrow.Author.Tests.{le-leb, lt-leb}
 use lib.Dec.{leb}
 use lib.Seq.{set-append-seam, set-append-left, length-take-le, take-nil, take-suc, getD-drop, slice, slice-cons}
 use Rattle.laws.specs.Lists.{tab, every, padded}
+use Rattle.laws.proofs.Numbers.{lt-or-ge}
 use Rattle.laws.proofs.Lists.{length-tab, tab-suc, tab-take, take-padded, length-padded}
 use Rattle.model.specs.Setup.{width, widest}
 use Rattle.model.specs.Timestamp.{Timestamp, atMost, trimmed, widened}
@@ -84,15 +86,35 @@ at-most-cons : (bound i to : ℕ) (l : List ℕ) → i < to → to ≤ length l
 unfolding atMost every
 at-most-cons bound i to l h k = rw (slice-cons i to l 0 h k, add-one i)
 
-pub at-most-stop : (bound i to : ℕ) (l : List ℕ) → i < to → to ≤ length l → bound < getD l i 0 → atMost bound (slice i to l) ≡ false
-at-most-stop bound i to l h k t = rw (at-most-cons bound i to l h k, lt-leb (getD l i 0) bound t)
+-- the test of the larger of two, and of others
+at-most-both : (bound a b : ℕ) (o : Bool) → (leb a bound && (leb b bound && o)) ≡ (leb (max a b) bound && o)
+at-most-both bound a b o = go (lt-or-ge bound a) (lt-or-ge bound b)
+  where
+    go : (bound < a) ⊎ (a ≤ bound) → (bound < b) ⊎ (b ≤ bound) → (leb a bound && (leb b bound && o)) ≡ (leb (max a b) bound && o)
+    go (inl h) k = let m : bound < max a b = omega arith in rw (lt-leb a bound h, lt-leb (max a b) bound m)
+    go (inr h) (inl k) =
+        let m : bound < max a b = omega arith in
+        rw (le-leb a bound h, lt-leb b bound k, lt-leb (max a b) bound m)
+    go (inr h) (inr k) =
+        let m : max a b ≤ bound = omega arith in
+        rw (le-leb a bound h, le-leb b bound k, le-leb (max a b) bound m)
 
-pub at-most-next : (bound i to : ℕ) (l : List ℕ) → i < to → to ≤ length l → getD l i 0 ≤ bound
-    → atMost bound (slice i to l) ≡ atMost bound (slice (i + 1) to l)
-at-most-next bound i to l h k t = rw (at-most-cons bound i to l h k, le-leb (getD l i 0) bound t)
+and-true : (b : Bool) → (b && true) ≡ b
+and-true true = refl
+and-true false = refl
 
-pub at-most-none : (bound i to : ℕ) (l : List ℕ) → to ≤ i → to ≤ length l → atMost bound (slice i to l) ≡ true
+-- what a loop that finds the largest count knows at its start, after one turn more, and at its end
+pub at-most-start : (bound : ℕ) (b : Bool) → b ≡ (leb 0 bound && b)
+at-most-start bound b = let h : 0 ≤ bound = omega arith in rw (le-leb 0 bound h)
+
+pub at-most-next : (bound i to most x : ℕ) (l : List ℕ) → i < to → to ≤ length l → x ≡ max most (getD l i 0)
+    → (leb most bound && atMost bound (slice i to l)) ≡ (leb x bound && atMost bound (slice (i + 1) to l))
+at-most-next bound i to most x l h k e =
+    rw (at-most-cons bound i to l h k, e) (at-most-both bound most (getD l i 0) (atMost bound (slice (i + 1) to l)))
+
+pub at-most-end : (bound i to most : ℕ) (l : List ℕ) → to ≤ i → to ≤ length l
+    → (leb most bound && atMost bound (slice i to l)) ≡ leb most bound
 unfolding atMost every
-at-most-none bound i to l h k =
+at-most-end bound i to most l h k =
     let e : length (take to l) ≤ i = omega (arith, length-take-le to l k) in
-    rw (drop-of-length-le (take to l) e)
+    rw (drop-of-length-le (take to l) e, and-true (leb most bound))

@@ -1,48 +1,50 @@
--- The soundness of a timestamp with all its places, question by question.
+-- The soundness of 2ε counts, and of a timestamp with all its places, question by question.
 -- Assumes nothing.
 use Prim.Native.Nat.{ℕ, _+_, _-_, _*_, _%_, _≤_, _<_}
 use native.Mathlib.Omega.{arith}
 use mathlib.Core.Path.{_≡_}
 use mathlib.Core.Bool.{true, false, _&&_}
+use mathlib.Core.List.{List}
 use lib.ListN.{length, take, getD}
 use lib.Dec.{leb, ltb, eqb}
-use lib.Seq.{slice, getD-take}
+use lib.Seq.{slice, take-all}
 use borrow.Author.Tests.{le-leb, lt-leb, lt-ltb, le-ltb, eq-eqb, ne-eqb}
 use Rattle.model.specs.Timestamp.{Timestamp, atMost, trimmed, soundTimestamp, soundTables}
+use Rattle.timestamp.specs.Views.{counted}
 use Rattle.timestamp.proofs.Steps.{trimmed-all}
 
-module _ (epsilon : ℕ) (t : Timestamp) (small : epsilon ≤ 16) (long : length (t .kn) ≡ 32) (n : ℕ) where
-  -- the soundness of the 2ε counts, asked of all the places
-  sound-is : t .c < epsilon
-      → soundTimestamp n epsilon (trimmed epsilon t)
-      ≡ (atMost n (take (2 * epsilon) (t .kn)) && (leb 1 (getD (t .kn) (epsilon + t .c) 0)
-      && atMost 0 (slice (epsilon + t .c + 1) (2 * epsilon) (t .kn))))
+module _ (n epsilon c : ℕ) (kn : List ℕ) (long : length kn ≡ 2 * epsilon) where
+  -- the soundness of 2ε counts, as the code asks for it
+  sound-is : c < epsilon
+      → soundTimestamp n epsilon (counted c kn)
+      ≡ (atMost n (take (2 * epsilon) kn) && (leb 1 (getD kn (epsilon + c) 0)
+      && atMost 0 (slice (epsilon + c + 1) (2 * epsilon) kn)))
   unfolding soundTimestamp
   sound-is h =
-      let low : t .c ≤ epsilon - 1 = omega arith in
-      let inside : epsilon + t .c < 2 * epsilon = omega arith in
-      rw (
-        trimmed-all epsilon t small long,
-        le-leb (t .c) (epsilon - 1) low,
-        getD-take (2 * epsilon) (t .kn) (epsilon + t .c) 0 inside,
-      )
+      let low : c ≤ epsilon - 1 = omega arith in
+      let whole : take (2 * epsilon) kn ≡ kn = take-all (2 * epsilon) kn (omega arith) in
+      rw (whole, le-leb c (epsilon - 1) low)
 
-  pub unsound-lead : 1 ≤ epsilon → epsilon ≤ t .c → false ≡ soundTimestamp n epsilon (trimmed epsilon t)
+  pub unsound-lead : 1 ≤ epsilon → epsilon ≤ c → false ≡ soundTimestamp n epsilon (counted c kn)
   unfolding soundTimestamp
-  unsound-lead h k =
-      let high : epsilon - 1 < t .c = omega arith in
-      rw (trimmed-all epsilon t small long, lt-leb (t .c) (epsilon - 1) high)
+  unsound-lead h k = let high : epsilon - 1 < c = omega arith in rw (lt-leb c (epsilon - 1) high)
 
-  pub unsound-counts : t .c < epsilon → atMost n (take (2 * epsilon) (t .kn)) ≡ false → false ≡ soundTimestamp n epsilon (trimmed epsilon t)
+  pub unsound-counts : c < epsilon → atMost n (take (2 * epsilon) kn) ≡ false → false ≡ soundTimestamp n epsilon (counted c kn)
   unsound-counts h e = rw (sound-is h, e)
 
-  pub unsound-none : t .c < epsilon → atMost n (take (2 * epsilon) (t .kn)) ≡ true → getD (t .kn) (epsilon + t .c) 0 < 1
-      → false ≡ soundTimestamp n epsilon (trimmed epsilon t)
-  unsound-none h e k = rw (sound-is h, e, lt-leb 1 (getD (t .kn) (epsilon + t .c) 0) k)
+  pub unsound-none : c < epsilon → atMost n (take (2 * epsilon) kn) ≡ true → getD kn (epsilon + c) 0 < 1
+      → false ≡ soundTimestamp n epsilon (counted c kn)
+  unsound-none h e k = rw (sound-is h, e, lt-leb 1 (getD kn (epsilon + c) 0) k)
 
-  pub sound-above : t .c < epsilon → atMost n (take (2 * epsilon) (t .kn)) ≡ true → 1 ≤ getD (t .kn) (epsilon + t .c) 0
-      → atMost 0 (slice (epsilon + t .c + 1) (2 * epsilon) (t .kn)) ≡ soundTimestamp n epsilon (trimmed epsilon t)
-  sound-above h e k = rw (sound-is h, e, le-leb 1 (getD (t .kn) (epsilon + t .c) 0) k)
+  pub sound-above : c < epsilon → atMost n (take (2 * epsilon) kn) ≡ true → 1 ≤ getD kn (epsilon + c) 0
+      → atMost 0 (slice (epsilon + c + 1) (2 * epsilon) kn) ≡ soundTimestamp n epsilon (counted c kn)
+  sound-above h e k = rw (sound-is h, e, le-leb 1 (getD kn (epsilon + c) 0) k)
+
+module _ (epsilon : ℕ) (t : Timestamp) (small : epsilon ≤ 16) (long : length (t .kn) ≡ 32) (n : ℕ) where
+  -- r is not looked at, and no place past the 2ε counts
+  pub sound-trimmed : soundTimestamp n epsilon (counted (t .c) (take (2 * epsilon) (t .kn))) ≡ soundTimestamp n epsilon (trimmed epsilon t)
+  unfolding soundTimestamp
+  sound-trimmed = rw (trimmed-all epsilon t small long)
 
   module _ (modulus v : ℕ) where
     tables-are : soundTables n epsilon modulus v (trimmed epsilon t)

@@ -17,6 +17,10 @@ setupOf s = record { n = s .n; epsilon = s .epsilon; delta = s .delta; modulus =
 abbrev pub stampOf : Timestamp → stamps.Timestamp
 stampOf t = record { r = t .r; c = t .c; kn = t .kn }
 
+-- a timestamp with that c and those counts, where r is not looked at
+abbrev pub counted : ℕ → List ℕ → stamps.Timestamp
+counted c kn = record { r = 0; c = c; kn = kn }
+
 -- 01, tick 3: "each count" becomes "the larger of own and frame's, both placed relative to v": the count at a place
 abbrev pub largerAt : ℕ → ℕ → List ℕ → List ℕ → ℕ → ℕ
 largerAt modulus reading own other i = max (getD own i 0) (countAt reading other (modulus + i))

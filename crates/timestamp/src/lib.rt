@@ -17,3 +17,4 @@ pub use stamp::Timestamp;
 pub use stamp::counts_at_most;
 pub use stamp::counts_of;
 pub use stamp::near;
+pub use stamp::sound_counts;

@@ -6,7 +6,7 @@ ghost use Rattle.laws.specs.Lists.{tab, padded};
 ghost use Rattle.model.specs.Setup.{widest};
 ghost use Rattle.model.specs.Timestamp.{countAt, atMost, soundTimestamp, soundTables, trimmed, widened};
 ghost use Rattle.model.specs.Timestamp as model;
-ghost use Rattle.timestamp.specs.Views.{stampOf, largerAt};
+ghost use Rattle.timestamp.specs.Views.{stampOf, counted, largerAt};
 
 // 01: the stamp.
 pub struct Timestamp {
@@ -105,17 +105,7 @@ impl Timestamp {
         ensures { λ b. ⌜ b ≡ soundTimestamp n epsilon (trimmed epsilon (stampOf self)) ⌝ }
     {
         let kn = self.kn;
-        let c = self.c;
-        if epsilon <= c {
-            return false;
-        }
-        if !counts_at_most(&kn, 0, 2 * epsilon, n) {
-            return false;
-        }
-        if kn[epsilon + c] < 1 {
-            return false;
-        }
-        counts_at_most(&kn, epsilon + c + 1, 2 * epsilon, 0)
+        sound_counts(&kn[..2 * epsilon], self.c, n, epsilon)
     }
 
     // 01: "sound for a new clock v if the stamp is sound, r is below B and one before v modulo B, and counts at offsets 1
@@ -139,19 +129,35 @@ impl Timestamp {
     }
 }
 
-// Every count from one place up to, not including, another is at most the bound.
+// The soundness of a stamp with that c and those 2ε counts.
+pub fn sound_counts(kn: &[u8], c: usize, n: usize, epsilon: usize) -> bool
+    requires { ⌜ (1 ≤ epsilon) × ((epsilon ≤ 16) × (length (now kn) ≡ 2 * epsilon)) ⌝ }
+    ensures { λ b. ⌜ b ≡ soundTimestamp n epsilon (counted c (now (kn .entry))) ⌝ }
+{
+    if epsilon <= c {
+        return false;
+    }
+    if !counts_at_most(kn, 0, 2 * epsilon, n) {
+        return false;
+    }
+    if kn[epsilon + c] < 1 {
+        return false;
+    }
+    counts_at_most(kn, epsilon + c + 1, 2 * epsilon, 0)
+}
+
+// Every count from one place up to, not including, another is at most the bound: the largest of them is.
 pub fn counts_at_most(kn: &[u8], from: usize, to: usize, bound: usize) -> bool
     requires { ⌜ to ≤ length (now kn) ⌝ }
     ensures { λ b. ⌜ b ≡ atMost bound (drop from (take to (now (kn .entry)))) ⌝ }
 {
+    let mut most = 0u8;
     let mut i = from;
     while i < to {
-        if bound < kn[i] as usize {
-            return false;
-        }
+        most = larger(most, kn[i]);
         i += 1;
     }
-    true
+    most as usize <= bound
 }
 
 // The counts that stand in a slice from a place on, by value, then zeros.

@@ -1,77 +1,46 @@
--- `timestamp::stamp::Timestamp::is_sound` meets its contract: each answer is that of the first question that decides.
+-- `timestamp::stamp::Timestamp::is_sound` meets its contract: the first 2ε places are the counts.
 -- Assumes nothing.
+use Prim.Native.Nat.{_*_}
 use mathlib.Core.Path.{_≡_, sym, _∙_}
 use native.Mathlib.Omega.{arith}
 use lib.ListN.{length}
-use borrow.Author.Tests.{not-true, not-false}
-use Rattle.timestamp.proofs.Soundness.{unsound-lead, unsound-counts, unsound-none, sound-above}
+use lib.Seq.{length-take-le}
 use borrow.Author.Needs.{needs}
+use Rattle.timestamp.proofs.Soundness.{sound-trimmed}
+use Rattle.timestamp.specs.Views.{stampOf}
 use Rattle.timestamp.proofs.stamp.Timestamp.is_sound.Statement.{statement}
 use Rattle.timestamp.proofs.stamp.Timestamp.is_sound.Tie as tie
 
 long : (c : tie.Start) → length (c .args .self .kn) ≡ 32
 long c = search needs
 
+mul-kn : tie.Need-mul-kn
+mul-kn c = search needs
+
+array-share-prefix-kn : tie.Need-array-share-prefix-kn
+array-share-prefix-kn c = omega (arith, long (c .before))
+
+slice-aggregate-sound-counts : tie.Need-slice-aggregate-sound-counts
+slice-aggregate-sound-counts c =
+    let start = c .before .before in
+    sym (length-take-le (2 * start .args .epsilon) (start .args .self .kn) (omega (arith, long start)))
+
+sound-counts-requires : tie.Need-sound-counts-requires
+sound-counts-requires c κs =
+    let start = c .before .before in
+    (start .pre .0, (start .pre .1, length-take-le (2 * start .args .epsilon) (start .args .self .kn) (omega (arith, long start))))
+
 returns : tie.Need-returns
-returns c = unsound-lead _ _ (c .before .before .pre .1) (long (c .before .before)) _ (c .before .before .pre .0) (c .if1 .taken)
-
-slice-aggregate-counts-at-most : tie.Need-slice-aggregate-counts-at-most
-slice-aggregate-counts-at-most c = search needs
-
-mul-counts-at-most : tie.Need-mul-counts-at-most
-mul-counts-at-most c = search needs
-
-counts-at-most-requires : tie.Need-counts-at-most-requires
-counts-at-most-requires c κs = omega (arith, long (c .before .before .before))
-
-returns-2 : tie.Need-returns-2
-returns-2 c =
-    unsound-counts _ _ (c .before .before .before .before .before .pre .1) (long (c .before .before .before .before .before)) _ (c .before .before .before .if1 .left) (sym (c .before .counts-at-most .ensures) ∙ not-true _ (c .if2 .taken))
-
-add-if3 : tie.Need-add-if3
-add-if3 c = search needs
-
-array-read-if3 : tie.Need-array-read-if3
-array-read-if3 c = search needs
-
-returns-3 : tie.Need-returns-3
-returns-3 c =
-    unsound-none _ _ (c .before .before .before .before .before .before .pre .1) (long (c .before .before .before .before .before .before)) _ (c .before .before .before .before .if1 .left) (sym (c .before .before .counts-at-most .ensures) ∙ not-false _ (c .before .if2 .left)) (c .if3 .taken)
-
-slice-aggregate-counts-at-most-2 : tie.Need-slice-aggregate-counts-at-most-2
-slice-aggregate-counts-at-most-2 c = search needs
-
-add-counts-at-most : tie.Need-add-counts-at-most
-add-counts-at-most c = search needs
-
-add-counts-at-most-2 : tie.Need-add-counts-at-most-2
-add-counts-at-most-2 c = search needs
-
-mul-counts-at-most-2 : tie.Need-mul-counts-at-most-2
-mul-counts-at-most-2 c = search needs
-
-counts-at-most-requires-2 : tie.Need-counts-at-most-requires-2
-counts-at-most-requires-2 c κs = omega (arith, long (c .before .before .before .before .before .before .before))
-
-returns-4 : tie.Need-returns-4
-returns-4 c =
-    c .counts-at-most2 .ensures ∙ sound-above _ _ (c .before .before .before .before .before .before .before .before .pre .1) (long (c .before .before .before .before .before .before .before .before)) _ (c .before .before .before .before .before .before .if1 .left) (sym (c .before .before .before .before .counts-at-most .ensures) ∙ not-false _ (c .before .before .before .if2 .left)) (c .before .before .if3 .left)
+returns c =
+    let start = c .before .before .before in
+    c .sound-counts .ensures ∙ sound-trimmed (start .args .epsilon) (stampOf (start .args .self)) (start .pre .1) (long start) (start .args .n)
 
 pub is-sound-spec : {M : Type 1} → statement M
 is-sound-spec =
     tie.close
     (tie.spec
-    returns
-    slice-aggregate-counts-at-most
-    mul-counts-at-most
-    counts-at-most-requires
-    returns-2
-    add-if3
-    array-read-if3
-    returns-3
-    slice-aggregate-counts-at-most-2
-    add-counts-at-most
-    add-counts-at-most-2
-    mul-counts-at-most-2
-    counts-at-most-requires-2
-    returns-4)
+    mul-kn
+    array-share-prefix-kn
+    slice-aggregate-sound-counts
+    sound-counts-requires
+    returns)
