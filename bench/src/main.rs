@@ -29,20 +29,20 @@ fn main() {
 fn print_table(table: &[Workload]) {
     println!("ns a call      frames    proved    oracle      twin   proved/twin   proved/oracle");
     for workload in table {
-        let [proved, oracle, twin] = timing::measure(workload);
+        let [[proved, oracle, twin]] = timing::measure([workload]);
         let (name, frames) = (workload.name, workload.frames());
         print!("{name:<14}{frames:>7.0}{proved:>10.0}{oracle:>10.0}{twin:>10.0}");
         println!("{:>14.2}{:>16.2}", proved / twin, proved / oracle);
     }
 }
 
-/// How much longer a call takes where the shelf has twice the frames.
+/// How much longer a call takes where the shelf has twice the frames or a little more.
 fn print_growth(half: &[Workload], full: &[Workload]) {
     println!("\ngrowth              frames    proved    oracle      twin");
     for (half, full) in half.iter().zip(full) {
-        let (before, after) = (timing::measure(half), timing::measure(full));
-        let frames = format!("{:.0} to {:.0}", half.frames(), full.frames());
+        let [before, after] = timing::measure([half, full]);
         let [proved, oracle, twin] = [0, 1, 2].map(|i| after[i] / before[i]);
-        println!("{:<12}{frames:>14}{proved:>10.2}{oracle:>10.2}{twin:>10.2}", full.name);
+        let frames = full.frames() / half.frames();
+        println!("{:<15}{frames:>11.2}{proved:>10.2}{oracle:>10.2}{twin:>10.2}", full.name);
     }
 }
