@@ -1,8 +1,8 @@
 #!/usr/bin/env bash
-# Times the soundness walk through the static library.
+# Times the tick through the static library against the oracle and a twin tuned by hand.
 set -euo pipefail
 cd "$(dirname "$0")/.."
 [ -f target/staticlib/libabi.a ] || rt staticlib abi
-mkdir -p target/bench
-gcc -std=c11 -O2 -Wall -Wextra -Wpedantic -Werror -Iinclude bench/walk.c target/staticlib/libabi.a -o target/bench/walk
-target/bench/walk
+export ABI_LIB_DIR="$PWD/target/staticlib"
+cd bench
+cargo run --release --quiet

@@ -1,0 +1,41 @@
+//! The three programs must leave the same bytes and give the same answer.
+
+use crate::programs::PROGRAMS;
+use oracle::generate::{self, spoil, Group, Habits, Prng, TickCase};
+use oracle::Answer;
+
+/// Makes a call with each program; the answer and what the call left. A difference ends the run.
+pub fn agree(case: &TickCase) -> (u64, TickCase) {
+    let [proved, oracle, twin] = PROGRAMS.map(|program| {
+        let mut case = case.clone();
+        (program(&mut case), case)
+    });
+    assert!(proved == oracle, "the proved tick and the oracle differ");
+    assert!(twin == oracle, "the twin and the oracle differ");
+    twin
+}
+
+/// Random calls, good and bad, of random groups.
+pub fn agree_on_random(count: usize) {
+    let mut rng = Prng::new(3);
+    let mut done = 0;
+    while done < count {
+        let setup = generate::setup(&mut rng);
+        let habits = Habits { noise: true, dips: rng.one_in(2), deafness: rng.range(1, 4) };
+        let mut group = Group::fresh(&mut rng, setup, habits);
+        for _ in 0..rng.range(1, 300) {
+            let (node, case) = group.next_case(&mut rng);
+            let mut wrong = case.clone();
+            spoil::spoil(&mut rng, &mut wrong);
+            agree(&wrong);
+            let (word, case) = agree(&case);
+            group.settle(node, case, &unpack(word));
+            done += 2;
+        }
+    }
+}
+
+fn unpack(word: u64) -> Answer {
+    let [number, repair, taken, outgoing, low, high, ..] = word.to_le_bytes();
+    Answer { number, repair, taken, outgoing, delivered: u16::from_le_bytes([low, high]) }
+}

@@ -1,0 +1,437 @@
+//! The twin: the library's tick written by hand for speed, over the same buffers and with the same answers.
+//! It shares no code with the oracle or the proved crates.
+//!
+//! What it does for speed: a frame is looked at through one window of 39 bytes, which holds all of it but the payload; counts are
+//! held to their limits 32 at a time; the ε counts of the order are one number; origins are bits; and where each sum starts in the
+//! queue is kept, so that a search looks at the frames of one sum only.
+
+/// Where a frame's counts start.
+const COUNTS: usize = 6;
+/// A window holds every byte of a frame up to the payload's count, whatever ε is.
+const WINDOW: usize = 39;
+const WIDEST: usize = 32;
+const MAX_PAYLOAD: usize = 32;
+/// Sums in the queue lie from δ + ε behind v to ε − 1 ahead: at most 96 of them, and one place for the end.
+const SUMS: usize = 97;
+
+/// 255, then 0, then 255, each 32 times: its parts are masks.
+static MASKS: [u8; 3 * WIDEST] = {
+    let mut masks = [255; 3 * WIDEST];
+    let mut i = WIDEST;
+    while i < 2 * WIDEST {
+        masks[i] = 0;
+        i += 1;
+    }
+    masks
+};
+
+type Window = [u8; WINDOW];
+type Counts = [u8; WIDEST];
+type Origins = [u64; 32];
+
+/// The arguments of the tick.
+pub struct Call<'a> {
+    /// n, ε, δ, B, own number.
+    pub setup: [u32; 5],
+    pub clock: u32,
+    pub tables: &'a mut [u8; 35],
+    pub holdback: &'a mut [u8],
+    pub batch: &'a [u8],
+    pub send: bool,
+    pub payload: &'a [u8],
+    pub outgoing: &'a mut [u8],
+    pub verdicts: &'a mut [u8],
+    pub delivery: &'a mut [u8],
+}
+
+/// One tick, its answer packed as the library's.
+pub fn tick(call: &mut Call) -> u64 {
+    match check(call) {
+        0 => accept(call),
+        number => number.into(),
+    }
+}
+
+/// Checks 1 to 6.
+fn check(call: &Call) -> u8 {
+    let [n, epsilon, delta, modulus, own] = call.setup;
+    let limits = (1..=16).contains(&n) && (1..=16).contains(&epsilon) && delta <= 64 && own < n;
+    if !limits || modulus > 65_535 || modulus < 6 * epsilon + delta + 1 {
+        return 1;
+    }
+    let longest = 39 + 2 * epsilon as usize;
+    let size = 2 + longest * (n * (delta + 3 * epsilon)) as usize;
+    let short =
+        call.outgoing.len() < longest || call.verdicts.len() < 255 || call.delivery.len() < size;
+    match () {
+        _ if call.clock >= modulus => 2,
+        _ if call.holdback.len() != size => 3,
+        _ if call.payload.len() > MAX_PAYLOAD => 4,
+        _ if !ends_exactly(call.batch) => 5,
+        _ if short => 6,
+        _ => 0,
+    }
+}
+
+/// Does the batch end exactly after its last entry?
+fn ends_exactly(batch: &[u8]) -> bool {
+    let Some(&count) = batch.first() else { return false };
+    let mut at = 1;
+    for _ in 0..count {
+        let Some(&size) = batch.get(at) else { return false };
+        at += 1 + usize::from(size);
+    }
+    at == batch.len()
+}
+
+/// The numbers of an accepted call, and the limits of counts.
+struct Group {
+    n: u8,
+    epsilon: usize,
+    /// 2ε, how many counts a timestamp has.
+    width: usize,
+    delta: usize,
+    modulus: i32,
+    clock: i32,
+    /// 255 in the places past the counts, which are ignored, otherwise 0.
+    ignored: &'static Counts,
+}
+
+/// What the order looks at, in its order: the sum, the ε counts from offset c down as one number, the station and the reading.
+/// Sum and reading count from the least that a sound queue has.
+#[derive(Clone, Copy, PartialEq, Eq, PartialOrd, Ord)]
+struct Key {
+    sum: usize,
+    recent: u128,
+    station: usize,
+    reading: usize,
+}
+
+impl Key {
+    /// Which word of the origins has its bit.
+    fn word(&self) -> usize {
+        2 * self.station + self.reading / 64
+    }
+}
+
+/// Comes before the key of every sound frame, whose count at offset c is not 0.
+const FIRST: Key = Key { sum: 0, recent: 0, station: 0, reading: 0 };
+
+/// The queue while a tick is at work on it.
+struct Queue {
+    count: usize,
+    end: usize,
+    /// For each station two words, with a bit for each reading that is queued.
+    origins: Origins,
+    /// Where the frames of each sum start; past the last sum, the end.
+    starts: [u32; SUMS],
+    /// How many frames have the least sum: they are due.
+    due: usize,
+}
+
+impl Queue {
+    const EMPTY: Queue = Queue { count: 0, end: 2, origins: [0; 32], starts: [2; SUMS], due: 0 };
+}
+
+/// The own timestamp while a tick is at work on it.
+struct Local {
+    c: i32,
+    kn: Counts,
+}
+
+fn accept(call: &mut Call) -> u64 {
+    let group = Group::of(call);
+    let (mut local, mut repair) = match group.is_sound_before(call.tables) {
+        true => (group.step(call.tables), 0),
+        false => (Local { c: 0, kn: [0; WIDEST] }, 1),
+    };
+    let mut queue = Queue::EMPTY;
+    if !group.walk(call.holdback, &mut queue) {
+        repair += 2;
+        queue = Queue::EMPTY;
+    }
+    let taken = group.hear(call, &mut local, &mut queue);
+    for i in 0..WIDEST {
+        local.kn[i] += u8::from(i as u8 == group.epsilon as u8);
+    }
+    put_tables(call, &local);
+    let sent = if call.send { group.send(call) } else { 0 };
+    group.deliver(call, &queue);
+    repair << 8 | taken << 16 | (sent as u64) << 24 | (queue.due as u64) << 32
+}
+
+fn put_tables(call: &mut Call, local: &Local) {
+    call.tables[..2].copy_from_slice(&(call.clock as u16).to_le_bytes());
+    call.tables[2] = local.c as u8;
+    call.tables[3..].copy_from_slice(&local.kn);
+}
+
+/// A part of fixed length that starts at a place.
+fn part<const N: usize>(bytes: &[u8], at: usize) -> &[u8; N] {
+    bytes[at..at + N].try_into().expect("N bytes")
+}
+
+impl Group {
+    fn of(call: &Call) -> Self {
+        let [n, epsilon, delta, modulus, _] = call.setup;
+        let (n, epsilon) = (n as u8, epsilon as usize);
+        let width = 2 * epsilon;
+        let ignored = part(&MASKS, 2 * WIDEST - width);
+        let (delta, modulus, clock) = (delta as usize, modulus as i32, call.clock as i32);
+        Group { n, epsilon, width, delta, modulus, clock, ignored }
+    }
+
+    fn depth(&self) -> usize {
+        usize::from(self.n) * (self.delta + 3 * self.epsilon)
+    }
+
+    /// How far r lies ahead of v, negative if behind.
+    fn near(&self, r: i32) -> i32 {
+        let apart = r - self.clock;
+        let ahead = if apart < 0 { apart + self.modulus } else { apart };
+        if ahead < self.epsilon as i32 {
+            ahead
+        } else {
+            ahead - self.modulus
+        }
+    }
+
+    /// Is the timestamp sound?
+    fn is_sound(&self, c: usize, counts: &Counts) -> bool {
+        if c >= self.epsilon {
+            return false;
+        }
+        let top = self.epsilon + c;
+        counts[top] != 0 && self.within(counts, top + 1, self.n, 0)
+    }
+
+    /// Are the tables sound for the new clock?
+    fn is_sound_before(&self, tables: &[u8; 35]) -> bool {
+        let r = i32::from(u16::from_le_bytes([tables[0], tables[1]]));
+        let next = if r + 1 == self.modulus { 0 } else { r + 1 };
+        r < self.modulus
+            && next == self.clock
+            && self.is_sound(tables[2].into(), part(tables, 3))
+            && self.within(part(tables, 3), self.epsilon + 1, self.n, self.n - 1)
+    }
+
+    /// Is each count before a place at most one limit, and from there on at most another?
+    #[inline(always)]
+    fn within(&self, counts: &Counts, place: usize, before: u8, after: u8) -> bool {
+        let mask: &Counts = part(&MASKS, WIDEST - place);
+        let mut over = 0;
+        for i in 0..WIDEST {
+            let limit = after + (mask[i] & (before - after));
+            over |= counts[i].saturating_sub(limit | self.ignored[i]);
+        }
+        over == 0
+    }
+
+    fn step(&self, tables: &[u8; 35]) -> Local {
+        let mut kn = [0; WIDEST];
+        for i in 1..WIDEST {
+            kn[i - 1] = tables[3 + i] & !self.ignored[i];
+        }
+        Local { c: (i32::from(tables[2]) - 1).max(0), kn }
+    }
+
+    /// Checks 10 to 12; 10 not of what is left over.
+    #[inline(always)]
+    fn check_frame(&self, w: &Window) -> u8 {
+        let right = w[0] == 3 && usize::from(w[4]) == 1 + self.width;
+        if !right || usize::from(w[COUNTS + self.width]) > MAX_PAYLOAD {
+            return 10;
+        }
+        if w[1] >= self.n || r_of(w) >= self.modulus {
+            return 11;
+        }
+        if self.is_sound(w[5].into(), part(w, COUNTS)) {
+            0
+        } else {
+            12
+        }
+    }
+
+    fn frame_len(&self, w: &Window) -> usize {
+        7 + self.width + usize::from(w[COUNTS + self.width])
+    }
+
+    /// The key of a sound frame that is not overdue.
+    fn key(&self, w: &Window, ahead: i32) -> Key {
+        let c = usize::from(w[5]);
+        let low = self.delta + 2 * self.epsilon;
+        let reading = (low as i32 + ahead) as usize;
+        let recent = u128::from_le_bytes(*part(w, COUNTS + c + 1)) << (128 - 8 * self.epsilon);
+        Key { sum: reading + c - self.epsilon, recent, station: w[1].into(), reading }
+    }
+
+    /// Is the queue in the buffer sound? Its figures then.
+    fn walk(&self, buf: &[u8], queue: &mut Queue) -> bool {
+        queue.count = usize::from(u16::from_le_bytes([buf[0], buf[1]]));
+        if queue.count > self.depth() {
+            return false;
+        }
+        let (mut at, mut last, mut sums) = (2, FIRST, 0);
+        for _ in 0..queue.count {
+            let w = part(buf, at);
+            let Some(key) = self.next_key(w, &last, &mut queue.origins) else { return false };
+            while sums <= key.sum {
+                queue.starts[sums] = at as u32;
+                sums += 1;
+            }
+            queue.due += usize::from(key.sum == 0);
+            at += self.frame_len(w);
+            last = key;
+        }
+        queue.end = at;
+        queue.starts[sums..].fill(at as u32);
+        true
+    }
+
+    /// The key of the next frame of the walk, if the queue is sound so far; its origin is marked.
+    fn next_key(&self, w: &Window, last: &Key, origins: &mut Origins) -> Option<Key> {
+        if self.check_frame(w) != 0 {
+            return None;
+        }
+        let (ahead, c) = (self.near(r_of(w)), i32::from(w[5]));
+        let due = ahead + c + (self.delta + self.epsilon) as i32;
+        if due < 0 || ahead + c >= self.epsilon as i32 {
+            return None;
+        }
+        let key = self.key(w, ahead);
+        let seen = &mut origins[key.word()];
+        if *seen >> (key.reading % 64) & 1 != 0 || *last >= key {
+            return None;
+        }
+        *seen |= 1 << (key.reading % 64);
+        Some(key)
+    }
+
+    /// Judges the frames of the batch in turn; how many were taken.
+    fn hear(&self, call: &mut Call, local: &mut Local, queue: &mut Queue) -> u64 {
+        let mut taken = 0;
+        let mut at = 1;
+        for i in 0..usize::from(call.batch[0]) {
+            let len = usize::from(call.batch[at]);
+            let entry = &call.batch[at + 1..at + 1 + len];
+            let mut spare = [0; WINDOW];
+            let w = match call.batch[at + 1..].first_chunk() {
+                Some(w) => w,
+                None => {
+                    spare[..len.min(WINDOW)].copy_from_slice(&entry[..len.min(WINDOW)]);
+                    &spare
+                }
+            };
+            let verdict = self.judge(w, entry, local, queue, call.holdback);
+            call.verdicts[i] = verdict;
+            taken += u64::from(verdict == 0);
+            at += 1 + len;
+        }
+        taken
+    }
+
+    /// Checks 10 to 17; a frame that passes is queued and counted in.
+    fn judge(
+        &self,
+        w: &Window,
+        entry: &[u8],
+        local: &mut Local,
+        queue: &mut Queue,
+        buf: &mut [u8],
+    ) -> u8 {
+        if entry.len() != self.frame_len(w) {
+            return 10;
+        }
+        let number = self.check_frame(w);
+        if number != 0 {
+            return number;
+        }
+        let (ahead, c) = (self.near(r_of(w)), i32::from(w[5]));
+        if -ahead > (self.delta + self.epsilon) as i32 {
+            return 13;
+        }
+        if ahead + c >= self.epsilon as i32 {
+            return 14;
+        }
+        let from = (self.epsilon as i32 - ahead) as usize;
+        if !self.within(part(w, COUNTS), from.min(WIDEST), self.n, self.n - 1) {
+            return 15;
+        }
+        let key = self.key(w, ahead);
+        if queue.origins[key.word()] >> (key.reading % 64) & 1 != 0 {
+            return 16;
+        }
+        if queue.count >= self.depth() {
+            return 17;
+        }
+        self.place(&key, entry, queue, buf);
+        self.absorb(w, ahead, local);
+        0
+    }
+
+    /// Puts a frame in its place.
+    fn place(&self, key: &Key, entry: &[u8], queue: &mut Queue, buf: &mut [u8]) {
+        let mut at = queue.starts[key.sum] as usize;
+        let stop = queue.starts[key.sum + 1] as usize;
+        while at < stop {
+            let w = part(buf, at);
+            if self.key(w, self.near(r_of(w))) > *key {
+                break;
+            }
+            at += self.frame_len(w);
+        }
+        buf.copy_within(at..queue.end, at + entry.len());
+        buf[at..at + entry.len()].copy_from_slice(entry);
+        for start in &mut queue.starts[key.sum + 1..] {
+            *start += entry.len() as u32;
+        }
+        queue.origins[key.word()] |= 1 << (key.reading % 64);
+        queue.end += entry.len();
+        queue.count += 1;
+        queue.due += usize::from(key.sum == 0);
+    }
+
+    /// c and each count become the larger of own and frame's.
+    fn absorb(&self, w: &Window, ahead: i32, local: &mut Local) {
+        local.c = local.c.max(ahead + i32::from(w[5]));
+        if -ahead >= self.width as i32 {
+            return;
+        }
+        let mut placed = [0; 3 * WIDEST];
+        placed[WIDEST..2 * WIDEST].copy_from_slice(part::<WIDEST>(w, COUNTS));
+        placed[WIDEST + self.width..2 * WIDEST].fill(0);
+        let other: &Counts = part(&placed, (WIDEST as i32 - ahead) as usize);
+        for ((own, other), ignored) in local.kn.iter_mut().zip(other).zip(self.ignored) {
+            *own = (*own).max(other & !ignored);
+        }
+    }
+
+    /// Lays down the outgoing frame; its length.
+    fn send(&self, call: &mut Call) -> usize {
+        let own = call.setup[4] as u8;
+        let [low, high, c] = *part(call.tables, 0);
+        let at = COUNTS + self.width;
+        let out = &mut call.outgoing[..];
+        out[..COUNTS].copy_from_slice(&[3, own, low, high, 1 + self.width as u8, c]);
+        out[COUNTS..at].copy_from_slice(&call.tables[3..3 + self.width]);
+        out[at] = call.payload.len() as u8;
+        out[at + 1..at + 1 + call.payload.len()].copy_from_slice(call.payload);
+        at + 1 + call.payload.len()
+    }
+
+    /// Hands out the frames that are due; the others move to the front.
+    fn deliver(&self, call: &mut Call, queue: &Queue) {
+        let first = queue.starts[1] as usize;
+        call.delivery[..2].copy_from_slice(&(queue.due as u16).to_le_bytes());
+        if first > 2 {
+            call.delivery[2..first].copy_from_slice(&call.holdback[2..first]);
+            call.holdback.copy_within(first..queue.end, 2);
+        }
+        call.holdback[..2].copy_from_slice(&((queue.count - queue.due) as u16).to_le_bytes());
+        call.holdback[2 + queue.end - first..].fill(0);
+    }
+}
+
+fn r_of(w: &Window) -> i32 {
+    u16::from_le_bytes([w[2], w[3]]).into()
+}

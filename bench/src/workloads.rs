@@ -1,0 +1,68 @@
+//! The calls that are timed. Each workload has 16 of them.
+
+use crate::yard::Yard;
+use oracle::generate::{frames, Prng, TickCase};
+use oracle::holdback::Holdback;
+use oracle::node::judge;
+use oracle::{batch, Setup};
+
+/// Calls of each workload.
+const CALLS: i64 = 16;
+const LARGEST: Setup = Setup { n: 16, epsilon: 16, delta: 64, modulus: 65_535, own: 0 };
+const TYPICAL: Setup = Setup { n: 4, epsilon: 2, delta: 8, modulus: 65_535, own: 0 };
+
+pub struct Workload {
+    pub name: &'static str,
+    pub cases: Vec<TickCase>,
+}
+
+impl Workload {
+    /// The mean of the frames on the shelf.
+    pub fn frames(&self) -> f64 {
+        let count = |case: &TickCase| u16::from_le_bytes([case.holdback[0], case.holdback[1]]);
+        self.cases.iter().map(|case| f64::from(count(case))).sum::<f64>() / self.cases.len() as f64
+    }
+}
+
+/// The four workloads of the table.
+pub fn all() -> Vec<Workload> {
+    let [_, largest, flood] = on_shelf(true);
+    let idle =
+        Workload { name: "idle tick", cases: Yard::fresh(TYPICAL, 16).run(CALLS / TYPICAL.n, 0) };
+    let typical = Workload { name: "typical yard", cases: steady(TYPICAL, 16, TYPICAL.n) };
+    vec![idle, typical, largest, flood]
+}
+
+/// The largest yard, where all of it or only half has been sending: an empty tick, one that hears everybody, and a flood.
+pub fn on_shelf(full: bool) -> [Workload; 3] {
+    let heard = steady(LARGEST, 32, if full { LARGEST.n } else { LARGEST.n / 2 });
+    let mut empty = heard.clone();
+    let mut flood = heard.clone();
+    let mut rng = Prng::new(2);
+    for case in &mut empty {
+        (case.batch, case.send) = (vec![0], false);
+    }
+    for case in &mut flood {
+        case.batch = batch::encode(&junk(&mut rng, case));
+    }
+    [
+        Workload { name: "empty tick", cases: empty },
+        Workload { name: "largest yard", cases: heard },
+        Workload { name: "flood", cases: flood },
+    ]
+}
+
+/// Calls of a yard in its steady state, where only some send until shortly before the end and then all do.
+fn steady(setup: Setup, payload: usize, senders: i64) -> Vec<TickCase> {
+    let mut yard = Yard::fresh(setup, payload);
+    yard.run(2 * (setup.delta + 4 * setup.epsilon), senders);
+    yard.run(3, setup.n);
+    yard.run(CALLS / setup.n, setup.n)
+}
+
+/// 255 frames that are all refused: random bytes, damaged frames, late, early and forged ones, repeats.
+fn junk(rng: &mut Prng, case: &TickCase) -> Vec<Vec<u8>> {
+    let shelf = Holdback::decode(&case.setup, case.clock, &case.holdback).expect("a sound shelf");
+    let any = std::iter::repeat_with(|| frames::any(rng, &case.setup, case.clock));
+    any.filter(|frame| judge(&case.setup, case.clock, &shelf, frame).is_err()).take(255).collect()
+}

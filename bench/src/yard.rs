@@ -1,0 +1,84 @@
+//! A yard in its steady state: its stations tick in turn, at clocks spread over the drift limit; every sender sends at each tick,
+//! and everybody hears each frame one to three ticks later.
+
+use oracle::generate::{Prng, TickCase};
+use oracle::timestamp::fresh;
+use oracle::{batch, ClockState, Setup};
+
+pub struct Yard {
+    setup: Setup,
+    payload: usize,
+    rng: Prng,
+    step: i64,
+    stations: Vec<Station>,
+}
+
+struct Station {
+    tables: ClockState,
+    shelf: Vec<u8>,
+    /// The frames to be heard in the next three ticks, the next ones first.
+    coming: [Vec<Vec<u8>>; 3],
+}
+
+impl Yard {
+    /// A yard of fresh stations that send tickets of this length.
+    pub fn fresh(setup: Setup, payload: usize) -> Self {
+        let shelf = vec![0; setup.holdback_len()];
+        let station = |k| Station {
+            tables: fresh(&setup, lead(&setup, k)),
+            shelf: shelf.clone(),
+            coming: Default::default(),
+        };
+        let stations = (0..setup.n).map(station).collect();
+        Yard { setup, payload, rng: Prng::new(1), step: 0, stations }
+    }
+
+    /// Lets all stations tick this often, the first `senders` of them sending; the calls of the last steps, as given, if asked for.
+    pub fn run(&mut self, steps: i64, senders: i64) -> Vec<TickCase> {
+        let mut cases = Vec::new();
+        for _ in 0..steps {
+            self.step += 1;
+            for k in 0..self.setup.n {
+                cases.push(self.tick(k, k < senders));
+            }
+        }
+        cases
+    }
+
+    /// One tick of a station; the call as it was given.
+    fn tick(&mut self, k: i64, send: bool) -> TickCase {
+        let clock = self.step + lead(&self.setup, k);
+        let setup = Setup { own: k, ..self.setup };
+        let station = &mut self.stations[k as usize];
+        station.coming.rotate_left(1);
+        let heard = std::mem::take(&mut station.coming[2]);
+        let shelf = station.shelf.clone();
+        let mut case = TickCase::idle(&mut self.rng, setup, clock, station.tables, shelf);
+        case.batch = batch::encode(&heard);
+        case.send = send;
+        case.payload = self.rng.bytes(self.payload);
+        let given = case.clone();
+        let answer = case.run();
+        assert!(
+            answer.number == 0 && answer.repair == 0 && usize::from(answer.taken) == heard.len()
+        );
+        (station.tables, station.shelf) = (case.state, case.holdback);
+        if send {
+            self.spread(&case.outgoing[..answer.outgoing.into()]);
+        }
+        given
+    }
+
+    /// Everybody will hear the frame.
+    fn spread(&mut self, frame: &[u8]) {
+        for station in &mut self.stations {
+            let delay = self.rng.place(station.coming.len());
+            station.coming[delay].push(frame.to_vec());
+        }
+    }
+}
+
+/// How far a station's clock is ahead of the slowest.
+fn lead(setup: &Setup, k: i64) -> i64 {
+    k * setup.epsilon / setup.n
+}
