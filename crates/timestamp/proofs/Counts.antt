@@ -11,11 +11,11 @@ use mathlib.Core.Logic.{_⊎_, inl, inr}
 use borrow.Author.Tests.{le-leb, lt-leb}
 use lib.Dec.{leb}
 use lib.Seq.{set-append-seam, set-append-left, length-take-le, take-nil, take-suc, getD-drop, slice, slice-cons}
-use Rattle.laws.specs.Lists.{tab, every, padded}
+use Rattle.laws.specs.Lists.{every, padded}
 use Rattle.laws.proofs.Numbers.{lt-or-ge}
 use Rattle.laws.proofs.Lists.{tab-take}
-use Rattle.model.specs.Setup.{width, widest}
-use Rattle.model.specs.Timestamp.{Timestamp, atMost, trimmed, widened}
+use Rattle.model.specs.Setup.{width}
+use Rattle.model.specs.Timestamp.{Timestamp, atMost, trimmed}
 
 -- a number less what it has of another, and one more
 sub-next : (w n : ℕ) → n < w → w - n ≡ suc (w - suc n)

@@ -1,9 +1,8 @@
 -- `timestamp::stamp::larger_counts` meets its contract: the own counts, raised by those of the frame that have a place among them.
 -- Assumes nothing.
-use mathlib.Core.Path.{_≡_, ap, _∙_}
+use mathlib.Core.Path.{ap, _∙_}
 use mathlib.Core.List.{List}
 use Prim.Native.Nat.{ℕ}
-use native.Mathlib.Omega.{arith}
 use lib.ListN.{take, drop}
 use borrow.Author.Needs.{needs}
 use Rattle.laws.specs.Lists.{tab}
