@@ -10,7 +10,7 @@ use lib.Dec.{leb, eqb}
 use lib.ListN.{length, take, drop, length-take, length-drop}
 use borrow.Author.Tests.{le-leb, lt-leb, eq-eqb, ne-eqb}
 use Rattle.laws.specs.Lex.{lexCompare, isLess}
-use Rattle.model.specs.Setup.{Setup, width}
+use Rattle.model.specs.Setup.{Setup}
 use Rattle.model.specs.Timestamp.{sum, near}
 use Rattle.model.specs.Frame.{Frame, decode}
 use Rattle.model.specs.Question.{firstNo, frameQuestions}

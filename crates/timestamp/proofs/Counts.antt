@@ -11,11 +11,11 @@ use mathlib.Core.Logic.{_⊎_, inl, inr}
 use borrow.Author.Tests.{le-leb, lt-leb}
 use lib.Dec.{leb}
 use lib.Seq.{set-append-seam, set-append-left, length-take-le, take-nil, take-suc, getD-drop, slice, slice-cons}
-use Rattle.laws.specs.Lists.{tab, every, padded}
+use Rattle.laws.specs.Lists.{every, padded}
 use Rattle.laws.proofs.Numbers.{lt-or-ge}
-use Rattle.laws.proofs.Lists.{length-tab, tab-suc, tab-take, take-padded, length-padded}
-use Rattle.model.specs.Setup.{width, widest}
-use Rattle.model.specs.Timestamp.{Timestamp, atMost, trimmed, widened}
+use Rattle.laws.proofs.Lists.{tab-take}
+use Rattle.model.specs.Setup.{width}
+use Rattle.model.specs.Timestamp.{Timestamp, atMost, trimmed}
 
 -- a number less what it has of another, and one more
 sub-next : (w n : ℕ) → n < w → w - n ≡ suc (w - suc n)
@@ -74,11 +74,6 @@ copied-next w s kn from count i fits h k e =
     let inside : i < length (drop from s) = omega (arith, length-drop from s) in
     let passed : length (take i (drop from s)) ≡ i = length-take-le i (drop from s) (omega arith) in
     rw (e, ← getD-drop from s i 0, padded-next w (take i (drop from s)) i _ passed short, add-one i, take-suc (drop from s) i 0 inside)
-
--- the same for counts that are computed
-pub tabbed-next : (w : ℕ) (f : ℕ → ℕ) (kn : List ℕ) (i x : ℕ) → kn ≡ padded w (tab i f) → i < w → f i ≡ x
-    → set kn i x ≡ padded w (tab (i + 1) f)
-tabbed-next w f kn i x e h ex = rw (e, padded-next w (tab i f) i x (length-tab i f) h, add-one i, tab-suc i f, ex)
 
 -- the test of the counts from a place on: the first of them, then the others
 at-most-cons : (bound i to : ℕ) (l : List ℕ) → i < to → to ≤ length l

@@ -1,16 +1,20 @@
 -- A clock read near v, and a count found by the clock that it is for.
 -- Assumes nothing.
 use Prim.Native.Nat.{ℕ, _+_, _-_, _%_, _≤_, _<_, max}
-use native.Mathlib.Nat.{mod-eq-of-lt, add-mod-right}
+use native.Mathlib.Nat.{mod-eq-of-lt, mod-self, add-mod-right}
 use native.Mathlib.Omega.{arith}
-use mathlib.Core.Path.{_≡_, sym}
+use mathlib.Core.Path.{_≡_, sym, ap, _∙_}
+use mathlib.Core.Bool.{cond}
+use mathlib.Core.Logic.{_⊎_, inl, inr}
 use mathlib.Core.List.{List}
-use lib.ListN.{length, take, getD, set, length-take, List·getD-eq-default}
-use lib.Seq.{getD-take}
-use borrow.Author.Tests.{le-leb, lt-leb}
+use lib.Dec.{eqb}
+use lib.ListN.{length, take, drop, getD, set, length-take, List·getD-eq-default}
+use lib.Seq.{getD-take, getD-drop}
+use borrow.Author.Tests.{le-leb, lt-leb, eq-eqb, ne-eqb}
 use Rattle.laws.specs.Lists.{tab, padded}
-use Rattle.timestamp.specs.Views.{largerAt}
-use Rattle.timestamp.proofs.Counts.{tabbed-next}
+use Rattle.timestamp.specs.Views.{largerAt, raisedAt}
+use Rattle.laws.proofs.Numbers.{lt-or-ge, eq-or-ne, lt-or-gt}
+use Rattle.laws.proofs.Lists.{length-tab, getD-tab, getD-tab-out, tab-ext, tab-getD, set-tab, length-padded, getD-padded}
 use Rattle.model.specs.Timestamp.{ahead, near, countAt}
 use Rattle.lemmas.proofs.Reading.{near-ahead, near-behind}
 
@@ -24,6 +28,14 @@ ahead-from modulus v r h below =
 pub ahead-round : (modulus v r : ℕ) → r < v → v < modulus → r + (modulus - v) ≡ ahead modulus v r
 unfolding ahead
 ahead-round modulus v r h below = let small : r + (modulus - v) < modulus = omega arith in sym (mod-eq-of-lt small)
+
+-- the clock after r
+pub next-round : (modulus r : ℕ) → r + 1 ≡ modulus → 0 ≡ (r + 1) % modulus
+next-round modulus r e = rw (e, mod-self modulus)
+
+pub next-plain : (modulus r : ℕ) → r < modulus → (r + 1 ≡ modulus → ⊥) → r + 1 ≡ (r + 1) % modulus
+next-plain modulus r h n =
+    elim (lt-or-gt (r + 1) modulus n) [ inl k ↦ sym (mod-eq-of-lt k) | inr k ↦ absurd (omega arith) ]
 
 -- the reading by u
 pub near-of-ahead : (epsilon modulus v r u : ℕ) → 1 ≤ epsilon → u ≡ ahead modulus v r → u ≤ epsilon - 1
@@ -55,12 +67,103 @@ pub count-inside : (reading w width : ℕ) (kn : List ℕ) → reading ≤ w →
 unfolding countAt
 count-inside reading w width kn h k = rw (le-leb reading w h, getD-take width kn (w - reading) 0 k)
 
--- what a loop that takes the larger counts has made after one turn more
-pub larger-next : (w width modulus reading i x y : ℕ) (own other kn : List ℕ) → width ≤ w → i < width
-    → y ≡ countAt reading (take width other) (modulus + i) → x ≡ max (getD own i 0) y
-    → kn ≡ padded w (tab i (largerAt modulus reading (take width own) (take width other)))
-    → set kn i x ≡ padded w (tab (i + 1) (largerAt modulus reading (take width own) (take width other)))
-larger-next w width modulus reading i x y own other kn h k ey ex e =
-    let inside : i < w = omega arith in
-    tabbed-next w (largerAt modulus reading (take width own) (take width other)) kn i x e inside
-    (rw (getD-take width own i 0 k, ex, ey))
+-- the counts that a loop places, before it and after one turn more
+no-counts : (to j : ℕ) (l : List ℕ) → 0 ≡ countAt to (take 0 l) j
+no-counts to j l = elim (lt-or-ge j to) [ inl h ↦ count-before to j (take 0 l) h | inr h ↦ count-past to j 0 l h (omega arith) ]
+
+same-count : (to i j : ℕ) (l : List ℕ) → (j ≡ to + i → ⊥) → countAt to (take i l) j ≡ countAt to (take (i + 1) l) j
+same-count to i j l n = go (lt-or-ge j to) (lt-or-gt j (to + i) n)
+  where
+    go : (j < to) ⊎ (to ≤ j) → (j < to + i) ⊎ (to + i < j) → countAt to (take i l) j ≡ countAt to (take (i + 1) l) j
+    go (inl h) k = sym (count-before to j (take i l) h) ∙ count-before to j (take (i + 1) l) h
+    go (inr h) (inl k) =
+        let a : j - to < i = omega arith in
+        let b : j - to < i + 1 = omega arith in
+        sym (count-inside to j i l h a) ∙ count-inside to j (i + 1) l h b
+    go (inr h) (inr k) =
+        let a : i ≤ j - to = omega arith in
+        let b : i + 1 ≤ j - to = omega arith in
+        sym (count-past to j i l h a) ∙ count-past to j (i + 1) l h b
+
+-- what a loop that raises counts has made at its start, and after one turn more
+pub raised-start : (w to : ℕ) (own l : List ℕ) → length own ≡ w → own ≡ tab w (raisedAt to own (take 0 l))
+raised-start w to own l long =
+    sym (tab-getD w own 0 long)
+    ∙ tab-ext w (λ j. getD own j 0) (raisedAt to own (take 0 l)) (λ j h. omega (arith, no-counts to j l))
+
+module _ (w to i x : ℕ) (own l kn : List ℕ) (h : to + i < w) (e : kn ≡ tab w (raisedAt to own (take i l)))
+    (ex : x ≡ max (getD kn (to + i) 0) (getD l i 0)) where
+  raised-here : x ≡ raisedAt to own (take (i + 1) l) (to + i)
+  raised-here =
+      let z : to + i - to ≡ i = omega arith in
+      let a : getD kn (to + i) 0 ≡ raisedAt to own (take i l) (to + i) =
+      ap (λ (k : List ℕ). getD k (to + i) 0) e ∙ getD-tab w (raisedAt to own (take i l)) (to + i) 0 h in
+      let b : 0 ≡ countAt to (take i l) (to + i) = count-past to (to + i) i l (omega arith) (omega arith) in
+      let d : getD l (to + i - to) 0 ≡ countAt to (take (i + 1) l) (to + i) = count-inside to (to + i) (i + 1) l (omega arith) (omega arith) in
+      let d' : getD l i 0 ≡ countAt to (take (i + 1) l) (to + i) = rw z at d in
+      omega arith
+
+  pub raised-next : set kn (to + i) x ≡ tab w (raisedAt to own (take (i + 1) l))
+  raised-next =
+      ap (λ (k : List ℕ). set k (to + i) x) e
+      ∙ set-tab w (raisedAt to own (take i l)) (to + i) x
+      ∙ tab-ext w (λ j. cond (eqb j (to + i)) x (raisedAt to own (take i l) j)) (raisedAt to own (take (i + 1) l)) (λ j k. go j (eq-or-ne j (to + i)))
+    where
+      go : (j : ℕ) → (j ≡ to + i) ⊎ (j ≡ to + i → ⊥)
+          → cond (eqb j (to + i)) x (raisedAt to own (take i l) j) ≡ raisedAt to own (take (i + 1) l) j
+      go j (inl p) = rw (eq-eqb j (to + i) p) (raised-here ∙ ap (raisedAt to own (take (i + 1) l)) (sym p))
+      go j (inr n) = rw (ne-eqb j (to + i) n, same-count to i j l n)
+
+-- the frame's counts, placed by how far its reading lies ahead or behind
+module _ (width modulus reading up down count : ℕ) (other : List ℕ) (eu : up ≡ reading - modulus) (ed : down ≡ modulus - reading)
+    (ec : count ≡ width - (up + down)) where
+  placed-within : (i : ℕ) → i < width → countAt up (take count (drop down other)) i ≡ countAt reading (take width other) (modulus + i)
+  placed-within i k = go (lt-or-ge i up) (lt-or-ge (i - up) count)
+    where
+      go : (i < up) ⊎ (up ≤ i) → (i - up < count) ⊎ (count ≤ i - up)
+          → countAt up (take count (drop down other)) i ≡ countAt reading (take width other) (modulus + i)
+      go (inl h) m =
+          let a : modulus + i < reading = omega arith in
+          sym (count-before up i (take count (drop down other)) h) ∙ count-before reading (modulus + i) (take width other) a
+      go (inr h) (inl m) =
+          let a : reading ≤ modulus + i = omega arith in
+          let b : modulus + i - reading < width = omega arith in
+          let z : down + (i - up) ≡ modulus + i - reading = omega arith in
+          sym (count-inside up i count (drop down other) h m)
+          ∙ getD-drop down other (i - up) 0
+          ∙ ap (λ (n : ℕ). getD other n 0) z
+          ∙ count-inside reading (modulus + i) width other a b
+      go (inr h) (inr m) =
+          let a : reading ≤ modulus + i = omega arith in
+          let b : width ≤ modulus + i - reading = omega arith in
+          sym (count-past up i count (drop down other) h m) ∙ count-past reading (modulus + i) width other a b
+
+  placed-without : (i : ℕ) → width ≤ i → 0 ≡ countAt up (take count (drop down other)) i
+  placed-without i k =
+      elim (lt-or-ge i up) [
+        | inl h ↦ count-before up i (take count (drop down other)) h
+        | inr h ↦ count-past up i count (drop down other) h (omega arith)
+      ]
+
+  -- so that the counts that they raise are the larger ones
+  module _ (w : ℕ) (own : List ℕ) (fits : width ≤ w) where
+    abbrev larger : List ℕ
+    larger = tab width (largerAt modulus reading (take width own) (take width other))
+
+    larger-at : (i : ℕ) → raisedAt up (padded w (take width own)) (take count (drop down other)) i ≡ getD larger i 0
+    larger-at i = rw (getD-padded w (take width own) i) (go (lt-or-ge i width))
+      where
+        go : (i < width) ⊎ (width ≤ i) → raisedAt up (take width own) (take count (drop down other)) i ≡ getD larger i 0
+        go (inl h) = rw (getD-tab width (largerAt modulus reading (take width own) (take width other)) i 0 h, placed-within i h)
+        go (inr h) =
+            let short : length (take width own) ≤ i = omega (arith, length-take width own) in
+            rw (getD-tab-out width (largerAt modulus reading (take width own) (take width other)) i 0 h, List·getD-eq-default (take width own) 0 short)
+            (omega (arith, placed-without i h))
+
+    pub larger-raised : tab w (raisedAt up (padded w (take width own)) (take count (drop down other))) ≡ padded w larger
+    larger-raised =
+        let long : length (padded w larger) ≡ w =
+        length-padded w larger (omega (arith, length-tab width (largerAt modulus reading (take width own) (take width other)))) in
+        tab-ext w (raisedAt up (padded w (take width own)) (take count (drop down other))) (λ i. getD (padded w larger) i 0)
+        (λ i h. larger-at i ∙ sym (getD-padded w larger i))
+        ∙ tab-getD w (padded w larger) 0 long

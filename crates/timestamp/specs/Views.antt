@@ -24,3 +24,7 @@ counted c kn = record { r = 0; c = c; kn = kn }
 -- 01, tick 3: "each count" becomes "the larger of own and frame's, both placed relative to v": the count at a place
 abbrev pub largerAt : ℕ → ℕ → List ℕ → List ℕ → ℕ → ℕ
 largerAt modulus reading own other i = max (getD own i 0) (countAt reading other (modulus + i))
+
+-- the same for others that are placed from a place on
+abbrev pub raisedAt : ℕ → List ℕ → List ℕ → ℕ → ℕ
+raisedAt to own other i = max (getD own i 0) (countAt to other i)

@@ -1,12 +1,12 @@
 // 01: the stamp, its soundness, the steps of one tick that change it, and reading a clock near v.
 ghost use mathlib.Core.Path.{_≡_};
-ghost use Prim.Native.Nat.{ℕ, _+_, _-_, _*_, _≤_, _<_, _^_, max};
+ghost use Prim.Native.Nat.{ℕ, _+_, _-_, _*_, _%_, _≤_, _<_, _^_, max};
 ghost use lib.ListN.{length, take, drop, getD};
 ghost use Rattle.laws.specs.Lists.{tab, padded};
 ghost use Rattle.model.specs.Setup.{widest};
-ghost use Rattle.model.specs.Timestamp.{countAt, atMost, soundTimestamp, soundTables, trimmed, widened};
+ghost use Rattle.model.specs.Timestamp.{atMost, soundTimestamp, soundTables, trimmed, widened};
 ghost use Rattle.model.specs.Timestamp as model;
-ghost use Rattle.timestamp.specs.Views.{stampOf, counted, largerAt};
+ghost use Rattle.timestamp.specs.Views.{stampOf, counted, largerAt, raisedAt};
 
 // 01: the stamp.
 pub struct Timestamp {
@@ -122,7 +122,7 @@ impl Timestamp {
         if modulus <= r {
             return false;
         }
-        if (r + 1) % modulus != v {
+        if next_clock(modulus, r) != v {
             return false;
         }
         counts_at_most(&kn, epsilon + 1, 2 * epsilon, n - 1)
@@ -174,25 +174,18 @@ pub fn counts_of(s: &[u8], from: usize, count: usize) -> [u8; Timestamp::WIDTH]
     kn
 }
 
-// 01: the count for the clock named w, of a timestamp with that reading; "Outside those offsets a count reads as 0".
-fn count_at(kn: &[u8], width: usize, reading: usize, w: usize) -> u8
-    requires { ⌜ width ≤ length (now kn) ⌝ }
-    ensures { λ x. ⌜ x ≡ countAt reading (take width (now (kn .entry))) w ⌝ }
-{
-    if w < reading {
-        return 0;
-    }
-    if width <= w - reading {
-        return 0;
-    }
-    kn[w - reading]
-}
-
 // The larger of two counts.
 fn larger(a: u8, b: u8) -> u8
     ensures { λ x. ⌜ x ≡ max a b ⌝ }
 {
     if a < b { b } else { a }
+}
+
+// How far a lies past b, 0 if it does not.
+fn past(a: usize, b: usize) -> usize
+    ensures { λ x. ⌜ x ≡ a - b ⌝ }
+{
+    if a < b { 0 } else { a - b }
 }
 
 // The larger of c and of how far a sum lies past B.
@@ -212,7 +205,28 @@ fn one_less(c: usize) -> usize
     if c == 0 { 0 } else { c - 1 }
 }
 
-// 01, tick 3: each count "the larger of own and frame's", the frame's placed by its reading.
+// Each count the larger of own and of others, of which count stand in a slice from a place on; the first of them is for the place to.
+fn raise(
+    own: [u8; Timestamp::WIDTH],
+    to: usize,
+    other: &[u8],
+    from: usize,
+    count: usize,
+) -> [u8; Timestamp::WIDTH]
+    requires { ⌜ (count ≤ 32 - to) × (count ≤ length (now other) - from) ⌝ }
+    ensures { λ kn. ⌜ kn ≡ tab widest (raisedAt to own (take count (drop from (now (other .entry))))) ⌝ }
+{
+    let mut kn = own;
+    let mut i = 0;
+    while i < count {
+        kn[to + i] = larger(kn[to + i], other[from + i]);
+        i += 1;
+    }
+    kn
+}
+
+// 01, tick 3: each count "the larger of own and frame's", the frame's placed by its reading. Where the two do not meet there
+// are no others.
 fn larger_counts(
     own: &[u8],
     other: &[u8],
@@ -224,13 +238,19 @@ fn larger_counts(
     ensures { λ kn. ⌜ kn
         ≡ padded widest (tab width (largerAt modulus reading (take width (now (own .entry))) (take width (now (other .entry))))) ⌝ }
 {
-    let mut kn = [0u8; Timestamp::WIDTH];
-    let mut i = 0;
-    while i < width {
-        kn[i] = larger(own[i], count_at(other, width, reading, modulus + i));
-        i += 1;
-    }
-    kn
+    let up = past(reading, modulus);
+    let down = past(modulus, reading);
+    let count = past(width, up + down);
+    let kn = counts_of(own, 0, width);
+    raise(kn, up, other, down, count)
+}
+
+// The clock after r, modulo B.
+fn next_clock(modulus: usize, r: usize) -> usize
+    requires { ⌜ r < modulus ⌝ }
+    ensures { λ x. ⌜ x ≡ (r + 1) % modulus ⌝ }
+{
+    if r + 1 == modulus { 0 } else { r + 1 }
 }
 
 // 01: "u is (r − v) modulo B".

@@ -1,9 +1,12 @@
 -- `timestamp::stamp::Timestamp::is_sound_for` meets its contract: each answer is that of the first question that decides.
 -- Assumes nothing.
+use mathlib.Core.Bool.{true}
 use mathlib.Core.Path.{_≡_, sym, _∙_}
 use native.Mathlib.Omega.{arith}
 use lib.ListN.{length}
 use borrow.Author.Tests.{not-true, not-false}
+use Rattle.model.specs.Timestamp.{soundTimestamp, trimmed}
+use Rattle.timestamp.specs.Views.{stampOf}
 use Rattle.timestamp.proofs.Soundness.{unsound-tables, tables-past, tables-other, tables-above}
 use borrow.Author.Needs.{needs}
 use Rattle.timestamp.proofs.stamp.Timestamp.is_sound_for.Statement.{statement}
@@ -12,25 +15,30 @@ use Rattle.timestamp.proofs.stamp.Timestamp.is_sound_for.Tie as tie
 long : (c : tie.Start) → length (c .args .self .kn) ≡ 32
 long c = search needs
 
+-- what the first test leaves
+sound : (c : tie.Else1) → let a = c .before .before .before .args in soundTimestamp (a .n) (a .epsilon) (trimmed (a .epsilon) (stampOf (a .self))) ≡ true
+sound c = sym (c .before .is-sound .ensures) ∙ not-false _ (c .if1 .left)
+
 is-sound-requires : tie.Need-is-sound-requires
 is-sound-requires c κs = search needs
 
 returns : tie.Need-returns
-returns c = unsound-tables _ _ (c .before .before .before .pre .1 .1) (long (c .before .before .before)) _ _ _ (sym (c .before .is-sound .ensures) ∙ not-true _ (c .if1 .taken))
+returns c =
+    let start = c .before .before .before in
+    unsound-tables _ _ (start .pre .1 .1) (long start) _ _ _ (sym (c .before .is-sound .ensures) ∙ not-true _ (c .if1 .taken))
 
 returns-2 : tie.Need-returns-2
 returns-2 c =
-    tables-past _ _ (c .before .before .before .before .pre .1 .1) (long (c .before .before .before .before)) _ _ _ (sym (c .before .before .is-sound .ensures) ∙ not-false _ (c .before .if1 .left)) (c .if2 .taken)
+    let start = c .before .before .before .before in
+    tables-past _ _ (start .pre .1 .1) (long start) _ _ _ (sound (c .before)) (c .if2 .taken)
 
-add-if3 : tie.Need-add-if3
-add-if3 c = search needs
-
-rem-if3 : tie.Need-rem-if3
-rem-if3 c = search needs
+next-clock-requires : tie.Need-next-clock-requires
+next-clock-requires c κs = c .if2 .left
 
 returns-3 : tie.Need-returns-3
 returns-3 c =
-    tables-other _ _ (c .before .before .before .before .before .pre .1 .1) (long (c .before .before .before .before .before)) _ _ _ (sym (c .before .before .before .is-sound .ensures) ∙ not-false _ (c .before .before .if1 .left)) (c .before .if2 .left) (c .if3 .taken)
+    let start = c .before .before .before .before .before .before in
+    tables-other _ _ (start .pre .1 .1) (long start) _ _ _ (sound (c .before .before .before)) (c .before .before .if2 .left) (λ e. c .if3 .taken (c .before .next-clock .ensures ∙ e))
 
 slice-aggregate-counts-at-most : tie.Need-slice-aggregate-counts-at-most
 slice-aggregate-counts-at-most c = search needs
@@ -45,11 +53,14 @@ sub-counts-at-most : tie.Need-sub-counts-at-most
 sub-counts-at-most c = search needs
 
 counts-at-most-requires : tie.Need-counts-at-most-requires
-counts-at-most-requires c κs = omega (arith, long (c .before .before .before .before .before .before))
+counts-at-most-requires c κs = omega (arith, long (c .before .before .before .before .before .before .before))
 
 returns-4 : tie.Need-returns-4
 returns-4 c =
-    c .counts-at-most .ensures ∙ tables-above _ _ (c .before .before .before .before .before .before .before .pre .1 .1) (long (c .before .before .before .before .before .before .before)) _ _ _ (sym (c .before .before .before .before .before .is-sound .ensures) ∙ not-false _ (c .before .before .before .before .if1 .left)) (c .before .before .before .if2 .left) (c .before .before .if3 .left)
+    let start = c .before .before .before .before .before .before .before .before in
+    c .counts-at-most .ensures
+    ∙ tables-above _ _ (start .pre .1 .1) (long start) _ _ _ (sound (c .before .before .before .before .before)) (c .before .before .before .before .if2 .left)
+    (sym (c .before .before .before .next-clock .ensures) ∙ c .before .before .if3 .left)
 
 pub is-sound-for-spec : {M : Type 1} → statement M
 is-sound-for-spec =
@@ -58,8 +69,7 @@ is-sound-for-spec =
     is-sound-requires
     returns
     returns-2
-    add-if3
-    rem-if3
+    next-clock-requires
     returns-3
     slice-aggregate-counts-at-most
     add-counts-at-most
