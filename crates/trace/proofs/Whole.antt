@@ -1,5 +1,5 @@
 -- What reading a tick as it comes rests on: whoever reads up to where it ends so far never reads past the tick, and a tick that is whole stays so.
--- The batch of a whole tick ends exactly after its last entry. Assumes nothing.
+-- So the definition of the whole program is what reading tick by tick gives. The batch of a whole tick ends exactly after its last entry. Assumes nothing.
 use Prim.Native.Nat.{ℕ, zero, suc, _+_, _-_, _%_, _≤_, _<_}
 use mathlib.Core.Path.{_≡_, refl, sym, ap, subst, _∙_}
 use mathlib.Core.Bool.{true}
@@ -10,11 +10,16 @@ use native.Mathlib.Numerals.{one-add, add-one}
 use native.Mathlib.Omega.{arith}
 use lib.Dec.{leb}
 use lib.ListN.{length, take, drop, getD, length-append, length-drop, length-take, List·getD-append, List·getD-eq-default, drop-of-length-le}
-use lib.Seq.{drop-append-le, drop-cons}
+use lib.Seq.{drop-append-le, drop-cons, take-all, take-append-seam, drop-append-seam}
 use borrow.Author.Tests.{le-leb, eq-eqb, ne-eqb}
 use Rattle.laws.proofs.Numbers.{lt-or-ge, eq-or-ne}
+use Rattle.model.specs.Setup.{Setup}
+use Rattle.model.specs.Timestamp.{Timestamp}
 use Rattle.model.specs.Batch.{endsAfter, exactBatch}
 use Rattle.trace.proofs.Giving.{drop-take}
+use Rattle.trace.proofs.Ticks.{call-cut}
+use Rattle.trace.specs.Text.{refusedLine}
+use Rattle.trace.specs.Replay.{stopped, turn, replayTicks}
 use Rattle.trace.specs.Trace.{entriesSize, payloadSize, batchAt, batchOf, tickEnd, oneBefore}
 
 -- ---- k entries, of which the first bytes are there
@@ -160,3 +165,21 @@ one-before-next modulus clock h =
     let e : clock - 1 + 1 ≡ clock = omega arith in
     rw (ne-eqb clock 0 later, e) (mod-eq-of-lt h))
     (eq-or-ne clock 0)
+
+-- ---- so the lines of a trace are those of its ticks, read one by one
+
+-- the next tick is there, whole
+pub next-whole : (s : Setup) (k : ℕ) (tables : Timestamp) (holdback mine rest : List ℕ) → tickEnd mine ≡ length mine
+    → replayTicks s (suc k) tables holdback (mine ++ rest)
+    ≡ turn s tables holdback mine .text
+    ++ stopped (turn s tables holdback mine .number) (replayTicks s k (turn s tables holdback mine .tables) (turn s tables holdback mine .holdback) rest)
+unfolding replayTicks
+next-whole s k tables holdback mine rest e =
+    let ends : tickEnd (mine ++ rest) ≡ length mine = stays-whole mine rest (omega arith) ∙ e in
+    rw (ends, take-append-seam mine rest, drop-append-seam mine rest)
+
+-- the trace ends in it
+pub next-cut : (s : Setup) (k : ℕ) (tables : Timestamp) (holdback mine : List ℕ) → length mine < tickEnd mine → replayTicks s (suc k) tables holdback mine ≡ refusedLine 5
+unfolding replayTicks turn
+next-cut s k tables holdback mine h =
+    rw (take-all (tickEnd mine) mine (omega arith), ← call-cut mine (tickEnd mine) refl (λ e. omega arith))
