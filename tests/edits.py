@@ -55,7 +55,7 @@ def place(crate, file, old):
     if not file.startswith("src/") or "⌜" in line or not heads:
         return None
     kinds = re.findall(r"^impl(?:<[^>]*>)? (\w+)", text[:at], re.M)
-    module = [] if file == "src/lib.rt" else [Path(file).stem]
+    module = [] if file in ("src/lib.rt", "src/main.rt") else [Path(file).stem]
     return "/".join(module + ([kinds[-1]] if heads[-1][1] else []) + [heads[-1][2]])
 
 
