@@ -4,7 +4,8 @@
 `rt ci` tries each edit of crates/CRATE/must-fail by a check of its whole crate. The edits here are tried many at once, at most
 one for each function: a changed body touches the proof of its own function alone, and the prover says of each function by
 itself whether its facts hold. An edit is refused if a fact in the proof of the very function that it changes is refused; that
-a function it calls is not proved does not count. An edit of a contract or of a definition is tried by itself.
+a function it calls is not proved, or that the proof no longer fits the code's shape, does not count. An edit of a contract or
+of a definition is tried by itself.
 """
 import re
 import shutil
@@ -15,7 +16,8 @@ from concurrent.futures import ThreadPoolExecutor
 from pathlib import Path
 
 ROOT = Path(__file__).resolve().parent.parent
-RESTS_ON = "was not admitted"
+# errors that say nothing of a fact: about what a proof rests on, and about names and fields that the changed code no longer has
+NO_FACT = ("was not admitted", "that can be named from here", "has no field")
 
 
 class Edit:
@@ -72,22 +74,24 @@ def rounds(edits):
     return made
 
 
-def fact(log, crate, function):
-    """The first error in the proof of a function that is not about what it rests on, or what the search for one lacks; or None."""
-    proof = f"/{crate}/proofs/{function}/"
+def first_error(log, folder="/crates/"):
+    """The first error about a fact, in a file of a folder; None if there is none."""
     for line in log.splitlines():
-        if ": error: " in line and proof in line and RESTS_ON not in line:
-            return line.split(f"/{crate}/", 1)[1]
+        if ": error: " in line and folder in line and not any(words in line for words in NO_FACT):
+            return line.split("/crates/", 1)[-1]
+    return None
+
+
+def fact(log, crate, function):
+    """Which fact in the proof of a function is refused, or what the search for a proof lacks; or None."""
+    found = first_error(log, f"/{crate}/proofs/{function}/")
+    if found:
+        return found
     path = f"fn {crate}::" + function.replace("/", "::")
     for line in log.splitlines():
         if line.startswith(f"{path}: no proof") and "does not close" in line:
             return f"{path}: " + line.rsplit("; ", 1)[1]
     return None
-
-
-def first_error(log):
-    """Where a check was refused first."""
-    return next((line.split("/crates/", 1)[-1] for line in log.splitlines() if ": error: " in line), "no error")
 
 
 def judge(edit, crate, log):
@@ -108,7 +112,7 @@ def verdict(edit, crate, log):
     where = judge(edit, crate, log) if "logic=not-proved" in log else None
     if where:
         return f"edit {crate}/{edit.name}: refused at {where[:160]}", 0
-    return f"edit {crate}/{edit.name}: NOT REFUSED; the check's first error: {first_error(log)[:160]}", 1
+    return f"edit {crate}/{edit.name}: NOT REFUSED; the check's first error: {str(first_error(log))[:160]}", 1
 
 
 def try_crate(crate):

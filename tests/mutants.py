@@ -36,9 +36,10 @@ def try_mutant(path):
         log = subprocess.run(["rt", "check", "theory"], cwd=work, env=settings, text=True, stdout=subprocess.PIPE, stderr=subprocess.STDOUT).stdout
     if "rt: model proved" not in log:
         return [f"mutant {edit.name}: the definitions are not well-formed"], 1
-    if "rt: theory proved" in log:
+    where = first_error(log)
+    if "rt: theory proved" in log or where is None:
         return [f"mutant {edit.name}: NOT REFUSED"], 1
-    return [f"mutant {edit.name}: refused at {first_error(log)[:160]}"], 0
+    return [f"mutant {edit.name}: refused at {where[:160]}"], 0
 
 
 def main():
