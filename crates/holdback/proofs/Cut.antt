@@ -1,13 +1,13 @@
 -- What a sound queue gives to a change of it, and what of it is due.
 -- Assumes nothing.
-use Prim.Native.Nat.{ℕ, _≤_, _<_}
+use Prim.Native.Nat.{ℕ, _≤_}
 use native.Mathlib.Omega.{arith}
-use mathlib.Core.Path.{_≡_, refl, sym, ap, _∙_}
+use mathlib.Core.Path.{_≡_, sym, ap, _∙_}
 use mathlib.Core.Bool.{Bool, true, not}
 use mathlib.Core.List.{List}
 use lib.ListN.{length, take, drop}
 use lib.Seq.{length-take-le}
-use Rattle.laws.specs.Lists.{every, select, leading}
+use Rattle.laws.specs.Lists.{select, leading}
 use Rattle.laws.proofs.Lists.{every-mono, leading-le}
 use Rattle.model.specs.Setup.{Setup, depth}
 use Rattle.model.specs.Frame.{Frame, twoAt, wellFormed}
@@ -22,7 +22,7 @@ use Rattle.holdback.proofs.Changes.{length-held}
 use Rattle.holdback.proofs.Order.{due-prefix, due-rest}
 
 module _ (s : Setup) (v : ℕ) (b : List ℕ) (sound : soundHoldback s v b ≡ true) where
-  pub count-small : (count : ℕ) → Limits s → count ≡ twoAt b 0 → count < 65535
+  pub count-small : (count : ℕ) → Limits s → count ≡ twoAt b 0 → count ≤ 1792
   unfolding depth
   count-small count limits e =
       omega (arith, sound-few s v b sound, depth-most (s .n) (s .epsilon) (s .delta) (limits .n-most) (limits .epsilon-most) (limits .delta-most))

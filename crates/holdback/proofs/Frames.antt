@@ -1,7 +1,7 @@
 -- The frames of a queue by their index.
 -- Assumes nothing.
 use Prim.Native.Nat.{ℕ, zero, suc, _+_, _*_, _≤_, _<_}
-use native.Mathlib.Nat.{add-zero, zero-add}
+use native.Mathlib.Nat.{add-zero, zero-add, suc-mul}
 use native.Mathlib.Omega.{arith}
 use mathlib.Core.Path.{_≡_, refl, sym, ap, ap₂, _∙_}
 use mathlib.Core.Bool.{true}
@@ -90,6 +90,10 @@ module _ (epsilon : ℕ) (s : List ℕ) (k : ℕ) (ok : wellFormed epsilon (byte
       let p : payloadCountAt epsilon < frameEnd epsilon rest = end-past epsilon rest in
       omega (arith, start-suc epsilon s k, length-drop (frameStart epsilon s k) s)
 
+-- each of the first k frames is well-formed
+abbrev pub FormedUpTo : ℕ → List ℕ → ℕ → Type 0
+FormedUpTo epsilon s k = (i : ℕ) → i < k → wellFormed epsilon (bytesAt epsilon s i) ≡ true
+
 -- a frame is at most as long as the longest
 pub start-longest : (epsilon : ℕ) (s : List ℕ) (k : ℕ) → wellFormed epsilon (bytesAt epsilon s k) ≡ true
     → frameStart epsilon s (suc k) ≤ frameStart epsilon s k + (39 + 2 * epsilon)
@@ -98,6 +102,14 @@ start-longest epsilon s k ok =
     let rest : List ℕ = drop (frameStart epsilon s k) s in
     let o = formed epsilon (take (frameEnd epsilon rest) rest) ok in
     omega (arith, start-suc epsilon s k, formed-size epsilon (take (frameEnd epsilon rest) rest) ok, end-of-bytes epsilon rest)
+
+-- k frames are not longer than k of the longest
+pub start-most : (epsilon : ℕ) (s : List ℕ) (k : ℕ) → FormedUpTo epsilon s k → frameStart epsilon s k ≤ 2 + k * (39 + 2 * epsilon)
+start-most epsilon s zero ok = omega (arith, start-zero epsilon s)
+start-most epsilon s (suc k) ok =
+    let before-it = start-most epsilon s k (λ i l. ok i (omega arith)) in
+    let this = start-longest epsilon s k (ok k (omega arith)) in
+    omega (arith, suc-mul k (39 + 2 * epsilon))
 
 pub bytes-drop : (n : ℕ) (s : List ℕ) → Bytes s → Bytes (drop n s)
 bytes-drop n s b i = rw (getD-drop n s i 0) (b (n + i))
@@ -112,10 +124,6 @@ bytes-take n s b i =
     ]
 
 -- ---- the bytes up to frame k, as they are written
-
--- each of the first k frames is well-formed
-abbrev pub FormedUpTo : ℕ → List ℕ → ℕ → Type 0
-FormedUpTo epsilon s k = (i : ℕ) → i < k → wellFormed epsilon (bytesAt epsilon s i) ≡ true
 
 module _ (epsilon : ℕ) (s : List ℕ) (bytes : Bytes s) where
   pub encode-frame : (k : ℕ) → wellFormed epsilon (bytesAt epsilon s k) ≡ true → encode (frameAt epsilon s k) ≡ bytesAt epsilon s k

@@ -3,7 +3,7 @@
 use Prim.Native.Nat.{ℕ, zero, suc, _+_, _≤_, _<_}
 use native.Mathlib.Nat.{not-suc-le-zero}
 use native.Mathlib.Omega.{arith}
-use mathlib.Core.Path.{_≡_, refl, sym, ap, ap₂, _∙_}
+use mathlib.Core.Path.{_≡_, refl, sym, ap, _∙_}
 use mathlib.Core.Bool.{true}
 use mathlib.Core.List.{List, [], _∷_, _++_, append-assoc, append-nil, List·Memᴰ}
 use lib.ListN.{length, take, drop, getD, length-append, take-append-drop}
@@ -17,7 +17,7 @@ use Rattle.lemmas.proofs.RoundTrip.{frame-end, two-at-encode}
 use Rattle.holdback.specs.Queue.{frameStart, endOf, frameAt, Figures}
 use Rattle.holdback.proofs.RoundTrip.{Bytes, encode-decode}
 use Rattle.holdback.proofs.Frames.{start-zero, start-suc}
-use Rattle.holdback.proofs.Changes.{Pieces, pieces, formed-frames, length-held}
+use Rattle.holdback.proofs.Changes.{pieces, formed-frames, length-held}
 
 -- frames as wide as the drift limit has them
 abbrev pub Wide : ℕ → List Frame → Type 0

@@ -1,8 +1,8 @@
 -- The walk over the frames of a queue: one frame judged, one turn, the end.
 -- Assumes nothing.
-use Prim.Native.Nat.{ℕ, zero, suc, _+_, _-_, _≤_, _<_}
+use Prim.Native.Nat.{ℕ, zero, suc, _+_, _*_, _-_, _≤_, _<_}
 use native.Mathlib.Numerals.{add-one}
-use native.Mathlib.Nat.{not-suc-le-zero}
+use native.Mathlib.Nat.{not-suc-le-zero, mul-le-mul}
 use native.Mathlib.Omega.{arith}
 use mathlib.Core.Path.{_≡_, refl, sym, ap, ap₂, _∙_}
 use mathlib.Core.Bool.{Bool, true, false, _||_, not, cond}
@@ -19,12 +19,15 @@ use Rattle.model.specs.Frame.{Frame, twoAt, decode, frameEnd, wellFormed}
 use Rattle.model.specs.Order.{before}
 use Rattle.model.specs.Holdback.{held, passes, sameOrigin, soundHoldback}
 use Rattle.lemmas.proofs.Bounds.{Limits}
+use Rattle.timestamp.proofs.InLimits.{depth-most}
 use Rattle.holdback.specs.Queue.{frameStart, bytesAt, frameAt, Stands}
-use Rattle.holdback.specs.Sound.{fits, follows, isNew, frameSound, Walking, Between, Starting, Opened, openedQueue}
+use Rattle.holdback.specs.Sound.{fits, follows, isNew, frameSound, Walking, Between, Starting, Opened, openedQueue, Led}
 use Rattle.holdback.specs.Seen.{InWindow, isMarked, marked, slotOf, seenTable, tableLength}
+use Rattle.holdback.specs.Marks.{markUnit, noMarks, Marking}
 use Rattle.holdback.proofs.RoundTrip.{passing}
-use Rattle.holdback.proofs.Frames.{start-zero, start-suc, start-inside, start-within, held-tab, FormedUpTo}
+use Rattle.holdback.proofs.Frames.{start-zero, start-suc, start-inside, start-within, start-most, held-tab, FormedUpTo}
 use Rattle.holdback.proofs.Judging.{fitting, frame-fits, frame-follows, frame-new, sound-by, sound-few, sound-frames, sound-formed}
+use Rattle.holdback.proofs.Marked.{unmarked}
 use Rattle.holdback.proofs.Seen.{fitting-window, seen-at, seen-more, length-seen}
 
 -- ---- where a frame stands, by the code's numbers
@@ -72,6 +75,15 @@ module _ {s : Setup} {v : ℕ} {b table : List ℕ} {i prev at : ℕ} (walk : Wa
 
   pub at-inside : at ≤ length b
   at-inside = rw (walk .starts) (start-within (s .epsilon) b i (walk .two) formed-so-far)
+
+  -- a mark has room for it
+  pub at-low-enough : Limits s → i ≤ depth (s .n) (s .epsilon) (s .delta) → (i < 2048) × (at < markUnit)
+  unfolding depth
+  at-low-enough limits few =
+      let most : i ≤ 1792 = omega (arith, depth-most (s .n) (s .epsilon) (s .delta) (limits .n-most) (limits .epsilon-most) (limits .delta-most)) in
+      let wide : 39 + 2 * s .epsilon ≤ 71 = omega (arith, limits .epsilon-most) in
+      let all : i * (39 + 2 * s .epsilon) ≤ 1792 * 71 = mul-le-mul most wide in
+      (omega arith, omega (arith, walk .starts, start-most (s .epsilon) b i formed-so-far))
 
   pub table-long : length table ≡ tableLength
   table-long = ap length (walk .table-is) ∙ length-seen s v (tab i (frameAt (s .epsilon) b))
@@ -212,7 +224,7 @@ follows-none s v b i e = ap (follows s v b) (sym e)
 
 -- ---- the whole walk
 
-pub walk-starts : {s : Setup} {v : ℕ} {b table : List ℕ} {count : ℕ} → Starting s v b table count → Walking s v b table 0 2 2
+pub walk-starts : {s : Setup} {v : ℕ} {b table marks : List ℕ} {count : ℕ} → Starting s v b table marks count → Walking s v b table 0 2 2
 unfolding tab
 walk-starts {s} {v} {b} begin =
     record {
@@ -223,7 +235,7 @@ walk-starts {s} {v} {b} begin =
       table-is = begin .empty;
     }
 
-pub starting-long : {s : Setup} {v : ℕ} {b table : List ℕ} {count : ℕ} → Starting s v b table count → length table ≡ tableLength
+pub starting-long : {s : Setup} {v : ℕ} {b table marks : List ℕ} {count : ℕ} → Starting s v b table marks count → length table ≡ tableLength
 starting-long {s} {v} begin = ap length (begin .empty) ∙ length-seen s v []
 
 pub verdict-no : (s : Setup) (v : ℕ) (b : List ℕ) (i next : ℕ) → next ≡ verdictAt s v b i → next ≡ 0 → frameSound s v b i ≡ false
@@ -286,9 +298,9 @@ module _ {s : Setup} {v : ℕ} {b table : List ℕ} {i prev at : ℕ} (walk : Wa
             ∙ ap (λ (n : ℕ). seenTable s v (tab n (frameAt (s .epsilon) b))) (sym (add-one i));
       }
 
-pub opened-no : {s : Setup} {v : ℕ} {b table : List ℕ} → soundHoldback s v b ≡ false → table ≡ seenTable s v [] → Opened s v b false 0 2 table
+pub opened-no : {s : Setup} {v : ℕ} {b table marks : List ℕ} → soundHoldback s v b ≡ false → table ≡ seenTable s v [] → marks ≡ noMarks → Opened s v b false 0 2 table marks
 unfolding openedQueue
-opened-no {s} {v} {b} h e = record { sound-is = sym h; count-is = rw h; stop-is = rw h; table-is = e ∙ rw h }
+opened-no {s} {v} {b} h e none = record { sound-is = sym h; count-is = rw h; stop-is = rw h; table-is = e ∙ rw h; marked = unmarked none }
 
 pub walk-fails : (s : Setup) (v : ℕ) (b : List ℕ) (i : ℕ) → i < twoAt b 0 → frameSound s v b i ≡ false → soundHoldback s v b ≡ false
 walk-fails s v b i l h = false-of-no (soundHoldback s v b) (λ e. clash (sound-frames s v b e i l) h)
@@ -296,10 +308,10 @@ walk-fails s v b i l h = false-of-no (soundHoldback s v b) (λ e. clash (sound-f
 pub too-many : (s : Setup) (v : ℕ) (b : List ℕ) → depth (s .n) (s .epsilon) (s .delta) < twoAt b 0 → soundHoldback s v b ≡ false
 too-many s v b h = false-of-no (soundHoldback s v b) (λ e. omega (arith, sound-few s v b e))
 
-pub opened-yes : {s : Setup} {v : ℕ} {b t table : List ℕ} {count i prev at : ℕ} → Starting s v b t count → Walking s v b table i prev at → i ≤ count → count ≤ i
-    → Opened s v b true count at table
+pub opened-yes : {s : Setup} {v : ℕ} {b t m table marks : List ℕ} {count i prev at : ℕ} → Starting s v b t m count → Walking s v b table i prev at → Marking (s .epsilon) b i marks → i ≤ count → count ≤ i
+    → Opened s v b true count at table marks
 unfolding openedQueue
-opened-yes {s} {v} {b} {count} {i} begin walk le ge =
+opened-yes {s} {v} {b} {marks} {count} {i} begin walk marked le ge =
     let all : i ≡ twoAt b 0 = omega (arith, begin .counted) in
     let sound : soundHoldback s v b ≡ true =
     sound-by s v b (omega (arith, begin .counted, begin .few)) (λ k l. walk .each k (omega arith)) in
@@ -311,18 +323,10 @@ opened-yes {s} {v} {b} {count} {i} begin walk le ge =
           walk .table-is
           ∙ ap (seenTable s v)
           (ap (λ (n : ℕ). tab n (frameAt (s .epsilon) b)) all ∙ sym (held-tab (s .epsilon) b) ∙ rw sound);
+      marked = let e : i ≡ count = omega arith in rw (← e) marked;
     }
 
 -- ---- a search in a sound queue: the frames at the front of which a test holds
-
--- the walk has come to frame i, which starts at `at`, and the test holds of every frame before it
-pub record Led (p : Frame → Bool) (s : Setup) (v : ℕ) (b : List ℕ) (count i at : ℕ) : Type 0 where
-  pub sound : soundHoldback s v b ≡ true
-  pub two : 2 ≤ length b
-  pub counted : count ≡ twoAt b 0
-  pub starts : at ≡ frameStart (s .epsilon) b i
-  pub most : i ≤ count
-  pub ahead : (k : ℕ) → k < i → p (frameAt (s .epsilon) b k) ≡ true
 
 pub led-starts : {p : Frame → Bool} {s : Setup} {v : ℕ} {b : List ℕ} {count : ℕ} → (soundHoldback s v b ≡ true) × ((2 ≤ length b) × (count ≡ twoAt b 0)) → Led p s v b count 0 2
 led-starts {s} {b} q =
@@ -378,11 +382,15 @@ module _ {p : Frame → Bool} {s : Setup} {v : ℕ} {b : List ℕ} {count i at :
           let l : i < twoAt b 0 = omega (arith, led .counted) in
           ap (passes s) part ∙ fitting s v (bytesAt (s .epsilon) b i) (frame-fits s v b i (sound-frames s v b (led .sound) i l)) .passed
 
+      -- a test of its bytes
+      pub led-test : (q : Frame → Bool) {t : Bool} → t ≡ q (decode (s .epsilon) (take (at + size - at) (drop at b))) → t ≡ q (frameAt (s .epsilon) b i)
+      unfolding frameAt
+      led-test q h = h ∙ ap (λ (l : List ℕ). q (decode (s .epsilon) l)) part
+
       -- the test t of the frame's bytes
       module _ {t : Bool} (h : t ≡ p (decode (s .epsilon) (take (at + size - at) (drop at b)))) where
         test-is : t ≡ p (frameAt (s .epsilon) b i)
-        unfolding frameAt
-        test-is = h ∙ ap (λ (l : List ℕ). p (decode (s .epsilon) l)) part
+        test-is = led-test p h
 
         pub led-stops : not t ≡ true → Stands (s .epsilon) b (leading p (held (s .epsilon) b)) i at
         led-stops n = stands (λ _. sym test-is ∙ false-of-not t n)

@@ -3,6 +3,7 @@
 mod change;
 mod compare;
 mod due;
+mod marks;
 mod origins;
 mod search;
 mod soundness;
@@ -12,6 +13,7 @@ pub use change::Place;
 pub use change::empty;
 pub use change::put;
 pub use due::cut_due;
+pub use marks::shift_marks;
 pub use origins::mark;
 pub use origins::repeats;
 pub use search::place_for;

@@ -1,5 +1,7 @@
 // 01: "It is sound if": one walk over the frames, each judged once, its origin by one look-up.
 use crate::compare::comes_before;
+use crate::marks::forget;
+use crate::marks::note;
 use crate::origins::mark;
 use crate::origins::repeats;
 use crate::test::fits;
@@ -7,14 +9,13 @@ use timestamp::Setup;
 use timestamp::depth;
 ghost use mathlib.Core.Path.{_≡_};
 ghost use mathlib.Core.Bool.{true, cond};
-ghost use mathlib.Core.List.{[]};
 ghost use Prim.Native.Nat.{suc, _≤_, _<_};
 ghost use lib.ListN.{length, replicate};
 ghost use Rattle.model.specs.Setup.{inLimits};
-ghost use Rattle.model.specs.Frame.{twoAt};
 ghost use Rattle.timestamp.specs.Views.{setupOf};
 ghost use Rattle.holdback.specs.Queue.{frameStart};
-ghost use Rattle.holdback.specs.Seen.{tableLength, seenTable};
+ghost use Rattle.holdback.specs.Seen.{tableLength};
+ghost use Rattle.holdback.specs.Marks.{noMarks};
 ghost use Rattle.holdback.specs.Sound.{follows, frameSound, Walking, Between, Starting, Opened};
 
 // What the walk answers: sound or not, the number of frames, and where they end. Of an unsound queue the figures are those
@@ -59,11 +60,19 @@ fn judge_at(s: Setup, v: usize, buf: &[u8], seen: &[u8], i: usize, prev: usize, 
     next
 }
 
-// The walk, with the origins of the frames so far in the table. At a frame that is not sound the table is cleared again.
-fn walk_frames(s: Setup, v: usize, buf: &[u8], count: usize, seen: &mut [u8]) -> Walk
+// The walk, with the origins of the frames so far in the table, and marks of some of them. At a frame that is not sound both are
+// cleared again.
+fn walk_frames(
+    s: Setup,
+    v: usize,
+    buf: &[u8],
+    count: usize,
+    seen: &mut [u8],
+    marks: &mut [usize],
+) -> Walk
     requires { ⌜ (inLimits (setupOf s) ≡ true) × (v < s .modulus) ⌝ }
-    requires { ⌜ Starting (setupOf s) v (now buf) (now seen) count ⌝ }
-    ensures { λ w. ⌜ Opened (setupOf s) v (now (buf .entry)) (w .sound) (w .count) (w .end) (now (seen .exit)) ⌝ }
+    requires { ⌜ Starting (setupOf s) v (now buf) (now seen) (now marks) count ⌝ }
+    ensures { λ w. ⌜ Opened (setupOf s) v (now (buf .entry)) (w .sound) (w .count) (w .end) (now (seen .exit)) (now (marks .exit)) ⌝ }
 {
     let slots = seen.len();
     let mut i = 0;
@@ -73,6 +82,7 @@ fn walk_frames(s: Setup, v: usize, buf: &[u8], count: usize, seen: &mut [u8]) ->
         let next = judge_at(s, v, buf, seen, i, prev, at);
         if next == 0 {
             splice::clear(seen, 0, slots);
+            forget(marks);
             return Walk {
                 sound: false,
                 count: 0,
@@ -80,6 +90,7 @@ fn walk_frames(s: Setup, v: usize, buf: &[u8], count: usize, seen: &mut [u8]) ->
             };
         }
         mark(s, v, &buf[at..next], seen);
+        note(marks, i, at);
         prev = at;
         at = next;
         i += 1;
@@ -92,15 +103,13 @@ fn walk_frames(s: Setup, v: usize, buf: &[u8], count: usize, seen: &mut [u8]) ->
 }
 
 // 01: "It is sound if it holds at most n(δ + 3ε) frames that pass 10 to 12, strictly in order, no station and r twice, each
-// sum at most ε − 1 past v and each sum + δ + ε not before v." The table is lent, and comes back with the origins of the
-// frames with which the tick starts.
-pub fn sound(s: Setup, v: usize, buf: &[u8], seen: &mut [u8]) -> Walk
+// sum at most ε − 1 past v and each sum + δ + ε not before v." The two tables are lent, both empty, and come back with the origins
+// of the frames with which the tick starts, and with marks of some of them.
+pub fn sound(s: Setup, v: usize, buf: &[u8], seen: &mut [u8], marks: &mut [usize]) -> Walk
     requires { ⌜ (inLimits (setupOf s) ≡ true) × (v < s .modulus) ⌝ }
-    requires { ⌜ (2 ≤ length (now buf)) × (length (now seen) ≡ tableLength) ⌝ }
-    ensures { λ w. ⌜ Opened (setupOf s) v (now (buf .entry)) (w .sound) (w .count) (w .end) (now (seen .exit)) ⌝ }
+    requires { ⌜ (2 ≤ length (now buf)) × ((now seen ≡ replicate tableLength 0) × (now marks ≡ noMarks)) ⌝ }
+    ensures { λ w. ⌜ Opened (setupOf s) v (now (buf .entry)) (w .sound) (w .count) (w .end) (now (seen .exit)) (now (marks .exit)) ⌝ }
 {
-    let slots = seen.len();
-    splice::clear(seen, 0, slots);
     let count = splice::two_at(buf, 0);
     if depth(s.n as usize, s.epsilon as usize, s.delta as usize) < count {
         return Walk {
@@ -109,5 +118,5 @@ pub fn sound(s: Setup, v: usize, buf: &[u8], seen: &mut [u8]) -> Walk
             end: 2,
         };
     }
-    walk_frames(s, v, buf, count, seen)
+    walk_frames(s, v, buf, count, seen, marks)
 }

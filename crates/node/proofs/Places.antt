@@ -1,6 +1,6 @@
 -- The queue's buffer within a tick: that one more frame fits, and what taking, opening and emptying leave. Assumes nothing.
-use Prim.Native.Nat.{ℕ, zero, suc, _+_, _*_, _-_, _≤_, _<_}
-use native.Mathlib.Nat.{mul-le-mul-right, mul-comm, suc-mul, add-mul, one-mul}
+use Prim.Native.Nat.{ℕ, _+_, _*_, _-_, _≤_, _<_}
+use native.Mathlib.Nat.{mul-le-mul-right, mul-comm, add-mul, one-mul}
 use native.Mathlib.Omega.{arith}
 use mathlib.Core.Path.{_≡_, refl, sym, ap, _∙_}
 use mathlib.Core.Bool.{true, false, cond}
@@ -24,10 +24,12 @@ use Rattle.timestamp.proofs.InLimits.{frames-most}
 use Rattle.holdback.specs.Queue.{frameStart, endOf, Figures}
 use Rattle.holdback.specs.Seen.{InWindow, seenTable, marked}
 use Rattle.holdback.specs.Sound.{openedQueue}
+use Rattle.holdback.specs.Marks.{markUnit, Marking, Moving, movedMarks}
 use Rattle.holdback.proofs.RoundTrip.{Bytes}
-use Rattle.holdback.proofs.Frames.{start-zero, start-longest, FormedUpTo}
+use Rattle.holdback.proofs.Frames.{start-zero, start-within, start-most}
 use Rattle.holdback.proofs.Changes.{formed-frames, length-held}
-use Rattle.holdback.proofs.Placed.{end-behind}
+use Rattle.holdback.proofs.Placed.{Wide, start-before, start-behind, count-behind, end-behind}
+use Rattle.holdback.proofs.Marked.{moving, moved-marking, no-frames}
 use Rattle.holdback.proofs.Seen.{seen-insert}
 use Rattle.node.specs.States.{Timed, Queued, Taking, Placing, QueueOpened}
 use Rattle.node.proofs.Verdicts.{taken-passed, late-window}
@@ -72,7 +74,7 @@ pub record Known (s : Setup) (v : ℕ) (buffer : List ℕ) (place : ℕ) (bytes 
   pub inside : place ≤ twoAt buffer 0
   pub form : wellFormed (s .epsilon) bytes ≡ true
   pub ok : QueueOk s v (held (s .epsilon) buffer)
-  pub few : twoAt buffer 0 < 65535
+  pub few : twoAt buffer 0 < 1792
   pub window : InWindow s v (decode (s .epsilon) bytes)
 
 pub known : {s : Setup} {v : ℕ} {buffer : List ℕ} {place : ℕ} {bytes : List ℕ} → Taking s v buffer place bytes → Known s v buffer place bytes
@@ -100,14 +102,6 @@ known {s} {v} {buffer} {place} {bytes} t =
       window = late-window s v (decode (s .epsilon) bytes) (passed .frame) (passed .late);
     }
 
--- the bytes of k frames are not longer than k of the longest
-start-most : (epsilon : ℕ) (buffer : List ℕ) (k : ℕ) → FormedUpTo epsilon buffer k → frameStart epsilon buffer k ≤ 2 + k * (39 + 2 * epsilon)
-start-most epsilon buffer zero ok = omega (arith, start-zero epsilon buffer)
-start-most epsilon buffer (suc k) ok =
-    let before-it = start-most epsilon buffer k (λ i l. ok i (omega arith)) in
-    let this = start-longest epsilon buffer k (ok k (omega arith)) in
-    omega (arith, suc-mul k (39 + 2 * epsilon))
-
 module _ {s : Setup} {v : ℕ} {buffer : List ℕ} {place : ℕ} {bytes : List ℕ} (t : Taking s v buffer place bytes) where
   abbrev k : Known s v buffer place bytes
   k = known t
@@ -125,6 +119,18 @@ module _ {s : Setup} {v : ℕ} {buffer : List ℕ} {place : ℕ} {bytes : List �
       let shape = formed-from (s .epsilon) bytes (k .form) in
       let many : (twoAt buffer 0 + 1) * (39 + 2 * s .epsilon) ≤ depth (s .n) (s .epsilon) (s .delta) * (39 + 2 * s .epsilon) = mul-le-mul-right (39 + 2 * s .epsilon) one in
       omega (arith, mul-comm (depth (s .n) (s .epsilon) (s .delta)) (39 + 2 * s .epsilon), add-mul (twoAt buffer 0) 1 (39 + 2 * s .epsilon), one-mul (39 + 2 * s .epsilon))
+
+  short : length bytes ≤ 71
+  unfolding width
+  short = let shape = formed-from (s .epsilon) bytes (k .form) in omega (arith, k .limits .epsilon-most)
+
+  -- the marks can be moved
+  pub movable : {marks : List ℕ} → Marking (s .epsilon) buffer (twoAt buffer 0) marks → Moving marks (length bytes)
+  movable m = moving m (omega (arith, k .few)) (omega (arith, short))
+
+  start-low : (i : ℕ) → i < twoAt buffer 0 → frameStart (s .epsilon) buffer i + length bytes < markUnit
+  start-low i h =
+      omega (arith, start-within (s .epsilon) buffer i (k .two) (λ j l. formed-frames (s .epsilon) buffer (k .formed) j (omega arith)), t .size, size-small s (k .limits), short)
 
   -- what placing it is told
   pub figures : {count at stop : ℕ} → count ≡ twoAt buffer 0 → Placing (s .epsilon) buffer place at stop → Figures (s .epsilon) buffer count stop place at
@@ -152,40 +158,52 @@ module _ {s : Setup} {v : ℕ} {buffer : List ℕ} {place : ℕ} {bytes : List �
         ap (held (s .epsilon)) e
         ∙ held-frames (s .epsilon) more (drop (length (encodeFrames more)) buffer) (λ g m. more-ok .frames g m .sound .wide) (queue-few s v more (k .limits) (k .below) more-ok)
 
-    pub more-ends : Bytes buffer → Bytes bytes → endOf (s .epsilon) buffer′ ≡ endOf (s .epsilon) buffer + length bytes
-    more-ends clean bytes-clean =
-        let here : Placing (s .epsilon) buffer place (frameStart (s .epsilon) buffer place) (endOf (s .epsilon) buffer) = record { starts = refl; ends = refl } in
-        end-behind (figures refl here) clean bytes bytes-clean (k .form) (λ g m. more-ok .frames g m .sound .wide) buffer′ e
+    module _ (clean : Bytes buffer) (bytes-clean : Bytes bytes) where
+      here : Figures (s .epsilon) buffer (twoAt buffer 0) (endOf (s .epsilon) buffer) place (frameStart (s .epsilon) buffer place)
+      here = figures refl (record { starts = refl; ends = refl })
 
-    pub more-queued : {table table′ : List ℕ} → table ≡ seenTable s v (held (s .epsilon) buffer) → table′ ≡ marked s v (decode (s .epsilon) bytes) table → Queued s v buffer′ table′
-    unfolding overlay
-    more-queued h h′ =
-        let room : length more < depth (s .n) (s .epsilon) (s .delta) = queue-room s v more (k .limits) (k .below) more-ok in
-        let long : length (encodeFrames more) ≤ length buffer = omega (arith, frames-long s more (k .limits) (more-ok .frames) (omega arith), t .size) in
-        record {
-          size = ap length e ∙ (length-overlay (encodeFrames more) buffer long ∙ t .size);
-          sound = ap (soundHoldback s v) e ∙ frames-sound s v more (drop (length (encodeFrames more)) buffer) (k .limits) (k .below) more-ok;
-          table-is =
-              h′ ∙ (ap (marked s v (decode (s .epsilon) bytes)) h ∙ (seen-insert s v (held (s .epsilon) buffer) place (decode (s .epsilon) bytes) ∙ sym (ap (seenTable s v) more-held)));
-        }
+      wide : Wide (s .epsilon) more
+      wide g m = more-ok .frames g m .sound .wide
+
+      pub more-ends : endOf (s .epsilon) buffer′ ≡ endOf (s .epsilon) buffer + length bytes
+      more-ends = end-behind here clean bytes bytes-clean (k .form) wide buffer′ e
+
+      more-marked : {marks marks′ : List ℕ} → Marking (s .epsilon) buffer (twoAt buffer 0) marks → marks′ ≡ movedMarks place (length bytes) marks → Marking (s .epsilon) buffer′ (twoAt buffer′ 0) marks′
+      more-marked old moved =
+          rw (count-behind here clean bytes bytes-clean (k .form) wide buffer′ e)
+          (moved-marking place (length bytes) old start-low (start-before here clean bytes bytes-clean (k .form) wide buffer′ e) (start-behind here clean bytes bytes-clean (k .form) wide buffer′ e) moved)
+
+      pub more-queued : {table table′ marks marks′ : List ℕ} → Queued s v buffer table marks → table′ ≡ marked s v (decode (s .epsilon) bytes) table → marks′ ≡ movedMarks place (length bytes) marks → Queued s v buffer′ table′ marks′
+      unfolding overlay
+      more-queued old h′ moved =
+          let room : length more < depth (s .n) (s .epsilon) (s .delta) = queue-room s v more (k .limits) (k .below) more-ok in
+          let long : length (encodeFrames more) ≤ length buffer = omega (arith, frames-long s more (k .limits) (more-ok .frames) (omega arith), t .size) in
+          record {
+            size = ap length e ∙ (length-overlay (encodeFrames more) buffer long ∙ t .size);
+            sound = ap (soundHoldback s v) e ∙ frames-sound s v more (drop (length (encodeFrames more)) buffer) (k .limits) (k .below) more-ok;
+            table-is =
+                h′ ∙ (ap (marked s v (decode (s .epsilon) bytes)) (old .table-is) ∙ (seen-insert s v (held (s .epsilon) buffer) place (decode (s .epsilon) bytes) ∙ sym (ap (seenTable s v) more-held)));
+            marked = more-marked (old .marked) moved;
+          }
 
 -- ---- the queue opened
 
 module _ (s : Setup) (v : ℕ) (buffer : List ℕ) (t : Timed s v) (size : length buffer ≡ holdbackSize s) where
-  pub opened-sound : {stop : ℕ} {table : List ℕ} → soundHoldback s v buffer ≡ true → stop ≡ cond (soundHoldback s v buffer) (endOf (s .epsilon) buffer) 2 → table ≡ seenTable s v (openedQueue s v buffer)
-      → QueueOpened s v buffer 0 stop buffer table
+  pub opened-sound : {stop : ℕ} {table marks : List ℕ} → soundHoldback s v buffer ≡ true → stop ≡ cond (soundHoldback s v buffer) (endOf (s .epsilon) buffer) 2 → table ≡ seenTable s v (openedQueue s v buffer)
+      → {count : ℕ} → count ≡ cond (soundHoldback s v buffer) (twoAt buffer 0) 0 → Marking (s .epsilon) buffer count marks → QueueOpened s v buffer 0 stop buffer table marks
   unfolding openedQueue
-  opened-sound h ends e =
+  opened-sound h ends e counted m =
       record {
         repaired = rw h;
-        queued = record { size = size; sound = h; table-is = rw h at e };
+        queued = record { size = size; sound = h; table-is = rw h at e; marked = rw (counted, h) at m };
         ends = rw h at ends;
         queue = rw h;
       }
 
-  pub opened-empty : {buffer′ table : List ℕ} → soundHoldback s v buffer ≡ false → table ≡ seenTable s v (openedQueue s v buffer) → buffer′ ≡ encodeHoldback (length buffer) [] → QueueOpened s v buffer 2 2 buffer′ table
+  pub opened-empty : {buffer′ table marks : List ℕ} → soundHoldback s v buffer ≡ false → table ≡ seenTable s v (openedQueue s v buffer)
+      → {count : ℕ} → count ≡ cond (soundHoldback s v buffer) (twoAt buffer 0) 0 → Marking (s .epsilon) buffer count marks → buffer′ ≡ encodeHoldback (length buffer) [] → QueueOpened s v buffer 2 2 buffer′ table marks
   unfolding openedQueue
-  opened-empty {buffer′} h e b =
+  opened-empty {buffer′} h e counted m b =
       let lim : Limits s = limits-from s (t .limits) in
       let none : (f : Frame) → List·Memᴰ f [] → length (f .stamp .kn) ≡ width (s .epsilon) = λ f m. queue-none s v .frames f m .sound .wide in
       let b′ : buffer′ ≡ encodeHoldback (holdbackSize s) [] = b ∙ ap (λ (n : ℕ). encodeHoldback n []) size in
@@ -198,6 +216,7 @@ module _ (s : Setup) (v : ℕ) (buffer : List ℕ) (t : Timed s v) (size : lengt
               size = ap length b′ ∙ length-holdback s [] lim (queue-none s v .frames) (omega arith);
               sound = ap (soundHoldback s v) b′ ∙ queue-sound s v [] lim (t .below) (queue-none s v);
               table-is = rw h at e ∙ sym (ap (seenTable s v) empty);
+              marked = rw none-held (no-frames (rw (counted, h) at m));
             };
         ends = sym (ap (frameStart (s .epsilon) buffer′) none-held ∙ start-zero (s .epsilon) buffer′);
         queue = rw h empty;

@@ -169,10 +169,10 @@ marked-by true = refl
 marked-by false = refl
 
 -- question 16 by one look-up
-pub marked-is : (s : Setup) (v : ℕ) (buffer table : List ℕ) (f : Frame) → Timed s v → Queued s v buffer table → InWindow s v f
+pub marked-is : (s : Setup) (v : ℕ) (buffer table marks : List ℕ) (f : Frame) → Timed s v → Queued s v buffer table marks → InWindow s v f
     → isMarked s v f table ≡ any (sameOrigin f) (held (s .epsilon) buffer)
 unfolding isMarked
-marked-is s v buffer table f t q w =
+marked-is s v buffer table marks f t q w =
     let lim : Limits s = limits-from s (t .limits) in
     let ok : QueueOk s v (held (s .epsilon) buffer) = sound-queue s v buffer lim (q .sound) in
     ap (λ (l : List ℕ). eqb (getD l (slotOf s v f) 0) 1) (q .table-is)

@@ -9,6 +9,7 @@ use frame::r_of;
 use frame::stamp_of;
 use holdback::Place;
 use holdback::mark;
+use holdback::shift_marks;
 use timestamp::Setup;
 use timestamp::Timestamp;
 use timestamp::near;
@@ -17,7 +18,8 @@ ghost use Rattle.timestamp.specs.Views.{setupOf, stampOf};
 ghost use Rattle.holdback.specs.Queue.{endOf};
 ghost use Rattle.node.specs.States.{Timed, Queued, Taking, Placing, Took, Listening, HeardAll};
 
-// "A taken frame goes on the shelf, and c and each count become the larger of own and frame's". Its origin is marked.
+// "A taken frame goes on the shelf, and c and each count become the larger of own and frame's". Its origin is marked,
+// and the marks of the frames behind it move.
 fn take(
     setup: Setup,
     clock: usize,
@@ -27,16 +29,18 @@ fn take(
     s: &[u8],
     holdback: &mut [u8],
     seen: &mut [u8],
+    marks: &mut [usize],
 ) -> Timestamp
     requires { ⌜ Taking (setupOf setup) clock (now holdback) (place .index) (now s) ⌝ }
     requires { ⌜ Placing (setup .epsilon) (now holdback) (place .index) (place .at) end ⌝ }
-    requires { ⌜ Queued (setupOf setup) clock (now holdback) (now seen) ⌝ }
+    requires { ⌜ Queued (setupOf setup) clock (now holdback) (now seen) (now marks) ⌝ }
     ensures { λ r. ⌜ Took (setupOf setup) clock (stampOf stamp) (place .index) (now (s .entry)) (now (holdback .entry))
-        (stampOf r) (now (holdback .exit)) (now (seen .exit)) ⌝ }
+        (stampOf r) (now (holdback .exit)) (now (seen .exit)) (now (marks .exit)) ⌝ }
 {
     let epsilon = setup.epsilon as usize;
     let modulus = setup.modulus as usize;
     place_frame(setup, clock, place, end, s, holdback);
+    shift_marks(marks, place.index, s.len());
     mark(setup, clock, s, seen);
     let reading = near(epsilon, modulus, clock, r_of(s));
     let other = stamp_of(epsilon, s);
@@ -62,14 +66,15 @@ pub fn hear(
     end: usize,
     holdback: &mut [u8],
     seen: &mut [u8],
+    marks: &mut [usize],
     verdicts: &mut [u8],
 ) -> Heard
     requires { ⌜ Timed (setupOf setup) clock ⌝ }
-    requires { ⌜ Queued (setupOf setup) clock (now holdback) (now seen) ⌝ }
+    requires { ⌜ Queued (setupOf setup) clock (now holdback) (now seen) (now marks) ⌝ }
     requires { ⌜ end ≡ endOf (setup .epsilon) (now holdback) ⌝ }
     requires { ⌜ Listening (setup .epsilon) (stampOf stamp) (now batch) (now verdicts) ⌝ }
     ensures { λ r. ⌜ HeardAll (setupOf setup) clock (stampOf stamp) (now (batch .entry)) (now (holdback .entry)) (now (verdicts .entry))
-        (stampOf (r .stamp)) (r .taken) (r .end) (now (holdback .exit)) (now (seen .exit)) (now (verdicts .exit)) ⌝ }
+        (stampOf (r .stamp)) (r .taken) (r .end) (now (holdback .exit)) (now (seen .exit)) (now (marks .exit)) (now (verdicts .exit)) ⌝ }
 {
     let count = count_of(batch);
     let mut own = stamp;
@@ -82,13 +87,13 @@ pub fn hear(
         let start = step.start;
         at = step.end;
         let s = &batch[start..at];
-        let verdict = judge(setup, clock, holdback, seen, s);
+        let verdict = judge(setup, clock, holdback, seen, marks, s);
         let Verdict::Taken(place) = verdict else {
             verdicts[i] = number_of(verdict);
             i += 1;
             continue;
         };
-        own = take(setup, clock, own, place, stop, s, holdback, seen);
+        own = take(setup, clock, own, place, stop, s, holdback, seen, marks);
         stop += s.len();
         verdicts[i] = 0;
         taken += 1;

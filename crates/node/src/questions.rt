@@ -40,10 +40,18 @@ pub fn check_time(setup: Setup, clock: usize, s: &[u8]) -> u8
     0
 }
 
-// One frame judged: the first no's number, or its place in the queue, and where that stands. The table has the origins of the queue's frames.
-pub fn judge(setup: Setup, clock: usize, holdback: &[u8], seen: &[u8], s: &[u8]) -> Verdict
+// One frame judged: the first no's number, or its place in the queue, and where that stands. The tables have the origins of the queue's frames,
+// and marks of some.
+pub fn judge(
+    setup: Setup,
+    clock: usize,
+    holdback: &[u8],
+    seen: &[u8],
+    marks: &[usize],
+    s: &[u8],
+) -> Verdict
     requires { ⌜ Timed (setupOf setup) clock ⌝ }
-    requires { ⌜ Queued (setupOf setup) clock (now holdback) (now seen) ⌝ }
+    requires { ⌜ Queued (setupOf setup) clock (now holdback) (now seen) (now marks) ⌝ }
     ensures { λ r. ⌜ verdictOf r ≡ model.judge (setupOf setup) clock (held (setup .epsilon) (now (holdback .entry))) (now (s .entry)) ⌝ }
     ensures { λ r. ⌜ Located (setup .epsilon) (now (holdback .entry)) r ⌝ }
 {
@@ -68,6 +76,6 @@ pub fn judge(setup: Setup, clock: usize, holdback: &[u8], seen: &[u8], s: &[u8])
     {
         return Verdict::Refused(17);
     }
-    let place = place_for(setup, clock, holdback, count, s);
+    let place = place_for(setup, clock, holdback, count, marks, s);
     Verdict::Taken(place)
 }

@@ -7,12 +7,13 @@ use holdback::sound;
 use splice::two_at;
 use timestamp::Setup;
 ghost use mathlib.Core.Path.{_≡_};
-ghost use lib.ListN.{length};
+ghost use lib.ListN.{replicate};
 ghost use Rattle.laws.specs.Lists.{overlay, insertAt};
 ghost use Rattle.model.specs.Frame.{decode};
 ghost use Rattle.model.specs.Holdback.{held, encodeFrames};
 ghost use Rattle.timestamp.specs.Views.{setupOf};
 ghost use Rattle.holdback.specs.Seen.{tableLength};
+ghost use Rattle.holdback.specs.Marks.{noMarks};
 ghost use Rattle.node.specs.States.{Timed, Stored, Taking, Placing, Closing, QueueOpened, Delivered};
 
 // What opening the queue answers beside the buffers.
@@ -23,14 +24,21 @@ pub struct OpenedQueue {
     pub end: usize,
 }
 
-// 01, tick 1: "An unsound shelf is emptied (mend 2)". The table gets the frames' origins.
-pub fn open_queue(setup: Setup, clock: usize, holdback: &mut [u8], seen: &mut [u8]) -> OpenedQueue
+// 01, tick 1: "An unsound shelf is emptied (mend 2)". The empty tables get the frames' origins,
+// and marks of some.
+pub fn open_queue(
+    setup: Setup,
+    clock: usize,
+    holdback: &mut [u8],
+    seen: &mut [u8],
+    marks: &mut [usize],
+) -> OpenedQueue
     requires { ⌜ Timed (setupOf setup) clock ⌝ }
     requires { ⌜ Stored (setupOf setup) (now holdback) ⌝ }
-    requires { ⌜ length (now seen) ≡ tableLength ⌝ }
-    ensures { λ r. ⌜ QueueOpened (setupOf setup) clock (now (holdback .entry)) (r .repair) (r .end) (now (holdback .exit)) (now (seen .exit)) ⌝ }
+    requires { ⌜ (now seen ≡ replicate tableLength 0) × (now marks ≡ noMarks) ⌝ }
+    ensures { λ r. ⌜ QueueOpened (setupOf setup) clock (now (holdback .entry)) (r .repair) (r .end) (now (holdback .exit)) (now (seen .exit)) (now (marks .exit)) ⌝ }
 {
-    let walk = sound(setup, clock, holdback, seen);
+    let walk = sound(setup, clock, holdback, seen, marks);
     if walk.sound {
         return OpenedQueue {
             repair: 0,

@@ -1,20 +1,16 @@
--- `holdback::soundness::sound` meets its contract: the table is cleared, the count is in its bound or not, and the walk does the rest. Assumes nothing.
+-- `holdback::soundness::sound` meets its contract: the count is in its bound or not, and the walk does the rest. Assumes nothing.
 use Prim.Native.Nat.{_<_}
 use Rattle.model.specs.Setup.{depth}
 use Rattle.model.specs.Frame.{twoAt}
 use native.Mathlib.Omega.{arith}
+use mathlib.Core.Path.{_∙_}
 use Rattle.timestamp.specs.Views.{setupOf}
 use Rattle.lemmas.proofs.Questions.{limits-from}
-use mathlib.Core.Path.{refl}
-use lib.ListN.{length}
-use Rattle.holdback.proofs.Seen.{seen-cleared}
+use Rattle.holdback.proofs.Seen.{seen-none}
 use Rattle.holdback.proofs.Walks.{opened-no, too-many}
 use borrow.Author.Needs.{needs}
 use Rattle.holdback.proofs.soundness.sound.Statement.{statement}
 use Rattle.holdback.proofs.soundness.sound.Tie as tie
-
-clear-requires : tie.Need-clear-requires
-clear-requires c κs = search needs
 
 two-at-requires : tie.Need-two-at-requires
 two-at-requires c κs = search needs
@@ -30,30 +26,31 @@ cast-depth-3 c = search needs
 
 depth-requires : tie.Need-depth-requires
 depth-requires c κs =
-    let start = c .before .before .before .before .before .before .before .before .before .before in
+    let start = c .before .before .before .before .before .before .before in
     let limits = limits-from (setupOf (start .args .s)) (start .pre .0 .0) in
     omega arith
 
-same-length : tie.Need-same-length
-same-length c = search needs
-
 returns : tie.Need-returns
 returns c =
-    let start = c .before .before .before .before .before .before .before .before .before .before .before .before in
+    let start = c .before .before .before .before .before .before .before .before .before in
     let many : depth (start .args .s .n) (start .args .s .epsilon) (start .args .s .delta) < twoAt (start .args .buf .now) 0 = omega (arith, c .before .before .before .before .before .two-at .ensures, c .before .depth .ensures, c .if1 .taken) in
-    opened-no (too-many (setupOf (start .args .s)) (start .args .v) (start .args .buf .now) many) (seen-cleared (setupOf (start .args .s)) (start .args .v) (start .args .seen .now) _ (length (start .args .seen .now)) (start .pre .1 .1) refl (c .before .before .before .before .before .before .before .before .clear .ensures))
+    opened-no (too-many (setupOf (start .args .s)) (start .args .v) (start .args .buf .now) many) (start .pre .1 .1 .0 ∙ seen-none (setupOf (start .args .s)) (start .args .v)) (start .pre .1 .1 .1)
 
 walk-frames-requires : tie.Need-walk-frames-requires
 walk-frames-requires c κs =
-    let start = c .before .before .before .before .before .before .before .before .before .before .before .before .before in (
+    let start = c .before .before .before .before .before .before .before .before .before .before .before in (
       start .pre .0,
       record {
         two = start .pre .1 .0;
-        counted = c .before .before .before .before .before .before .two-at .ensures;
-        few = omega (arith, c .before .before .depth .ensures, c .before .if1 .left);
-        empty = seen-cleared (setupOf (start .args .s)) (start .args .v) (start .args .seen .now) _ (length (start .args .seen .now)) (start .pre .1 .1) refl (c .before .before .before .before .before .before .before .before .before .clear .ensures);
+        counted = c .before .before .before .before .before .before .before .two-at .ensures;
+        few = omega (arith, c .before .before .before .depth .ensures, c .before .before .if1 .left);
+        empty = start .pre .1 .1 .0 ∙ seen-none (setupOf (start .args .s)) (start .args .v);
+        unmarked = start .pre .1 .1 .1;
       },
     )
+
+same-length : tie.Need-same-length
+same-length c = search needs
 
 same-length-2 : tie.Need-same-length-2
 same-length-2 c = search needs
@@ -65,14 +62,13 @@ pub sound-spec : {M : Type 1} → statement M
 sound-spec =
     tie.close
     (tie.spec
-    clear-requires
     two-at-requires
     cast-depth
     cast-depth-2
     cast-depth-3
     depth-requires
-    same-length
     returns
     walk-frames-requires
+    same-length
     same-length-2
     returns-2)

@@ -25,11 +25,11 @@ abbrev tags : Tags
 tags = record { tag = Declared.tagOf Rattle.node.proofs.verdict.Verdict.the-type; at-taken = λ place. refl; at-refused = λ number. refl }
 
 abbrev Inv-loop : tie.InvT-loop
-Inv-loop setup clock batch end holdback₀ seen₀ verdicts₀ count own₀ taken₀ stop₀ at₀ i₀ holdback seen verdicts own took stop at i =
-    Turning (setupOf setup) clock (stampOf own₀) batch holdback₀ verdicts₀ (stampOf own) took stop at i holdback seen verdicts
+Inv-loop setup clock batch end holdback₀ seen₀ marks₀ verdicts₀ count own₀ taken₀ stop₀ at₀ i₀ holdback seen marks verdicts own took stop at i =
+    Turning (setupOf setup) clock (stampOf own₀) batch holdback₀ verdicts₀ (stampOf own) took stop at i holdback seen marks verdicts
 
 abbrev μ-loop : tie.MeasureT-loop
-μ-loop setup clock batch end holdback₀ seen₀ verdicts₀ count own₀ taken₀ stop₀ at₀ i₀ holdback seen verdicts own took stop at i = count - i
+μ-loop setup clock batch end holdback₀ seen₀ marks₀ verdicts₀ count own₀ taken₀ stop₀ at₀ i₀ holdback seen marks verdicts own took stop at i = count - i
 
 limits : (c : tie.Start Inv-loop μ-loop) → Limits (setupOf (c .args .setup))
 limits c = limits-from (setupOf (c .args .setup)) (c .pre .0 .limits)
@@ -38,14 +38,14 @@ count-of-requires : tie.Need-count-of-requires Inv-loop μ-loop
 count-of-requires c κs = search needs
 
 loop-holds : tie.Need-loop-holds Inv-loop μ-loop
-loop-holds c = let start = c .before .before .before .before .before in turning-start (start .pre .1 .1 .1) (start .pre .1 .0) (start .pre .1 .1 .0)
+loop-holds c = let start = c .before .before .before .before .before .before in turning-start (start .pre .1 .1 .1) (start .pre .1 .0) (start .pre .1 .1 .0)
 
 -- so many entries have a place for their verdict
-few : (c : tie.After-count-of Inv-loop μ-loop) → (countOf (c .before .before .before .before .before .args .batch .now) ≤ 255) × (countOf (c .before .before .before .before .before .args .batch .now) ≤ length (c .before .before .before .before .before .args .verdicts .now))
+few : (c : tie.After-count-of Inv-loop μ-loop) → (countOf (c .before .before .before .before .before .before .args .batch .now) ≤ 255) × (countOf (c .before .before .before .before .before .before .args .batch .now) ≤ length (c .before .before .before .before .before .before .args .verdicts .now))
 unfolding countOf
-few c = omega (arith, c .before .before .before .before .shared-slice-known .given 0, c .before .before .before .before .before .pre .1 .1 .1 .room)
+few c = omega (arith, c .before .before .before .before .before .shared-slice-known .given 0, c .before .before .before .before .before .before .pre .1 .1 .1 .room)
 
-more : (c : tie.In-loop Inv-loop μ-loop) → c .before .loop .i < countOf (c .before .before .before .before .before .before .before .args .batch .now)
+more : (c : tie.In-loop Inv-loop μ-loop) → c .before .loop .i < countOf (c .before .before .before .before .before .before .before .before .args .batch .now)
 more c = omega (arith, c .before .before .count-of .ensures)
 
 walk-step-requires : tie.Need-walk-step-requires Inv-loop μ-loop
@@ -54,7 +54,7 @@ walk-step-requires c κs = search needs
 -- the step is of the entry at the loop's position, and ends where the next one stands
 module _ (c : tie.After-walk-step Inv-loop μ-loop) where
   abbrev batch : List ℕ
-  batch = c .before .before .before .before .before .before .before .before .args .batch .now
+  batch = c .before .before .before .before .before .before .before .before .before .args .batch .now
 
   abbrev place : ℕ
   place = c .before .before .loop .at
@@ -84,7 +84,7 @@ part-s-end : tie.Need-part-s-end Inv-loop μ-loop
 part-s-end c = omega (arith, ordered c, within c)
 
 judge-requires : tie.Need-judge-requires Inv-loop μ-loop
-judge-requires c κs = (c .before .before .before .before .before .before .before .before .before .before .before .pre .0, c .before .before .before .before .before .loop .inv .queued)
+judge-requires c κs = (c .before .before .before .before .before .before .before .before .before .before .before .before .before .pre .0, c .before .before .before .before .before .before .loop .inv .queued)
 
 enum-known-verdict : tie.Need-enum-known-verdict Inv-loop μ-loop
 enum-known-verdict c = search needs
@@ -96,69 +96,72 @@ number-of-requires : tie.Need-number-of-requires Inv-loop μ-loop
 number-of-requires c κs = search needs
 
 slice-write-verdicts : tie.Need-slice-write-verdicts Inv-loop μ-loop
-slice-write-verdicts c = omega (arith, few (c .before .before .before .before .before .before .before .before .before .before), more (c .before .before .before .before .before .before .before .before), c .before .before .before .before .before .before .before .before .before .loop .inv .long)
+slice-write-verdicts c = omega (arith, few (c .before .before .before .before .before .before .before .before .before .before .before), more (c .before .before .before .before .before .before .before .before .before), c .before .before .before .before .before .before .before .before .before .before .loop .inv .long)
 
 add-i : tie.Need-add-i Inv-loop μ-loop
-add-i c = omega (arith, few (c .before .before .before .before .before .before .before .before .before .before), more (c .before .before .before .before .before .before .before .before))
+add-i c = omega (arith, few (c .before .before .before .before .before .before .before .before .before .before .before), more (c .before .before .before .before .before .before .before .before .before))
 
 loop-less : tie.Need-loop-less Inv-loop μ-loop
 loop-less c = omega arith
 
 loop-again : tie.Need-loop-again Inv-loop μ-loop
 loop-again c =
-    turn-refused (c .before .before .before .before .before .before .before .before .before .loop .inv) (more (c .before .before .before .before .before .before .before .before)) (few (c .before .before .before .before .before .before .before .before .before .before) .1) (entry (c .before .before .before .before .before .before .before)) (next (c .before .before .before .before .before .before .before)) (sym (c .before .before .before .judge .ensures .0) ∙ is-refused tags (c .before .before .before .judge .result) (c .before .before .match .keys2)) (c .number-of .ensures)
+    turn-refused (c .before .before .before .before .before .before .before .before .before .before .loop .inv) (more (c .before .before .before .before .before .before .before .before .before)) (few (c .before .before .before .before .before .before .before .before .before .before .before) .1) (entry (c .before .before .before .before .before .before .before .before)) (next (c .before .before .before .before .before .before .before .before)) (sym (c .before .before .before .judge .ensures .0) ∙ is-refused tags (c .before .before .before .judge .result) (c .before .before .match .keys2)) (c .number-of .ensures)
 
 -- what taking it asks
 module _ (c : tie.After-known-told Inv-loop μ-loop) where
   abbrev bytes : List ℕ
-  bytes = take (c .before .before .before .before .before .before .before .walk-step .result .end - c .before .before .before .before .before .before .before .walk-step .result .start) (drop (c .before .before .before .before .before .before .before .walk-step .result .start) (c .before .before .before .before .before .before .before .before .before .before .before .before .before .before .before .args .batch .now))
+  bytes = take (c .before .before .before .before .before .before .before .before .walk-step .result .end - c .before .before .before .before .before .before .before .before .walk-step .result .start) (drop (c .before .before .before .before .before .before .before .before .walk-step .result .start) (c .before .before .before .before .before .before .before .before .before .before .before .before .before .before .before .before .before .args .batch .now))
 
-  taking : Taking (setupOf (c .before .before .before .before .before .before .before .before .before .before .before .before .before .before .before .args .setup)) (c .before .before .before .before .before .before .before .before .before .before .before .before .before .before .before .args .clock) (c .before .before .before .before .before .before .before .before .before .loop .holdback) (c .before .verdict .given .0 .0 .index) bytes
+  taking : Taking (setupOf (c .before .before .before .before .before .before .before .before .before .before .before .before .before .before .before .before .before .args .setup)) (c .before .before .before .before .before .before .before .before .before .before .before .before .before .before .before .before .before .args .clock) (c .before .before .before .before .before .before .before .before .before .before .loop .holdback) (c .before .verdict .given .0 .0 .index) bytes
   taking =
       record {
-        timed = c .before .before .before .before .before .before .before .before .before .before .before .before .before .before .before .pre .0;
-        size = c .before .before .before .before .before .before .before .before .before .loop .inv .queued .size;
-        sound = c .before .before .before .before .before .before .before .before .before .loop .inv .queued .sound;
+        timed = c .before .before .before .before .before .before .before .before .before .before .before .before .before .before .before .before .before .pre .0;
+        size = c .before .before .before .before .before .before .before .before .before .before .loop .inv .queued .size;
+        sound = c .before .before .before .before .before .before .before .before .before .before .loop .inv .queued .sound;
         judged = sym (c .before .before .before .judge .ensures .0) ∙ ap verdictOf (c .before .verdict .given .1);
       }
 
-  placing : Placing (c .before .before .before .before .before .before .before .before .before .before .before .before .before .before .before .args .setup .epsilon) (c .before .before .before .before .before .before .before .before .before .loop .holdback) (c .before .verdict .given .0 .0 .index) (c .before .verdict .given .0 .0 .at) (c .before .before .before .before .before .before .before .before .before .loop .stop)
-  placing = record { starts = c .before .before .before .judge .ensures .1 .stands (c .before .verdict .given .0 .0) (c .before .verdict .given .1); ends = c .before .before .before .before .before .before .before .before .before .loop .inv .ends }
+  placing : Placing (c .before .before .before .before .before .before .before .before .before .before .before .before .before .before .before .before .before .args .setup .epsilon) (c .before .before .before .before .before .before .before .before .before .before .loop .holdback) (c .before .verdict .given .0 .0 .index) (c .before .verdict .given .0 .0 .at) (c .before .before .before .before .before .before .before .before .before .before .loop .stop)
+  placing = record { starts = c .before .before .before .judge .ensures .1 .stands (c .before .verdict .given .0 .0) (c .before .verdict .given .1); ends = c .before .before .before .before .before .before .before .before .before .before .loop .inv .ends }
 
 take-requires : tie.Need-take-requires Inv-loop μ-loop
-take-requires c κs = (taking (c .before .before), (placing (c .before .before), c .before .before .before .before .before .before .before .before .before .before .before .loop .inv .queued))
+take-requires c κs = (taking (c .before .before .before), (placing (c .before .before .before), c .before .before .before .before .before .before .before .before .before .before .before .before .before .loop .inv .queued))
 
 add-stop : tie.Need-add-stop Inv-loop μ-loop
-add-stop c = omega (arith, fits (taking (c .before .before .before .before .before .before .before)), c .before .before .before .before .before .before .before .before .before .before .before .before .before .before .before .before .loop .inv .ends, c .before .before .before .before .before .before .before .before .before .before .before .before .before .before .before .before .loop .inv .queued .size, size-small (setupOf (c .before .before .before .before .before .before .before .before .before .before .before .before .before .before .before .before .before .before .before .before .before .before .args .setup)) (limits (c .before .before .before .before .before .before .before .before .before .before .before .before .before .before .before .before .before .before .before .before .before .before)))
+add-stop c = omega (arith, fits (taking (c .before .before .before .before .before .before .before .before .before .before)), c .before .before .before .before .before .before .before .before .before .before .before .before .before .before .before .before .before .before .before .before .loop .inv .ends, c .before .before .before .before .before .before .before .before .before .before .before .before .before .before .before .before .before .before .before .before .loop .inv .queued .size, size-small (setupOf (c .before .before .before .before .before .before .before .before .before .before .before .before .before .before .before .before .before .before .before .before .before .before .before .before .before .before .before .args .setup)) (limits (c .before .before .before .before .before .before .before .before .before .before .before .before .before .before .before .before .before .before .before .before .before .before .before .before .before .before .before)))
 
 slice-write-verdicts-2 : tie.Need-slice-write-verdicts-2 Inv-loop μ-loop
-slice-write-verdicts-2 c = omega (arith, few (c .before .before .before .before .before .before .before .before .before .before .before .before .before .before .before .before .before), more (c .before .before .before .before .before .before .before .before .before .before .before .before .before .before .before), c .before .before .before .before .before .before .before .before .before .before .before .before .before .before .before .before .loop .inv .long)
+slice-write-verdicts-2 c = omega (arith, few (c .before .before .before .before .before .before .before .before .before .before .before .before .before .before .before .before .before .before .before .before .before), more (c .before .before .before .before .before .before .before .before .before .before .before .before .before .before .before .before .before .before .before), c .before .before .before .before .before .before .before .before .before .before .before .before .before .before .before .before .before .before .before .before .loop .inv .long)
 
 add-taken : tie.Need-add-taken Inv-loop μ-loop
-add-taken c = omega (arith, few (c .before .before .before .before .before .before .before .before .before .before .before .before .before .before .before .before .before), more (c .before .before .before .before .before .before .before .before .before .before .before .before .before .before .before), c .before .before .before .before .before .before .before .before .before .before .before .before .before .before .before .before .loop .inv .few)
+add-taken c = omega (arith, few (c .before .before .before .before .before .before .before .before .before .before .before .before .before .before .before .before .before .before .before .before .before), more (c .before .before .before .before .before .before .before .before .before .before .before .before .before .before .before .before .before .before .before), c .before .before .before .before .before .before .before .before .before .before .before .before .before .before .before .before .before .before .before .before .loop .inv .few)
 
 add-i-2 : tie.Need-add-i-2 Inv-loop μ-loop
-add-i-2 c = omega (arith, few (c .before .before .before .before .before .before .before .before .before .before .before .before .before .before .before .before .before), more (c .before .before .before .before .before .before .before .before .before .before .before .before .before .before .before))
+add-i-2 c = omega (arith, few (c .before .before .before .before .before .before .before .before .before .before .before .before .before .before .before .before .before .before .before .before .before), more (c .before .before .before .before .before .before .before .before .before .before .before .before .before .before .before .before .before .before .before))
 
 loop-less-2 : tie.Need-loop-less-2 Inv-loop μ-loop
-loop-less-2 c = omega (arith, c .before .before .before .before .before .before .before .before .before .before .before .before .before .before .before .loop-test .taken)
+loop-less-2 c = omega (arith, c .before .before .before .before .before .before .before .before .before .before .before .before .before .before .before .before .before .before .before .loop-test .taken)
 
 loop-again-2 : tie.Need-loop-again-2 Inv-loop μ-loop
 loop-again-2 c =
-    let start = c .before .before .before .before .before .before .before .before .before .before .before .before .before .before .before .before .before .before .before .before .before .before in
-    turn-taken (c .before .before .before .before .before .before .before .before .before .before .before .before .before .before .before .before .loop .inv) (more (c .before .before .before .before .before .before .before .before .before .before .before .before .before .before .before)) (few (c .before .before .before .before .before .before .before .before .before .before .before .before .before .before .before .before .before) .1) (entry (c .before .before .before .before .before .before .before .before .before .before .before .before .before .before)) (next (c .before .before .before .before .before .before .before .before .before .before .before .before .before .before)) (limits start .epsilon-most) (taking (c .before .before .before .before .before .before .before) .judged) (c .before .before .before .before .take .ensures)
+    let start = c .before .before .before .before .before .before .before .before .before .before .before .before .before .before .before .before .before .before .before .before .before .before .before .before .before .before .before in
+    turn-taken (c .before .before .before .before .before .before .before .before .before .before .before .before .before .before .before .before .before .before .before .before .loop .inv) (more (c .before .before .before .before .before .before .before .before .before .before .before .before .before .before .before .before .before .before .before)) (few (c .before .before .before .before .before .before .before .before .before .before .before .before .before .before .before .before .before .before .before .before .before) .1) (entry (c .before .before .before .before .before .before .before .before .before .before .before .before .before .before .before .before .before .before)) (next (c .before .before .before .before .before .before .before .before .before .before .before .before .before .before .before .before .before .before)) (limits start .epsilon-most) (taking (c .before .before .before .before .before .before .before .before .before .before) .judged) (c .before .before .before .before .before .before .take .ensures)
 
 same-length : tie.Need-same-length Inv-loop μ-loop
-same-length c = c .before .loop .inv .queued .size ∙ sym (c .before .before .before .before .before .before .before .pre .1 .0 .size)
+same-length c = c .before .loop .inv .queued .size ∙ sym (c .before .before .before .before .before .before .before .before .pre .1 .0 .size)
 
 same-length-2 : tie.Need-same-length-2 Inv-loop μ-loop
 same-length-2 c =
-    let start = c .before .before .before .before .before .before .before in
+    let start = c .before .before .before .before .before .before .before .before in
     (ap length (c .before .loop .inv .queued .table-is) ∙ table-long (setupOf (start .args .setup)) (start .args .clock) (held (start .args .setup .epsilon) (c .before .loop .holdback)))
     ∙ sym (ap length (start .pre .1 .0 .table-is) ∙ table-long (setupOf (start .args .setup)) (start .args .clock) (held (start .args .setup .epsilon) (start .args .holdback .now)))
 
 same-length-3 : tie.Need-same-length-3 Inv-loop μ-loop
-same-length-3 c = c .before .loop .inv .long
+same-length-3 c = c .before .loop .inv .queued .marked .long ∙ sym (c .before .before .before .before .before .before .before .before .pre .1 .0 .marked .long)
+
+same-length-4 : tie.Need-same-length-4 Inv-loop μ-loop
+same-length-4 c = c .before .loop .inv .long
 
 returns : tie.Need-returns Inv-loop μ-loop
 returns c = turning-end (c .before .loop .inv) (omega (arith, c .before .before .count-of .ensures)) (few (c .before .before) .1)
@@ -193,4 +196,5 @@ hear-spec =
     same-length
     same-length-2
     same-length-3
+    same-length-4
     returns)

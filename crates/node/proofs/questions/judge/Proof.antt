@@ -36,42 +36,42 @@ limits : (c : tie.Start) → Limits (setupOf (c .args .setup))
 limits c = limits-from (setupOf (c .args .setup)) (c .pre .0 .limits)
 
 check-requires : tie.Need-check-requires
-check-requires c κs = c .before .before .before .pre .0 .limits
+check-requires c κs = c .before .before .before .before .pre .0 .limits
 
 returns : tie.Need-returns
-returns c = (form-no (setupOf (c .before .before .before .before .before .args .setup)) (c .before .before .before .before .before .args .clock) (queue (c .before .before .before .before .before)) (c .before .before .before .before .before .args .s .now) (c .before .check .result) (c .before .check .ensures) (c .if1 .taken), refused-located)
+returns c = (form-no (setupOf (c .before .before .before .before .before .before .args .setup)) (c .before .before .before .before .before .before .args .clock) (queue (c .before .before .before .before .before .before)) (c .before .before .before .before .before .before .args .s .now) (c .before .check .result) (c .before .check .ensures) (c .if1 .taken), refused-located)
 
-passed : (c : tie.Else1) → firstNo (frameQuestions (setupOf (c .before .before .before .before .before .args .setup)) (c .before .before .before .before .before .args .s .now)) ≡ 0
+passed : (c : tie.Else1) → firstNo (frameQuestions (setupOf (c .before .before .before .before .before .before .args .setup)) (c .before .before .before .before .before .before .args .s .now)) ≡ 0
 passed c = sym (c .before .check .ensures) ∙ c .if1 .left
 
-readable : (c : tie.Else1) → Readable (setupOf (c .before .before .before .before .before .args .setup)) (c .before .before .before .before .before .args .clock) (c .before .before .before .before .before .args .s .now)
-readable c = record { timed = c .before .before .before .before .before .pre .0; passed = passed c }
+readable : (c : tie.Else1) → Readable (setupOf (c .before .before .before .before .before .before .args .setup)) (c .before .before .before .before .before .before .args .clock) (c .before .before .before .before .before .before .args .s .now)
+readable c = record { timed = c .before .before .before .before .before .before .pre .0; passed = passed c }
 
 check-time-requires : tie.Need-check-time-requires
 check-time-requires c κs = readable c
 
 returns-2 : tie.Need-returns-2
-returns-2 c = (time-no (setupOf (c .before .before .before .before .before .before .before .args .setup)) (c .before .before .before .before .before .before .before .args .clock) (queue (c .before .before .before .before .before .before .before)) (c .before .before .before .before .before .before .before .args .s .now) (passed (c .before .before)) (c .before .check-time .result) (c .before .check-time .ensures) (c .if2 .taken), refused-located)
+returns-2 c = (time-no (setupOf (c .before .before .before .before .before .before .before .before .args .setup)) (c .before .before .before .before .before .before .before .before .args .clock) (queue (c .before .before .before .before .before .before .before .before)) (c .before .before .before .before .before .before .before .before .args .s .now) (passed (c .before .before)) (c .before .check-time .result) (c .before .check-time .ensures) (c .if2 .taken), refused-located)
 
-timely : (c : tie.Else2) → firstNo (timeQuestions (setupOf (c .before .before .before .before .before .before .before .args .setup)) (c .before .before .before .before .before .before .before .args .clock) (frame (c .before .before .before .before .before .before .before))) ≡ 0
+timely : (c : tie.Else2) → firstNo (timeQuestions (setupOf (c .before .before .before .before .before .before .before .before .args .setup)) (c .before .before .before .before .before .before .before .before .args .clock) (frame (c .before .before .before .before .before .before .before .before))) ≡ 0
 timely c = sym (c .before .check-time .ensures) ∙ c .if2 .left
 
-window : (c : tie.Else2) → InWindow (setupOf (c .before .before .before .before .before .before .before .args .setup)) (c .before .before .before .before .before .before .before .args .clock) (frame (c .before .before .before .before .before .before .before))
+window : (c : tie.Else2) → InWindow (setupOf (c .before .before .before .before .before .before .before .before .args .setup)) (c .before .before .before .before .before .before .before .before .args .clock) (frame (c .before .before .before .before .before .before .before .before))
 window c =
-    late-window (setupOf (c .before .before .before .before .before .before .before .args .setup)) (c .before .before .before .before .before .before .before .args .clock) (frame (c .before .before .before .before .before .before .before)) (given (setupOf (c .before .before .before .before .before .before .before .args .setup)) (c .before .before .before .before .before .before .before .args .clock) (c .before .before .before .before .before .before .before .args .s .now) (readable (c .before .before)) .frame)
-    (time-late (setupOf (c .before .before .before .before .before .before .before .args .setup)) (c .before .before .before .before .before .before .before .args .clock) (frame (c .before .before .before .before .before .before .before)) (timely c))
+    late-window (setupOf (c .before .before .before .before .before .before .before .before .args .setup)) (c .before .before .before .before .before .before .before .before .args .clock) (frame (c .before .before .before .before .before .before .before .before)) (given (setupOf (c .before .before .before .before .before .before .before .before .args .setup)) (c .before .before .before .before .before .before .before .before .args .clock) (c .before .before .before .before .before .before .before .before .args .s .now) (readable (c .before .before)) .frame)
+    (time-late (setupOf (c .before .before .before .before .before .before .before .before .args .setup)) (c .before .before .before .before .before .before .before .before .args .clock) (frame (c .before .before .before .before .before .before .before .before)) (timely c))
 
 repeats-requires : tie.Need-repeats-requires
 repeats-requires c κs = (
-  (c .before .before .before .before .before .before .before .pre .0 .limits, c .before .before .before .before .before .before .before .pre .0 .below),
-  (window c, ap length (c .before .before .before .before .before .before .before .pre .1 .table-is) ∙ table-long (setupOf (c .before .before .before .before .before .before .before .args .setup)) (c .before .before .before .before .before .before .before .args .clock) (queue (c .before .before .before .before .before .before .before))),
+  (c .before .before .before .before .before .before .before .before .pre .0 .limits, c .before .before .before .before .before .before .before .before .pre .0 .below),
+  (window c, ap length (c .before .before .before .before .before .before .before .before .pre .1 .table-is) ∙ table-long (setupOf (c .before .before .before .before .before .before .before .before .args .setup)) (c .before .before .before .before .before .before .before .before .args .clock) (queue (c .before .before .before .before .before .before .before .before))),
 )
 
-repeated : (c : tie.After-repeats) → c .repeats .result ≡ any (sameOrigin (frame (c .before .before .before .before .before .before .before .before))) (queue (c .before .before .before .before .before .before .before .before))
-repeated c = c .repeats .ensures ∙ marked-is (setupOf (c .before .before .before .before .before .before .before .before .args .setup)) (c .before .before .before .before .before .before .before .before .args .clock) (c .before .before .before .before .before .before .before .before .args .holdback .now) (c .before .before .before .before .before .before .before .before .args .seen .now) (frame (c .before .before .before .before .before .before .before .before)) (c .before .before .before .before .before .before .before .before .pre .0) (c .before .before .before .before .before .before .before .before .pre .1) (window (c .before))
+repeated : (c : tie.After-repeats) → c .repeats .result ≡ any (sameOrigin (frame (c .before .before .before .before .before .before .before .before .before))) (queue (c .before .before .before .before .before .before .before .before .before))
+repeated c = c .repeats .ensures ∙ marked-is (setupOf (c .before .before .before .before .before .before .before .before .before .args .setup)) (c .before .before .before .before .before .before .before .before .before .args .clock) (c .before .before .before .before .before .before .before .before .before .args .holdback .now) (c .before .before .before .before .before .before .before .before .before .args .seen .now) (c .before .before .before .before .before .before .before .before .before .args .marks .now) (frame (c .before .before .before .before .before .before .before .before .before)) (c .before .before .before .before .before .before .before .before .before .pre .0) (c .before .before .before .before .before .before .before .before .before .pre .1) (window (c .before))
 
 returns-3 : tie.Need-returns-3
-returns-3 c = (repeat-no (setupOf (c .before .before .before .before .before .before .before .before .before .args .setup)) (c .before .before .before .before .before .before .before .before .before .args .clock) (queue (c .before .before .before .before .before .before .before .before .before)) (c .before .before .before .before .before .before .before .before .before .args .s .now) (passed (c .before .before .before .before)) (timely (c .before .before)) (sym (repeated (c .before)) ∙ c .if3 .taken), refused-located)
+returns-3 c = (repeat-no (setupOf (c .before .before .before .before .before .before .before .before .before .before .args .setup)) (c .before .before .before .before .before .before .before .before .before .before .args .clock) (queue (c .before .before .before .before .before .before .before .before .before .before)) (c .before .before .before .before .before .before .before .before .before .before .args .s .now) (passed (c .before .before .before .before)) (timely (c .before .before)) (sym (repeated (c .before)) ∙ c .if3 .taken), refused-located)
 
 two-at-requires : tie.Need-two-at-requires
 two-at-requires c κs = search needs
@@ -86,34 +86,34 @@ cast-depth-3 : tie.Need-cast-depth-3
 cast-depth-3 c = search needs
 
 depth-requires : tie.Need-depth-requires
-depth-requires c κs = (limits (c .before .before .before .before .before .before .before .before .before .before .before .before .before) .n-most, (limits (c .before .before .before .before .before .before .before .before .before .before .before .before .before) .epsilon-most, limits (c .before .before .before .before .before .before .before .before .before .before .before .before .before) .delta-most))
+depth-requires c κs = (limits (c .before .before .before .before .before .before .before .before .before .before .before .before .before .before) .n-most, (limits (c .before .before .before .before .before .before .before .before .before .before .before .before .before .before) .epsilon-most, limits (c .before .before .before .before .before .before .before .before .before .before .before .before .before .before) .delta-most))
 
-long : (c : tie.After-two-at) → length (queue (c .before .before .before .before .before .before .before .before .before .before)) ≡ c .two-at .result
-long c = length-held (c .before .before .before .before .before .before .before .before .before .before .args .setup .epsilon) (c .before .before .before .before .before .before .before .before .before .before .args .holdback .now) ∙ sym (c .two-at .ensures)
+long : (c : tie.After-two-at) → length (queue (c .before .before .before .before .before .before .before .before .before .before .before)) ≡ c .two-at .result
+long c = length-held (c .before .before .before .before .before .before .before .before .before .before .before .args .setup .epsilon) (c .before .before .before .before .before .before .before .before .before .before .before .args .holdback .now) ∙ sym (c .two-at .ensures)
 
-full : (c : tie.Then4) → depth (c .before .before .before .before .before .before .before .before .before .before .before .before .before .before .before .args .setup .n) (c .before .before .before .before .before .before .before .before .before .before .before .before .before .before .before .args .setup .epsilon) (c .before .before .before .before .before .before .before .before .before .before .before .before .before .before .before .args .setup .delta) ≤ length (queue (c .before .before .before .before .before .before .before .before .before .before .before .before .before .before .before))
+full : (c : tie.Then4) → depth (c .before .before .before .before .before .before .before .before .before .before .before .before .before .before .before .before .args .setup .n) (c .before .before .before .before .before .before .before .before .before .before .before .before .before .before .before .before .args .setup .epsilon) (c .before .before .before .before .before .before .before .before .before .before .before .before .before .before .before .before .args .setup .delta) ≤ length (queue (c .before .before .before .before .before .before .before .before .before .before .before .before .before .before .before .before))
 full c = omega (arith, c .before .depth .ensures, long (c .before .before .before .before .before))
 
 returns-4 : tie.Need-returns-4
-returns-4 c = (room-no (setupOf (c .before .before .before .before .before .before .before .before .before .before .before .before .before .before .before .args .setup)) (c .before .before .before .before .before .before .before .before .before .before .before .before .before .before .before .args .clock) (queue (c .before .before .before .before .before .before .before .before .before .before .before .before .before .before .before)) (c .before .before .before .before .before .before .before .before .before .before .before .before .before .before .before .args .s .now) (passed (c .before .before .before .before .before .before .before .before .before .before)) (timely (c .before .before .before .before .before .before .before .before)) (sym (repeated (c .before .before .before .before .before .before .before)) ∙ c .before .before .before .before .before .before .if3 .left) (full c), refused-located)
+returns-4 c = (room-no (setupOf (c .before .before .before .before .before .before .before .before .before .before .before .before .before .before .before .before .args .setup)) (c .before .before .before .before .before .before .before .before .before .before .before .before .before .before .before .before .args .clock) (queue (c .before .before .before .before .before .before .before .before .before .before .before .before .before .before .before .before)) (c .before .before .before .before .before .before .before .before .before .before .before .before .before .before .before .before .args .s .now) (passed (c .before .before .before .before .before .before .before .before .before .before)) (timely (c .before .before .before .before .before .before .before .before)) (sym (repeated (c .before .before .before .before .before .before .before)) ∙ c .before .before .before .before .before .before .if3 .left) (full c), refused-located)
 
-room : (c : tie.Else4) → length (queue (c .before .before .before .before .before .before .before .before .before .before .before .before .before .before .before)) < depth (c .before .before .before .before .before .before .before .before .before .before .before .before .before .before .before .args .setup .n) (c .before .before .before .before .before .before .before .before .before .before .before .before .before .before .before .args .setup .epsilon) (c .before .before .before .before .before .before .before .before .before .before .before .before .before .before .before .args .setup .delta)
+room : (c : tie.Else4) → length (queue (c .before .before .before .before .before .before .before .before .before .before .before .before .before .before .before .before)) < depth (c .before .before .before .before .before .before .before .before .before .before .before .before .before .before .before .before .args .setup .n) (c .before .before .before .before .before .before .before .before .before .before .before .before .before .before .before .before .args .setup .epsilon) (c .before .before .before .before .before .before .before .before .before .before .before .before .before .before .before .before .args .setup .delta)
 room c = omega (arith, c .before .depth .ensures, long (c .before .before .before .before .before))
 
-passes-all : (c : tie.Else1) → passes (setupOf (c .before .before .before .before .before .args .setup)) (c .before .before .before .before .before .args .s .now) ≡ true
+passes-all : (c : tie.Else1) → passes (setupOf (c .before .before .before .before .before .before .args .setup)) (c .before .before .before .before .before .before .args .s .now) ≡ true
 unfolding passes
-passes-all c = eq-eqb (firstNo (frameQuestions (setupOf (c .before .before .before .before .before .args .setup)) (c .before .before .before .before .before .args .s .now))) 0 (passed c)
+passes-all c = eq-eqb (firstNo (frameQuestions (setupOf (c .before .before .before .before .before .before .args .setup)) (c .before .before .before .before .before .before .args .s .now))) 0 (passed c)
 
 place-for-requires : tie.Need-place-for-requires
 place-for-requires c κs = (
-  (c .before .before .before .before .before .before .before .before .before .before .before .before .before .before .before .pre .0 .limits, c .before .before .before .before .before .before .before .before .before .before .before .before .before .before .before .pre .0 .below),
-  ((c .before .before .before .before .before .before .before .before .before .before .before .before .before .before .before .pre .1 .sound, (size-two (setupOf (c .before .before .before .before .before .before .before .before .before .before .before .before .before .before .before .args .setup)) (length (c .before .before .before .before .before .before .before .before .before .before .before .before .before .before .before .args .holdback .now)) (c .before .before .before .before .before .before .before .before .before .before .before .before .before .before .before .pre .1 .size), c .before .before .before .before .before .two-at .ensures)), passes-all (c .before .before .before .before .before .before .before .before .before .before)),
+  (c .before .before .before .before .before .before .before .before .before .before .before .before .before .before .before .before .pre .0 .limits, c .before .before .before .before .before .before .before .before .before .before .before .before .before .before .before .before .pre .0 .below),
+  ((c .before .before .before .before .before .before .before .before .before .before .before .before .before .before .before .before .pre .1 .sound, (size-two (setupOf (c .before .before .before .before .before .before .before .before .before .before .before .before .before .before .before .before .args .setup)) (length (c .before .before .before .before .before .before .before .before .before .before .before .before .before .before .before .before .args .holdback .now)) (c .before .before .before .before .before .before .before .before .before .before .before .before .before .before .before .before .pre .1 .size), c .before .before .before .before .before .two-at .ensures)), (rw (c .before .before .before .before .before .two-at .ensures) (c .before .before .before .before .before .before .before .before .before .before .before .before .before .before .before .before .pre .1 .marked), passes-all (c .before .before .before .before .before .before .before .before .before .before))),
 )
 
 returns-5 : tie.Need-returns-5
 returns-5 c = (
   ap taken (c .place-for .ensures .frames)
-      ∙ all-yes (setupOf (c .before .before .before .before .before .before .before .before .before .before .before .before .before .before .before .before .args .setup)) (c .before .before .before .before .before .before .before .before .before .before .before .before .before .before .before .before .args .clock) (queue (c .before .before .before .before .before .before .before .before .before .before .before .before .before .before .before .before)) (c .before .before .before .before .before .before .before .before .before .before .before .before .before .before .before .before .args .s .now) (passed (c .before .before .before .before .before .before .before .before .before .before .before)) (timely (c .before .before .before .before .before .before .before .before .before)) (sym (repeated (c .before .before .before .before .before .before .before .before)) ∙ c .before .before .before .before .before .before .before .if3 .left) (room (c .before)),
+      ∙ all-yes (setupOf (c .before .before .before .before .before .before .before .before .before .before .before .before .before .before .before .before .before .args .setup)) (c .before .before .before .before .before .before .before .before .before .before .before .before .before .before .before .before .before .args .clock) (queue (c .before .before .before .before .before .before .before .before .before .before .before .before .before .before .before .before .before)) (c .before .before .before .before .before .before .before .before .before .before .before .before .before .before .before .before .before .args .s .now) (passed (c .before .before .before .before .before .before .before .before .before .before .before)) (timely (c .before .before .before .before .before .before .before .before .before)) (sym (repeated (c .before .before .before .before .before .before .before .before)) ∙ c .before .before .before .before .before .before .before .if3 .left) (room (c .before)),
   taken-located (c .place-for .ensures .starts),
 )
 

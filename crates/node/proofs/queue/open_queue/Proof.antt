@@ -9,7 +9,7 @@ use Rattle.node.proofs.queue.open_queue.Tie as tie
 
 sound-requires : tie.Need-sound-requires
 sound-requires c κs =
-    let start = c .before .before .before .before in (
+    let start = c .before .before .before .before .before .before in (
       (start .pre .0 .limits, start .pre .0 .below),
       (size-two (setupOf (start .args .setup)) (length (start .args .holdback .now)) (start .pre .1 .0 .size), start .pre .1 .1),
     )
@@ -20,26 +20,32 @@ same-length c = search needs
 same-length-2 : tie.Need-same-length-2
 same-length-2 c = search needs
 
-returns : tie.Need-returns
-returns c =
-    let start = c .before .before .before .before .before .before .before .before in
-    let walk = c .before .before .before .sound .ensures in
-    opened-sound (setupOf (start .args .setup)) (start .args .clock) (start .args .holdback .now) (start .pre .0) (start .pre .1 .0 .size) (sym (walk .sound-is) ∙ c .if1 .taken) (walk .stop-is) (walk .table-is)
-
-empty-requires : tie.Need-empty-requires
-empty-requires c κs = let start = c .before .before .before .before .before .before .before .before .before in size-two (setupOf (start .args .setup)) (length (start .args .holdback .now)) (start .pre .1 .0 .size)
-
 same-length-3 : tie.Need-same-length-3
 same-length-3 c = search needs
+
+returns : tie.Need-returns
+returns c =
+    let start = c .before .before .before .before .before .before .before .before .before .before .before .before in
+    let walk = c .before .before .before .before .before .sound .ensures in
+    opened-sound (setupOf (start .args .setup)) (start .args .clock) (start .args .holdback .now) (start .pre .0) (start .pre .1 .0 .size) (sym (walk .sound-is) ∙ c .if1 .taken) (walk .stop-is) (walk .table-is) (walk .count-is) (walk .marked)
+
+empty-requires : tie.Need-empty-requires
+empty-requires c κs = let start = c .before .before .before .before .before .before .before .before .before .before .before .before .before in size-two (setupOf (start .args .setup)) (length (start .args .holdback .now)) (start .pre .1 .0 .size)
 
 same-length-4 : tie.Need-same-length-4
 same-length-4 c = search needs
 
+same-length-5 : tie.Need-same-length-5
+same-length-5 c = search needs
+
+same-length-6 : tie.Need-same-length-6
+same-length-6 c = search needs
+
 returns-2 : tie.Need-returns-2
 returns-2 c =
-    let start = c .before .before .before .before .before .before .before .before .before .before .before .before in
-    let walk = c .before .before .before .before .before .before .before .sound .ensures in
-    opened-empty (setupOf (start .args .setup)) (start .args .clock) (start .args .holdback .now) (start .pre .0) (start .pre .1 .0 .size) (sym (walk .sound-is) ∙ c .before .before .before .before .if1 .left) (walk .table-is) (c .before .before .empty .ensures)
+    let start = c .before .before .before .before .before .before .before .before .before .before .before .before .before .before .before .before in
+    let walk = c .before .before .before .before .before .before .before .before .before .sound .ensures in
+    opened-empty (setupOf (start .args .setup)) (start .args .clock) (start .args .holdback .now) (start .pre .0) (start .pre .1 .0 .size) (sym (walk .sound-is) ∙ c .before .before .before .before .if1 .left) (walk .table-is) (walk .count-is) (walk .marked) (c .before .before .empty .ensures)
 
 pub open-queue-spec : {M : Type 1} → statement M
 open-queue-spec =
@@ -48,8 +54,10 @@ open-queue-spec =
     sound-requires
     same-length
     same-length-2
+    same-length-3
     returns
     empty-requires
-    same-length-3
     same-length-4
+    same-length-5
+    same-length-6
     returns-2)

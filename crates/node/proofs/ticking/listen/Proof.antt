@@ -22,47 +22,53 @@ open-stamp-requires c κs = c .before .before .before .pre .0
 slice-aggregate-open-queue : tie.Need-slice-aggregate-open-queue
 slice-aggregate-open-queue c = search needs
 
+slice-aggregate-open-queue-2 : tie.Need-slice-aggregate-open-queue-2
+slice-aggregate-open-queue-2 c = search needs
+
 open-queue-requires : tie.Need-open-queue-requires
 open-queue-requires c κs =
-    let start = c .before .before .before .before .before .before in
-    (start .pre .0, (record { limits = start .pre .0 .limits; size = start .pre .1 .size }, search needs))
+    let start = c .before .before .before .before .before .before .before in
+    (start .pre .0, (record { limits = start .pre .0 .limits; size = start .pre .1 .size }, (search needs, search needs)))
 
 slice-aggregate-hear : tie.Need-slice-aggregate-hear
 slice-aggregate-hear c =
-    let start = c .before .before .before .before .before .before .before .before .before .before .before .before .before in
-    sym (ap length (c .before .before .before .before .before .before .open-queue .ensures .queued .table-is) ∙ table-long (setupOf (start .args .setup)) (start .args .clock) _)
+    let start = c .before .before .before .before .before .before .before .before .before .before .before .before .before .before .before in
+    sym (ap length (c .before .before .before .before .before .before .before .open-queue .ensures .queued .table-is) ∙ table-long (setupOf (start .args .setup)) (start .args .clock) _)
+
+slice-aggregate-hear-2 : tie.Need-slice-aggregate-hear-2
+slice-aggregate-hear-2 c = sym (c .before .before .before .before .before .before .before .before .open-queue .ensures .queued .marked .long)
 
 hear-requires : tie.Need-hear-requires
 hear-requires c κs =
-    let start = c .before .before .before .before .before .before .before .before .before .before .before .before .before .before in
-    let opened = c .before .before .before .before .before .before .before .open-queue .ensures in (
+    let start = c .before .before .before .before .before .before .before .before .before .before .before .before .before .before .before .before .before in
+    let opened = c .before .before .before .before .before .before .before .before .before .open-queue .ensures in (
       start .pre .0,
       (
         opened .queued,
         (
           opened .ends,
-          listening (setupOf (start .args .setup)) (start .args .clock) (stampOf (start .args .tables)) (limits start) (c .before .before .before .before .before .before .before .before .before .before .open-stamp .ensures) (start .pre .1 .exact) (start .pre .1 .room),
+          listening (setupOf (start .args .setup)) (start .args .clock) (stampOf (start .args .tables)) (limits start) (c .before .before .before .before .before .before .before .before .before .before .before .before .before .open-stamp .ensures) (start .pre .1 .exact) (start .pre .1 .room),
         ),
       ),
     )
 
-add-t24 : tie.Need-add-t24
-add-t24 c =
-    let start = c .before .before .before .before .before .before .before .before .before .before .before .before .before .before .before .before .before .before .before .before .before .before .before in
-    let stamp = c .before .before .before .before .before .before .before .before .before .before .before .before .before .before .before .before .before .before .before .open-stamp in
-    let opened = c .before .before .before .before .before .before .before .before .before .before .before .before .before .before .before .before .open-queue in
+add-t29 : tie.Need-add-t29
+add-t29 c =
+    let start = c .before .before .before .before .before .before .before .before .before .before .before .before .before .before .before .before .before .before .before .before .before .before .before .before .before .before .before in
+    let stamp = c .before .before .before .before .before .before .before .before .before .before .before .before .before .before .before .before .before .before .before .before .before .before .before .open-stamp in
+    let opened = c .before .before .before .before .before .before .before .before .before .before .before .before .before .before .before .before .before .before .before .open-queue in
     omega (arith, repair-small (stamp .result .repair) (opened .result .repair) (stampSound (setupOf (start .args .setup)) (start .args .clock) (stampOf (start .args .tables))) (soundHoldback (setupOf (start .args .setup)) (start .args .clock) (start .args .holdback .now)) (stamp .ensures .repaired) (opened .ensures .repaired))
 
 same-length : tie.Need-same-length
-same-length c = c .before .before .before .before .before .before .before .before .hear .kept .1 .1 .1 .1 .1 .0 ∙ c .before .before .before .before .before .before .before .before .before .before .before .before .before .before .before .before .open-queue .kept .1 .1 .0
+same-length c = c .before .before .before .before .before .before .before .before .before .hear .kept .1 .1 .1 .1 .1 .0 ∙ c .before .before .before .before .before .before .before .before .before .before .before .before .before .before .before .before .before .before .before .open-queue .kept .1 .1 .0
 
 same-length-2 : tie.Need-same-length-2
-same-length-2 c = c .before .before .before .before .before .before .before .before .hear .kept .1 .1 .1 .1 .1 .1 .1 .0
+same-length-2 c = c .before .before .before .before .before .before .before .before .before .hear .kept .1 .1 .1 .1 .1 .1 .1 .1 .0
 
 returns : tie.Need-returns
 returns c =
-    let start = c .before .before .before .before .before .before .before .before .before .before .before .before .before .before .before .before .before .before .before .before .before .before .before in
-    listened (setupOf (start .args .setup)) (start .args .clock) (stampOf (start .args .tables)) (limits start) (c .before .before .before .before .before .before .before .before .before .before .before .before .before .before .before .before .before .before .before .open-stamp .ensures) (c .before .before .before .before .before .before .before .before .before .before .before .before .before .before .before .before .open-queue .ensures) (c .before .before .before .before .before .before .before .before .hear .ensures)
+    let start = c .before .before .before .before .before .before .before .before .before .before .before .before .before .before .before .before .before .before .before .before .before .before .before .before .before .before .before in
+    listened (setupOf (start .args .setup)) (start .args .clock) (stampOf (start .args .tables)) (limits start) (c .before .before .before .before .before .before .before .before .before .before .before .before .before .before .before .before .before .before .before .before .before .before .before .open-stamp .ensures) (c .before .before .before .before .before .before .before .before .before .before .before .before .before .before .before .before .before .before .before .open-queue .ensures) (c .before .before .before .before .before .before .before .before .before .hear .ensures)
 
 pub listen-spec : {M : Type 1} → statement M
 listen-spec =
@@ -70,10 +76,12 @@ listen-spec =
     (tie.spec
     open-stamp-requires
     slice-aggregate-open-queue
+    slice-aggregate-open-queue-2
     open-queue-requires
     slice-aggregate-hear
+    slice-aggregate-hear-2
     hear-requires
-    add-t24
+    add-t29
     same-length
     same-length-2
     returns)

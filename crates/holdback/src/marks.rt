@@ -1,0 +1,57 @@
+// Marks: where some frames of a queue start, so that a search for a place need not begin at the front. A mark is 131072 times a
+// frame's index, and where the frame starts; 0 is no mark.
+ghost use mathlib.Core.Path.{_≡_};
+ghost use Prim.Native.Nat.{_<_};
+ghost use lib.ListN.{length};
+ghost use Rattle.holdback.specs.Marks.{markUnit, markLimit, markPlaces, noMarks, noted, movedMark, movedMarks, Moving};
+
+// Takes all marks away.
+pub fn forget(marks: &mut [usize])
+    requires { ⌜ length (now marks) ≡ markPlaces ⌝ }
+    ensures { λ _. ⌜ now (marks .exit) ≡ noMarks ⌝ }
+{
+    let mut i = 0;
+    while i < 64 {
+        marks[i] = 0;
+        i += 1;
+    }
+}
+
+// Marks frame i, which starts at at, if it is a 32nd one.
+pub fn note(marks: &mut [usize], i: usize, at: usize)
+    requires { ⌜ (length (now marks) ≡ markPlaces) × ((i < 2048) × (at < markUnit)) ⌝ }
+    ensures { λ _. ⌜ now (marks .exit) ≡ noted (now (marks .entry)) i at ⌝ }
+{
+    if i % 32 != 0 {
+        return;
+    }
+    let slot = i / 32;
+    marks[slot] = i * 131072 + at;
+}
+
+// A mark, once a frame of so many bytes is put at a place.
+fn moved_mark(m: usize, place: usize, size: usize) -> usize
+    requires { ⌜ (m < markLimit) × (size < markUnit) ⌝ }
+    ensures { λ r. ⌜ r ≡ movedMark place size m ⌝ }
+{
+    if m == 0 {
+        return m;
+    }
+    if m / 131072 < place {
+        return m;
+    }
+    m + 131072 + size
+}
+
+// All marks, once a frame of so many bytes is put at a place.
+pub fn shift_marks(marks: &mut [usize], place: usize, size: usize)
+    requires { ⌜ Moving (now marks) size ⌝ }
+    ensures { λ _. ⌜ now (marks .exit) ≡ movedMarks place size (now (marks .entry)) ⌝ }
+{
+    let mut i = 0;
+    while i < 64 {
+        let m = marks[i];
+        marks[i] = moved_mark(m, place, size);
+        i += 1;
+    }
+}
