@@ -12,7 +12,7 @@ use lib.ListN.{length, getD, set, length-set, length-replicate, getD-replicate}
 use lib.Seq.{getD-set-same, getD-set-other}
 use borrow.Author.Tests.{lt-ltb, le-ltb, eq-eqb, ne-eqb, eqb-false, not-true}
 use Rattle.laws.specs.Lists.{tab}
-use Rattle.laws.proofs.Numbers.{lt-or-ge, eq-or-ne, and-left, and-right, true-of-not}
+use Rattle.laws.proofs.Numbers.{lt-or-ge, eq-or-ne, and-left, and-right, true-of-not, false-of-not}
 use Rattle.laws.proofs.Lists.{length-tab, getD-tab, tab-getD, tab-ext, set-tab, replicate-tab}
 use Rattle.laws.proofs.Sorted.{pairwise-index, sorted-of-chained, less-trans}
 use Rattle.model.specs.Setup.{Setup}
@@ -21,9 +21,23 @@ use Rattle.model.specs.Order.{keyNear, compareFrames, before}
 use Rattle.model.specs.Holdback.{held, soundHoldback}
 use Rattle.holdback.specs.Queue.{frameStart, frameAt}
 use Rattle.holdback.specs.Sound.{Led}
-use Rattle.holdback.specs.Marks.{markUnit, unset, markLimit, markPlaces, noMarks, Mark, Marking, noted, movedMark, movedMarks, markBefore, Moving}
+use Rattle.holdback.specs.Marks.{markUnit, unset, markLimit, markPlaces, noMarks, Mark, Marking, isNoted, markPlace, noted, movedMark, movedMarks, markBefore, Moving}
 use Rattle.holdback.proofs.Frames.{held-tab}
 use Rattle.holdback.proofs.Judging.{sound-ordered}
+
+pub mark-place-inside : (i : ℕ) → i < 2048 → markPlace i < markPlaces
+unfolding markPlace
+mark-place-inside i h = elim (lt-or-ge i 64) [ inl k ↦ rw (lt-ltb i 64 k) (omega arith) | inr k ↦ rw (le-ltb i 64 k) (omega arith) ]
+
+-- a frame that gets no mark, and one that does
+pub noted-none : {b : Bool} (marks : List ℕ) (i at : ℕ) → b ≡ isNoted i → not b ≡ true → marks ≡ noted marks i at
+unfolding noted
+noted-none {b} marks i at e n = rw (← e, false-of-not b n)
+
+pub noted-some : {b : Bool} {place : ℕ} (marks : List ℕ) (i at : ℕ) → b ≡ isNoted i → not b ≡ false → place ≡ markPlace i
+    → set marks place (i * markUnit + at) ≡ noted marks i at
+unfolding noted
+noted-some {b} marks i at e n h = rw (← e, true-of-not b n, h)
 
 -- ---- the table with its first i places changed
 
@@ -109,24 +123,24 @@ module _ {epsilon : ℕ} {queue : List ℕ} where
   pub noted-marking : {marks l : List ℕ} {i at : ℕ} → Marking epsilon queue i marks → at ≡ frameStart epsilon queue i → at < markUnit → i < 2048
       → l ≡ noted marks i at → Marking epsilon queue (i + 1) l
   unfolding noted
-  noted-marking {marks} {l} {i} {at} old starts low few e = go (eqb (i % 32) 0) refl
+  noted-marking {marks} {l} {i} {at} old starts low few e = go (isNoted i) refl
     where
       mark : ℕ
       mark = i * markUnit + at
 
-      here : (k : ℕ) → k < markPlaces → (k ≡ i / 32) ⊎ (k ≡ i / 32 → ⊥) → (getD (set marks (i / 32) mark) k 0 ≡ unset → ⊥) → Mark epsilon queue (i + 1) (getD (set marks (i / 32) mark) k 0)
+      here : (k : ℕ) → k < markPlaces → (k ≡ markPlace i) ⊎ (k ≡ markPlace i → ⊥) → (getD (set marks (markPlace i) mark) k 0 ≡ unset → ⊥) → Mark epsilon queue (i + 1) (getD (set marks (markPlace i) mark) k 0)
       here k h (inl s) n =
-          let e₁ : getD (set marks (i / 32) mark) k 0 ≡ mark = ap (λ (j : ℕ). getD (set marks (i / 32) mark) j 0) s ∙ getD-set-same marks (i / 32) mark 0 (omega (arith, old .long)) in
+          let e₁ : getD (set marks (markPlace i) mark) k 0 ≡ mark = ap (λ (j : ℕ). getD (set marks (markPlace i) mark) j 0) s ∙ getD-set-same marks (markPlace i) mark 0 (omega (arith, old .long, mark-place-inside i few)) in
           let made : Mark epsilon queue (i + 1) mark = record { inside = omega (arith, mark-index i at low); starts = mark-start i at low ∙ starts ∙ ap (frameStart epsilon queue) (sym (mark-index i at low)) } in
           rw e₁ made
       here k h (inr o) n =
-          let e₁ : getD (set marks (i / 32) mark) k 0 ≡ getD marks k 0 = getD-set-other marks (i / 32) k mark 0 o in
+          let e₁ : getD (set marks (markPlace i) mark) k 0 ≡ getD marks k 0 = getD-set-other marks (markPlace i) k mark 0 o in
           rw e₁ (later (omega arith) (old .each k h (λ z. n (e₁ ∙ z))))
 
-      go : (b : Bool) → eqb (i % 32) 0 ≡ b → Marking epsilon queue (i + 1) l
+      go : (b : Bool) → isNoted i ≡ b → Marking epsilon queue (i + 1) l
       go true t =
-          let e₂ : l ≡ set marks (i / 32) mark = e ∙ rw t in
-          rw e₂ (record { long = length-set marks (i / 32) mark ∙ old .long; each = λ k h n. here k h (eq-or-ne k (i / 32)) n })
+          let e₂ : l ≡ set marks (markPlace i) mark = e ∙ rw t in
+          rw e₂ (record { long = length-set marks (markPlace i) mark ∙ old .long; each = λ k h n. here k h (eq-or-ne k (markPlace i)) n })
       go false t =
           let e₂ : l ≡ marks = e ∙ rw t in
           rw e₂ (record { long = old .long; each = λ k h n. later (omega arith) (old .each k h n) })

@@ -26,7 +26,7 @@ markLimit = 2147483648
 
 -- places in the table
 abbrev pub markPlaces : ℕ
-markPlaces = 64
+markPlaces = 80
 
 -- the empty table
 abbrev pub noMarks : List ℕ
@@ -42,9 +42,17 @@ pub record Marking (epsilon : ℕ) (queue : List ℕ) (count : ℕ) (marks : Lis
   pub long : length marks ≡ markPlaces
   pub each : (i : ℕ) → i < markPlaces → (getD marks i 0 ≡ unset → ⊥) → Mark epsilon queue count (getD marks i 0)
 
--- the table with frame i, which starts at `at`; every 32nd frame gets a mark
+-- frame i gets a mark: every 4th of the first 64, every 32nd of the others
+unfoldable pub isNoted : ℕ → Bool
+isNoted i = cond (ltb i 64) (eqb (i % 4) 0) (eqb (i % 32) 0)
+
+-- the place of its mark in the table
+unfoldable pub markPlace : ℕ → ℕ
+markPlace i = cond (ltb i 64) (i / 4) (14 + i / 32)
+
+-- the table with frame i, which starts at `at`, marked if it gets a mark
 unfoldable pub noted : List ℕ → ℕ → ℕ → List ℕ
-noted marks i at = cond (eqb (i % 32) 0) (set marks (i / 32) (i * markUnit + at)) marks
+noted marks i at = cond (isNoted i) (set marks (markPlace i) (i * markUnit + at)) marks
 
 -- a mark, once a frame of so many bytes is put at a place: a frame from there on has one more before it
 unfoldable pub movedMark : ℕ → ℕ → ℕ → ℕ

@@ -3,7 +3,7 @@
 ghost use mathlib.Core.Path.{_≡_};
 ghost use Prim.Native.Nat.{_<_};
 ghost use lib.ListN.{length};
-ghost use Rattle.holdback.specs.Marks.{markUnit, markLimit, markPlaces, noMarks, noted, movedMark, movedMarks, Moving};
+ghost use Rattle.holdback.specs.Marks.{markUnit, markLimit, markPlaces, noMarks, isNoted, markPlace, noted, movedMark, movedMarks, Moving};
 
 // Takes all marks away.
 pub fn forget(marks: &mut [usize])
@@ -11,21 +11,42 @@ pub fn forget(marks: &mut [usize])
     ensures { λ _. ⌜ now (marks .exit) ≡ noMarks ⌝ }
 {
     let mut i = 0;
-    while i < 64 {
+    while i < 80 {
         marks[i] = 0;
         i += 1;
     }
 }
 
-// Marks frame i, which starts at at, if it is a 32nd one.
+// Frame i gets a mark: every 4th of the first 64, every 32nd of the others.
+fn is_noted(i: usize) -> bool
+    ensures { λ b. ⌜ b ≡ isNoted i ⌝ }
+{
+    if i < 64 {
+        return i % 4 == 0;
+    }
+    i % 32 == 0
+}
+
+// The place of its mark in the table.
+fn mark_place(i: usize) -> usize
+    requires { ⌜ i < 2048 ⌝ }
+    ensures { λ r. ⌜ (r ≡ markPlace i) × (r < markPlaces) ⌝ }
+{
+    if i < 64 {
+        return i / 4;
+    }
+    14 + i / 32
+}
+
+// Marks frame i, which starts at at, if it gets a mark.
 pub fn note(marks: &mut [usize], i: usize, at: usize)
     requires { ⌜ (length (now marks) ≡ markPlaces) × ((i < 2048) × (at < markUnit)) ⌝ }
     ensures { λ _. ⌜ now (marks .exit) ≡ noted (now (marks .entry)) i at ⌝ }
 {
-    if i % 32 != 0 {
+    if !is_noted(i) {
         return;
     }
-    let slot = i / 32;
+    let slot = mark_place(i);
     marks[slot] = i * 131072 + at;
 }
 
@@ -49,7 +70,7 @@ pub fn shift_marks(marks: &mut [usize], place: usize, size: usize)
     ensures { λ _. ⌜ now (marks .exit) ≡ movedMarks place size (now (marks .entry)) ⌝ }
 {
     let mut i = 0;
-    while i < 64 {
+    while i < 80 {
         let m = marks[i];
         marks[i] = moved_mark(m, place, size);
         i += 1;

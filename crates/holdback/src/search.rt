@@ -42,7 +42,7 @@ fn skip(s: Setup, v: usize, buf: &[u8], count: usize, marks: &[usize], frame: &[
     ensures { λ p. ⌜ Led (λ g. before (s .epsilon) (s .modulus) v g (decode (s .epsilon) (now (frame .entry)))) (setupOf s) v (now (buf .entry)) count (p .index) (p .at) ⌝ }
 {
     let mut low = 0;
-    let mut high = count / 32 + 1;
+    let mut high = 16 + count / 32;
     let mut best = Place { index: 0, at: 2 };
     while low < high {
         let middle = (low + high) / 2;

@@ -1,14 +1,17 @@
--- `holdback::marks::note` meets its contract: a frame with another index leaves the table as it was. Assumes nothing.
-use Prim.Native.Nat.{_%_}
-use borrow.Author.Tests.{eq-eqb, ne-eqb}
+-- `holdback::marks::note` meets its contract: a frame that gets no mark leaves the table as it was. Assumes nothing.
 use borrow.Author.Needs.{needs}
-use Rattle.holdback.specs.Marks.{noted}
+use Rattle.holdback.proofs.Marked.{noted-none, noted-some}
 use Rattle.holdback.proofs.marks.note.Statement.{statement}
 use Rattle.holdback.proofs.marks.note.Tie as tie
 
+is-noted-requires : tie.Need-is-noted-requires
+is-noted-requires c κs = search needs
+
 returns : tie.Need-returns
-unfolding noted
-returns c = rw (ne-eqb (c .before .args .i % 32) 0 (c .if1 .taken))
+returns c = noted-none _ _ _ (c .before .is-noted .ensures) (c .if1 .taken)
+
+mark-place-requires : tie.Need-mark-place-requires
+mark-place-requires c κs = search needs
 
 mul-marks : tie.Need-mul-marks
 mul-marks c = search needs
@@ -26,8 +29,18 @@ same-length : tie.Need-same-length
 same-length c = search needs
 
 returns-2 : tie.Need-returns-2
-unfolding noted
-returns-2 c = rw (eq-eqb (c .before .args .i % 32) 0 (c .if1 .left))
+returns-2 c = noted-some _ _ _ (c .before .before .is-noted .ensures) (c .before .if1 .left) (c .mark-place .ensures .0)
 
 pub note-spec : {M : Type 1} → statement M
-note-spec = tie.close (tie.spec returns mul-marks add-marks mul-marks-2 slice-write-marks same-length returns-2)
+note-spec =
+    tie.close
+    (tie.spec
+    is-noted-requires
+    returns
+    mark-place-requires
+    mul-marks
+    add-marks
+    mul-marks-2
+    slice-write-marks
+    same-length
+    returns-2)
