@@ -6,7 +6,7 @@ ghost use lib.ListN.{length};
 ghost use Rattle.holdback.specs.Marks.{markUnit, markLimit, markPlaces, noMarks, isNoted, markPlace, noted, movedMark, movedMarks, Moving};
 
 // Takes all marks away.
-pub fn forget(marks: &mut [usize])
+pub fn forget(marks: &mut [u32])
     requires { ⌜ length (now marks) ≡ markPlaces ⌝ }
     ensures { λ _. ⌜ now (marks .exit) ≡ noMarks ⌝ }
 {
@@ -39,7 +39,7 @@ fn mark_place(i: usize) -> usize
 }
 
 // Marks frame i, which starts at at, if it gets a mark.
-pub fn note(marks: &mut [usize], i: usize, at: usize)
+pub fn note(marks: &mut [u32], i: usize, at: usize)
     requires { ⌜ (length (now marks) ≡ markPlaces) × ((i < 2048) × (at < markUnit)) ⌝ }
     ensures { λ _. ⌜ now (marks .exit) ≡ noted (now (marks .entry)) i at ⌝ }
 {
@@ -47,25 +47,26 @@ pub fn note(marks: &mut [usize], i: usize, at: usize)
         return;
     }
     let slot = mark_place(i);
-    marks[slot] = i * 131072 + at;
+    marks[slot] = (i * 131072 + at) as u32;
 }
 
 // A mark, once a frame of so many bytes is put at a place.
-fn moved_mark(m: usize, place: usize, size: usize) -> usize
+fn moved_mark(m: u32, place: usize, size: usize) -> u32
     requires { ⌜ (m < markLimit) × (size < markUnit) ⌝ }
     ensures { λ r. ⌜ r ≡ movedMark place size m ⌝ }
 {
     if m == 0 {
         return m;
     }
-    if m / 131072 < place {
+    let index = m as usize / 131072;
+    if index < place {
         return m;
     }
-    m + 131072 + size
+    m + 131072 + size as u32
 }
 
 // All marks, once a frame of so many bytes is put at a place.
-pub fn shift_marks(marks: &mut [usize], place: usize, size: usize)
+pub fn shift_marks(marks: &mut [u32], place: usize, size: usize)
     requires { ⌜ Moving (now marks) size ⌝ }
     ensures { λ _. ⌜ now (marks .exit) ≡ movedMarks place size (now (marks .entry)) ⌝ }
 {

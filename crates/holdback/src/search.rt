@@ -34,7 +34,7 @@ fn mark_before(s: Setup, v: usize, buf: &[u8], m: usize, frame: &[u8]) -> bool
 
 // Where the search may start: at a marked frame that comes before the frame, or at the front. The marks are looked at as if
 // they stood in order; where they do not, the search only starts further ahead.
-fn skip(s: Setup, v: usize, buf: &[u8], count: usize, marks: &[usize], frame: &[u8]) -> Place
+fn skip(s: Setup, v: usize, buf: &[u8], count: usize, marks: &[u32], frame: &[u8]) -> Place
     requires { ⌜ (inLimits (setupOf s) ≡ true) × (v < s .modulus) ⌝ }
     requires { ⌜ (soundHoldback (setupOf s) v (now buf) ≡ true) × ((2 ≤ length (now buf)) × (count ≡ twoAt (now buf) 0)) ⌝ }
     requires { ⌜ Marking (s .epsilon) (now buf) count (now marks) ⌝ }
@@ -46,7 +46,7 @@ fn skip(s: Setup, v: usize, buf: &[u8], count: usize, marks: &[usize], frame: &[
     let mut best = Place { index: 0, at: 2 };
     while low < high {
         let middle = (low + high) / 2;
-        let m = marks[middle];
+        let m = marks[middle] as usize;
         if !mark_before(s, v, buf, m, frame) {
             high = middle;
             continue;
@@ -61,14 +61,7 @@ fn skip(s: Setup, v: usize, buf: &[u8], count: usize, marks: &[usize], frame: &[
 }
 
 // 01: "its place on the shelf": the shelved frames that come before it, and where the place stands.
-pub fn place_for(
-    s: Setup,
-    v: usize,
-    buf: &[u8],
-    count: usize,
-    marks: &[usize],
-    frame: &[u8],
-) -> Place
+pub fn place_for(s: Setup, v: usize, buf: &[u8], count: usize, marks: &[u32], frame: &[u8]) -> Place
     requires { ⌜ (inLimits (setupOf s) ≡ true) × (v < s .modulus) ⌝ }
     requires { ⌜ (soundHoldback (setupOf s) v (now buf) ≡ true) × ((2 ≤ length (now buf)) × (count ≡ twoAt (now buf) 0)) ⌝ }
     requires { ⌜ Marking (s .epsilon) (now buf) count (now marks) ⌝ }

@@ -68,7 +68,7 @@ fn walk_frames(
     buf: &[u8],
     count: usize,
     seen: &mut [u8],
-    marks: &mut [usize],
+    marks: &mut [u32],
 ) -> Walk
     requires { ⌜ (inLimits (setupOf s) ≡ true) × (v < s .modulus) ⌝ }
     requires { ⌜ Starting (setupOf s) v (now buf) (now seen) (now marks) count ⌝ }
@@ -105,7 +105,7 @@ fn walk_frames(
 // 01: "It is sound if it holds at most n(δ + 3ε) frames that pass 10 to 12, strictly in order, no station and r twice, each
 // sum at most ε − 1 past v and each sum + δ + ε not before v." The two tables are lent, both empty, and come back with the origins
 // of the frames with which the tick starts, and with marks of some of them.
-pub fn sound(s: Setup, v: usize, buf: &[u8], seen: &mut [u8], marks: &mut [usize]) -> Walk
+pub fn sound(s: Setup, v: usize, buf: &[u8], seen: &mut [u8], marks: &mut [u32]) -> Walk
     requires { ⌜ (inLimits (setupOf s) ≡ true) × (v < s .modulus) ⌝ }
     requires { ⌜ (2 ≤ length (now buf)) × ((now seen ≡ replicate tableLength 0) × (now marks ≡ noMarks)) ⌝ }
     ensures { λ w. ⌜ Opened (setupOf s) v (now (buf .entry)) (w .sound) (w .count) (w .end) (now (seen .exit)) (now (marks .exit)) ⌝ }

@@ -29,7 +29,7 @@ fn take(
     s: &[u8],
     holdback: &mut [u8],
     seen: &mut [u8],
-    marks: &mut [usize],
+    marks: &mut [u32],
 ) -> Timestamp
     requires { ⌜ Taking (setupOf setup) clock (now holdback) (place .index) (now s) ⌝ }
     requires { ⌜ Placing (setup .epsilon) (now holdback) (place .index) (place .at) end ⌝ }
@@ -66,7 +66,7 @@ pub fn hear(
     end: usize,
     holdback: &mut [u8],
     seen: &mut [u8],
-    marks: &mut [usize],
+    marks: &mut [u32],
     verdicts: &mut [u8],
 ) -> Heard
     requires { ⌜ Timed (setupOf setup) clock ⌝ }

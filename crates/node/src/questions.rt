@@ -47,7 +47,7 @@ pub fn judge(
     clock: usize,
     holdback: &[u8],
     seen: &[u8],
-    marks: &[usize],
+    marks: &[u32],
     s: &[u8],
 ) -> Verdict
     requires { ⌜ Timed (setupOf setup) clock ⌝ }

@@ -31,7 +31,7 @@ pub fn open_queue(
     clock: usize,
     holdback: &mut [u8],
     seen: &mut [u8],
-    marks: &mut [usize],
+    marks: &mut [u32],
 ) -> OpenedQueue
     requires { ⌜ Timed (setupOf setup) clock ⌝ }
     requires { ⌜ Stored (setupOf setup) (now holdback) ⌝ }

@@ -61,7 +61,7 @@ fn listen(
         (stampOf (r .stamp)) (r .repair) (r .taken) (r .end) (now (holdback .exit)) (now (verdicts .exit)) ⌝ }
 {
     let mut seen = [0u8; 2048];
-    let mut marks = [0usize; 80];
+    let mut marks = [0u32; 80];
     let opening = open_stamp(setup, clock, tables);
     let opened = open_queue(setup, clock, holdback, &mut seen, &mut marks);
     let stamp = opening.stamp;

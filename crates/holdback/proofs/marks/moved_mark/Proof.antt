@@ -17,6 +17,9 @@ returns-2 c = rw (ne-eqb (c .before .before .args .m) unset (c .before .if1 .lef
 add-result : tie.Need-add-result
 add-result c = search needs
 
+cast-result : tie.Need-cast-result
+cast-result c = search needs
+
 add-result-2 : tie.Need-add-result-2
 add-result-2 c = search needs
 
@@ -25,4 +28,4 @@ unfolding movedMark
 returns-3 c = rw (ne-eqb (c .before .before .args .m) unset (c .before .if1 .left), le-ltb (c .before .before .args .m / markUnit) (c .before .before .args .place) (c .if2 .left))
 
 pub moved-mark-spec : {M : Type 1} → statement M
-moved-mark-spec = tie.close (tie.spec returns returns-2 add-result add-result-2 returns-3)
+moved-mark-spec = tie.close (tie.spec returns returns-2 add-result cast-result add-result-2 returns-3)

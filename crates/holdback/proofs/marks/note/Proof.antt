@@ -19,6 +19,9 @@ mul-marks c = search needs
 add-marks : tie.Need-add-marks
 add-marks c = search needs
 
+cast-marks : tie.Need-cast-marks
+cast-marks c = search needs
+
 mul-marks-2 : tie.Need-mul-marks-2
 mul-marks-2 c = search needs
 
@@ -40,6 +43,7 @@ note-spec =
     mark-place-requires
     mul-marks
     add-marks
+    cast-marks
     mul-marks-2
     slice-write-marks
     same-length

@@ -40,6 +40,9 @@ mul-m c = omega arith
 shared-slice-read-m : tie.Need-shared-slice-read-m Inv-loop μ-loop
 shared-slice-read-m c = omega (arith, c .before .before .before .before .before .before .pre .1 .1 .0 .long)
 
+cast-m : tie.Need-cast-m Inv-loop μ-loop
+cast-m c = omega (arith, c .shared-slice-known4 .given ((c .before .before .loop .low + c .before .before .loop .high) / 2))
+
 -- the mark that is looked at
 module _ (c : tie.In-loop Inv-loop μ-loop) where
   abbrev middle : ℕ
@@ -91,6 +94,7 @@ skip-spec =
     add-middle
     mul-m
     shared-slice-read-m
+    cast-m
     mark-before-requires
     loop-less
     loop-again
