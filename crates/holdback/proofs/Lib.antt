@@ -8,11 +8,11 @@ pub mod Judging
 -- The table of origins, the order of frames.
 pub mod Seen
 pub mod Order
--- The marks of frames.
-pub mod Marked
 -- Changes of the bytes; the tests and walks as the code makes them; what is due.
 pub mod Changes
 pub mod Placed
+-- Where a search may start.
+pub mod Started
 pub mod Testing
 pub mod Walks
 pub mod Cut

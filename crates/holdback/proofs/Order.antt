@@ -12,7 +12,7 @@ use borrow.Author.Tests.{eqb-true, eq-eqb, leb-true}
 use Rattle.laws.specs.Lists.{every, select, leading, chained}
 use Rattle.laws.specs.Lex.{lexCompare, isLess}
 use Rattle.laws.proofs.Lists.{every-mem}
-use Rattle.laws.proofs.Lex.{isLess-lt, lex-lt-cases}
+use Rattle.laws.proofs.Lex.{isLess-lt, lt-isLess, lex-head-lt, lex-lt-cases}
 use Rattle.laws.proofs.Sorted.{Sorted, sorted-of-chained, select-prefix, select-suffix}
 use Rattle.model.specs.Setup.{Setup}
 use Rattle.model.specs.Timestamp.{sum, near}
@@ -22,7 +22,7 @@ use Rattle.model.specs.Holdback.{notOverdue}
 use Rattle.model.specs.Tick.{dueNow}
 
 -- a frame that comes before another is due no later
-due-first : (epsilon delta modulus v : ℕ) (f g : Frame) → before epsilon modulus v f g ≡ true → dueNear epsilon delta modulus v f ≤ dueNear epsilon delta modulus v g
+pub due-first : (epsilon delta modulus v : ℕ) (f g : Frame) → before epsilon modulus v f g ≡ true → dueNear epsilon delta modulus v f ≤ dueNear epsilon delta modulus v g
 unfolding before compareFrames keyNear key dueNear due
 due-first epsilon delta modulus v f g h =
     let a : ℕ = sum (near epsilon modulus v (f .stamp .r)) (f .stamp .c) in
@@ -31,6 +31,15 @@ due-first epsilon delta modulus v f g h =
       | inl l ↦ omega arith
       | inr e ↦ omega (arith, e .0)
     ]
+
+-- and one that is due sooner comes before
+pub due-before : (epsilon delta modulus v : ℕ) (f g : Frame) → dueNear epsilon delta modulus v f < dueNear epsilon delta modulus v g → before epsilon modulus v f g ≡ true
+unfolding before compareFrames keyNear key dueNear due
+due-before epsilon delta modulus v f g h =
+    let a : ℕ = sum (near epsilon modulus v (f .stamp .r)) (f .stamp .c) in
+    let b : ℕ = sum (near epsilon modulus v (g .stamp .r)) (g .stamp .c) in
+    let l : a < b = omega arith in
+    lt-isLess (lex-head-lt a b (countsDown epsilon (f .stamp) ++ (f .station ∷ near epsilon modulus v (f .stamp .r) ∷ [])) (countsDown epsilon (g .stamp) ++ (g .station ∷ near epsilon modulus v (g .stamp .r) ∷ [])) l)
 
 module _ (s : Setup) (v : ℕ) (queue : List Frame) (ordered : chained (before (s .epsilon) (s .modulus) v) queue ≡ true) (kept : every (notOverdue s v) queue ≡ true) where
   sorted : Sorted (keyNear (s .epsilon) (s .modulus) v) queue

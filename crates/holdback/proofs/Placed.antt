@@ -65,14 +65,14 @@ module _ (epsilon : ℕ) (queue : List Frame) (rest : List ℕ) (wide : Wide eps
 -- ---- the first i of a list with one element more
 
 module _ {A : Type 0} where
-  take-insert-low : (p i : ℕ) (x : A) (l : List A) → i ≤ p → i ≤ length l → take i (insertAt p x l) ≡ take i l
+  pub take-insert-low : (p i : ℕ) (x : A) (l : List A) → i ≤ p → i ≤ length l → take i (insertAt p x l) ≡ take i l
   unfolding insertAt
   take-insert-low p zero x l h k = refl
   take-insert-low zero (suc i) x l h k = absurd (not-suc-le-zero h)
   take-insert-low (suc p) (suc i) x [] h k = absurd (not-suc-le-zero k)
   take-insert-low (suc p) (suc i) x (y ∷ l) h k = ap (λ (m : List A). y ∷ m) (take-insert-low p i x l (omega arith) (omega arith))
 
-  take-insert-high : (p i : ℕ) (x : A) (l : List A) → p ≤ i → take (suc i) (insertAt p x l) ≡ insertAt p x (take i l)
+  pub take-insert-high : (p i : ℕ) (x : A) (l : List A) → p ≤ i → take (suc i) (insertAt p x l) ≡ insertAt p x (take i l)
   unfolding insertAt
   take-insert-high zero i x l h = refl
   take-insert-high (suc p) zero x l h = absurd (not-suc-le-zero h)

@@ -8,7 +8,7 @@ use mathlib.Core.Logic.{_⊎_, inl, inr}
 use mathlib.Core.List.{List, [], _∷_, _++_}
 use lib.Dec.{leb, eqb}
 use lib.ListN.{length, take, drop, length-take, length-drop}
-use borrow.Author.Tests.{le-leb, lt-leb, eq-eqb, ne-eqb}
+use borrow.Author.Tests.{le-leb, lt-leb, leb-true, eq-eqb, ne-eqb}
 use Rattle.laws.specs.Lex.{lexCompare, isLess}
 use Rattle.model.specs.Setup.{Setup}
 use Rattle.model.specs.Timestamp.{sum, near}
@@ -28,6 +28,7 @@ use Rattle.frame.proofs.Asking.{counts-part}
 use Rattle.holdback.proofs.Shapes.{Formed, formed}
 use Rattle.holdback.specs.Queue.{rankOf}
 use Rattle.holdback.specs.Sound.{fits, Summed}
+use Rattle.holdback.specs.Starts.{sumPlace}
 use Rattle.lemmas.proofs.Reading.{near-high}
 use Rattle.holdback.proofs.RoundTrip.{Passing, passing}
 
@@ -75,6 +76,15 @@ module _ (s : Setup) (v : ℕ) (bytes : List ℕ) (r : ℕ) (ok : passes s bytes
 pub due-tested : (s : Setup) (v : ℕ) (f : Frame) (r : ℕ) → Summed s v f r → eqb (r + s .delta + s .epsilon) (s .modulus) ≡ dueNow s v f
 unfolding dueNow dueNear due readingOf sum
 due-tested s v f r total = rw (total .is-sum)
+
+-- the place of a sum
+pub sum-placed : (s : Setup) (v : ℕ) (f : Frame) (r : ℕ) → Summed s v f r → r + s .delta + s .epsilon - s .modulus ≡ sumPlace s v f
+unfolding sumPlace dueNear due readingOf sum
+sum-placed s v f r total = rw (total .is-sum)
+
+pub sum-past : (s : Setup) (v : ℕ) (f : Frame) (r : ℕ) → Summed s v f r → notOverdue s v f ≡ true → s .modulus ≤ r + s .delta + s .epsilon
+unfolding notOverdue dueNear due readingOf sum
+sum-past s v f r total h = rw (total .is-sum) (leb-true _ _ h)
 
 -- ---- the order of two
 

@@ -23,11 +23,11 @@ use Rattle.timestamp.proofs.InLimits.{depth-most}
 use Rattle.holdback.specs.Queue.{frameStart, bytesAt, frameAt, Stands}
 use Rattle.holdback.specs.Sound.{fits, follows, isNew, frameSound, Walking, Between, Starting, Opened, openedQueue, Led}
 use Rattle.holdback.specs.Seen.{InWindow, isMarked, marked, slotOf, seenTable, tableLength}
-use Rattle.holdback.specs.Marks.{markUnit, noMarks, Marking}
+use Rattle.holdback.specs.Starts.{startUnit, startPlaces, allFront, sumPlace, StartTable, filled}
 use Rattle.holdback.proofs.RoundTrip.{passing}
 use Rattle.holdback.proofs.Frames.{start-zero, start-suc, start-inside, start-within, start-most, held-tab, FormedUpTo}
 use Rattle.holdback.proofs.Judging.{fitting, frame-fits, frame-follows, frame-new, sound-by, sound-few, sound-frames, sound-formed}
-use Rattle.holdback.proofs.Marked.{unmarked}
+use Rattle.holdback.proofs.Started.{front-table, filled-table, start-at, place-inside, sums-rise}
 use Rattle.holdback.proofs.Seen.{fitting-window, seen-at, seen-more, length-seen}
 
 -- ---- where a frame stands, by the code's numbers
@@ -76,8 +76,8 @@ module _ {s : Setup} {v : ℕ} {b table : List ℕ} {i prev at : ℕ} (walk : Wa
   pub at-inside : at ≤ length b
   at-inside = rw (walk .starts) (start-within (s .epsilon) b i (walk .two) formed-so-far)
 
-  -- a mark has room for it
-  pub at-low-enough : Limits s → i ≤ depth (s .n) (s .epsilon) (s .delta) → (i < 2048) × (at < markUnit)
+  -- an entry has room for it
+  pub at-low-enough : Limits s → i ≤ depth (s .n) (s .epsilon) (s .delta) → (i < 2048) × (at < startUnit)
   unfolding depth
   at-low-enough limits few =
       let most : i ≤ 1792 = omega (arith, depth-most (s .n) (s .epsilon) (s .delta) (limits .n-most) (limits .epsilon-most) (limits .delta-most)) in
@@ -224,7 +224,15 @@ follows-none s v b i e = ap (follows s v b) (sym e)
 
 -- ---- the whole walk
 
-pub walk-starts : {s : Setup} {v : ℕ} {b table marks : List ℕ} {count : ℕ} → Starting s v b table marks count → Walking s v b table 0 2 2
+-- the table of starts at frame i: the frames so far have their sums' places below `from`, where the next ones are filled
+pub record Filling (s : Setup) (v : ℕ) (b : List ℕ) (i from : ℕ) (starts : List ℕ) : Type 0 where
+  pub table : StartTable s v b i starts
+  pub below : (j : ℕ) → j < i → sumPlace s v (frameAt (s .epsilon) b j) < from
+
+pub filling-starts : {s : Setup} {v : ℕ} {b starts : List ℕ} → starts ≡ allFront → Filling s v b 0 0 starts
+filling-starts e = record { table = front-table e; below = λ j h. absurd (not-suc-le-zero h) }
+
+pub walk-starts : {s : Setup} {v : ℕ} {b table starts : List ℕ} {count : ℕ} → Starting s v b table starts count → Walking s v b table 0 2 2
 unfolding tab
 walk-starts {s} {v} {b} begin =
     record {
@@ -235,7 +243,7 @@ walk-starts {s} {v} {b} begin =
       table-is = begin .empty;
     }
 
-pub starting-long : {s : Setup} {v : ℕ} {b table marks : List ℕ} {count : ℕ} → Starting s v b table marks count → length table ≡ tableLength
+pub starting-long : {s : Setup} {v : ℕ} {b table starts : List ℕ} {count : ℕ} → Starting s v b table starts count → length table ≡ tableLength
 starting-long {s} {v} begin = ap length (begin .empty) ∙ length-seen s v []
 
 pub verdict-no : (s : Setup) (v : ℕ) (b : List ℕ) (i next : ℕ) → next ≡ verdictAt s v b i → next ≡ 0 → frameSound s v b i ≡ false
@@ -298,9 +306,30 @@ module _ {s : Setup} {v : ℕ} {b table : List ℕ} {i prev at : ℕ} (walk : Wa
             ∙ ap (λ (n : ℕ). seenTable s v (tab n (frameAt (s .epsilon) b))) (sym (add-one i));
       }
 
-pub opened-no : {s : Setup} {v : ℕ} {b table marks : List ℕ} → soundHoldback s v b ≡ false → table ≡ seenTable s v [] → marks ≡ noMarks → Opened s v b false 0 2 table marks
+  -- the frame for the table of starts
+  pub judged-fits : fits s v (take (next - at) (drop at b)) ≡ true
+  judged-fits = ap (fits s v) judged-part ∙ frame-fits s v b i (right .0)
+
+  pub filling-turns : {from k : ℕ} {starts l : List ℕ} → Filling s v b i from starts → at < startUnit → i < twoAt b 0
+      → k ≡ sumPlace s v (decode (s .epsilon) (take (next - at) (drop at b))) → l ≡ filled (i * startUnit + at) from (k + 1) starts → Filling s v b (i + 1) (k + 1) l
+  unfolding frameAt
+  filling-turns {from} {k} old low few e h =
+      let own : k ≡ sumPlace s v (frameAt (s .epsilon) b i) = e ∙ ap (λ (l : List ℕ). sumPlace s v (decode (s .epsilon) l)) judged-part in
+      record {
+        table = filled-table (k + 1) (omega arith) (old .table) (λ j g. start-at (walk .starts) low (omega arith) (omega arith) (λ n l. omega (arith, old .below n l))) h;
+        below = λ j l. omega (arith, own, sums-rise s v b i each-more j l);
+      }
+
+-- the end fills the last places
+pub filling-ends : {s : Setup} {v : ℕ} {b table : List ℕ} {i prev at from count : ℕ} {starts l : List ℕ} → Walking s v b table i prev at → Filling s v b i from starts
+    → at < startUnit → count ≡ twoAt b 0 → i ≤ count → count ≤ i → l ≡ filled (count * startUnit + at) from startPlaces starts → StartTable s v b count l
+filling-ends {s} {b} {i} {count} walk old low counted le ge h =
+    let e : i ≡ count = omega arith in
+    filled-table startPlaces le (old .table) (λ j g. start-at (walk .starts ∙ ap (frameStart (s .epsilon) b) e) low (omega arith) (omega (arith, counted)) (λ n l. omega (arith, old .below n (omega arith)))) h
+
+pub opened-no : {s : Setup} {v : ℕ} {b table starts : List ℕ} → soundHoldback s v b ≡ false → table ≡ seenTable s v [] → starts ≡ allFront → Opened s v b false 0 2 table starts
 unfolding openedQueue
-opened-no {s} {v} {b} h e none = record { sound-is = sym h; count-is = rw h; stop-is = rw h; table-is = e ∙ rw h; marked = unmarked none }
+opened-no {s} {v} {b} h e none = record { sound-is = sym h; count-is = rw h; stop-is = rw h; table-is = e ∙ rw h; started = front-table none }
 
 pub walk-fails : (s : Setup) (v : ℕ) (b : List ℕ) (i : ℕ) → i < twoAt b 0 → frameSound s v b i ≡ false → soundHoldback s v b ≡ false
 walk-fails s v b i l h = false-of-no (soundHoldback s v b) (λ e. clash (sound-frames s v b e i l) h)
@@ -308,10 +337,10 @@ walk-fails s v b i l h = false-of-no (soundHoldback s v b) (λ e. clash (sound-f
 pub too-many : (s : Setup) (v : ℕ) (b : List ℕ) → depth (s .n) (s .epsilon) (s .delta) < twoAt b 0 → soundHoldback s v b ≡ false
 too-many s v b h = false-of-no (soundHoldback s v b) (λ e. omega (arith, sound-few s v b e))
 
-pub opened-yes : {s : Setup} {v : ℕ} {b t m table marks : List ℕ} {count i prev at : ℕ} → Starting s v b t m count → Walking s v b table i prev at → Marking (s .epsilon) b i marks → i ≤ count → count ≤ i
-    → Opened s v b true count at table marks
+pub opened-yes : {s : Setup} {v : ℕ} {b t m table starts : List ℕ} {count i prev at : ℕ} → Starting s v b t m count → Walking s v b table i prev at → StartTable s v b count starts → i ≤ count → count ≤ i
+    → Opened s v b true count at table starts
 unfolding openedQueue
-opened-yes {s} {v} {b} {marks} {count} {i} begin walk marked le ge =
+opened-yes {s} {v} {b} {count} {i} begin walk started le ge =
     let all : i ≡ twoAt b 0 = omega (arith, begin .counted) in
     let sound : soundHoldback s v b ≡ true =
     sound-by s v b (omega (arith, begin .counted, begin .few)) (λ k l. walk .each k (omega arith)) in
@@ -323,7 +352,7 @@ opened-yes {s} {v} {b} {marks} {count} {i} begin walk marked le ge =
           walk .table-is
           ∙ ap (seenTable s v)
           (ap (λ (n : ℕ). tab n (frameAt (s .epsilon) b)) all ∙ sym (held-tab (s .epsilon) b) ∙ rw sound);
-      marked = let e : i ≡ count = omega arith in rw (← e) marked;
+      started = started;
     }
 
 -- ---- a search in a sound queue: the frames at the front of which a test holds

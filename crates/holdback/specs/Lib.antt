@@ -1,6 +1,6 @@
 -- `Queue` says where the frames of a queue stand, `Sound` what soundness asks of each of them, `Seen` what a table of their origins holds,
--- `Marks` what a table of where some of them start holds.
+-- `Starts` what a table of where a search may start holds.
 pub mod Queue
 pub mod Sound
 pub mod Seen
-pub mod Marks
+pub mod Starts

@@ -13,7 +13,7 @@ use Rattle.model.specs.Order.{before}
 use Rattle.model.specs.Holdback.{held, passes, notEarly, notOverdue, sameOrigin, soundHoldback}
 use Rattle.holdback.specs.Queue.{frameStart, bytesAt, frameAt}
 use Rattle.holdback.specs.Seen.{seenTable}
-use Rattle.holdback.specs.Marks.{Marking, noMarks}
+use Rattle.holdback.specs.Starts.{StartTable, allFront}
 
 -- of a frame alone: it passes 10 to 12, is not early and not overdue
 unfoldable pub fits : Setup → ℕ → List ℕ → Bool
@@ -47,13 +47,13 @@ pub record Walking (s : Setup) (v : ℕ) (queue table : List ℕ) (i prev at : �
   pub each : (k : ℕ) → k < i → frameSound s v queue k ≡ true
   pub table-is : table ≡ seenTable s v (tab i (frameAt (s .epsilon) queue))
 
--- where it begins: the count is in its bound, and the tables are empty
-pub record Starting (s : Setup) (v : ℕ) (queue table marks : List ℕ) (count : ℕ) : Type 0 where
+-- where it begins: the count is in its bound, the table of origins is empty, and every search starts at the front
+pub record Starting (s : Setup) (v : ℕ) (queue table starts : List ℕ) (count : ℕ) : Type 0 where
   pub two : 2 ≤ length queue
   pub counted : count ≡ twoAt queue 0
   pub few : count ≤ depth (s .n) (s .epsilon) (s .delta)
   pub empty : table ≡ seenTable s v []
-  pub unmarked : marks ≡ noMarks
+  pub all-front : starts ≡ allFront
 
 -- frame i, at `at`, and the one before it, at `prev`, pass 10 to 12
 pub record Between (s : Setup) (v : ℕ) (queue : List ℕ) (i prev at next : ℕ) : Type 0 where
@@ -68,12 +68,12 @@ unfoldable pub openedQueue : Setup → ℕ → List ℕ → List Frame
 openedQueue s v queue = cond (soundHoldback s v queue) (held (s .epsilon) queue) []
 
 -- what the walk over a whole queue answers, and the tables that it leaves
-pub record Opened (s : Setup) (v : ℕ) (queue : List ℕ) (sound : Bool) (count stop : ℕ) (table marks : List ℕ) : Type 0 where
+pub record Opened (s : Setup) (v : ℕ) (queue : List ℕ) (sound : Bool) (count stop : ℕ) (table starts : List ℕ) : Type 0 where
   pub sound-is : sound ≡ soundHoldback s v queue
   pub count-is : count ≡ cond (soundHoldback s v queue) (twoAt queue 0) 0
   pub stop-is : stop ≡ cond (soundHoldback s v queue) (frameStart (s .epsilon) queue (twoAt queue 0)) 2
   pub table-is : table ≡ seenTable s v (openedQueue s v queue)
-  pub marked : Marking (s .epsilon) queue count marks
+  pub started : StartTable s v queue count starts
 
 -- a search in a sound queue has come to frame i, which starts at `at`, and the test holds of every frame before it
 pub record Led (p : Frame → Bool) (s : Setup) (v : ℕ) (b : List ℕ) (count i at : ℕ) : Type 0 where

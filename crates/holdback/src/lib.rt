@@ -3,19 +3,20 @@
 mod change;
 mod compare;
 mod due;
-mod marks;
 mod origins;
 mod search;
 mod soundness;
+mod starts;
 mod test;
 
 pub use change::Place;
 pub use change::empty;
 pub use change::put;
 pub use due::cut_due;
-pub use marks::shift_marks;
 pub use origins::mark;
 pub use origins::repeats;
 pub use search::place_for;
 pub use soundness::Walk;
 pub use soundness::sound;
+pub use starts::shift_starts;
+pub use test::sum_place;

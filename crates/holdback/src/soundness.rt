@@ -1,10 +1,10 @@
 // 01: "It is sound if": one walk over the frames, each judged once, its origin by one look-up.
 use crate::compare::comes_before;
-use crate::marks::forget;
-use crate::marks::note;
 use crate::origins::mark;
 use crate::origins::repeats;
+use crate::starts::fill;
 use crate::test::fits;
+use crate::test::sum_place;
 use timestamp::Setup;
 use timestamp::depth;
 ghost use mathlib.Core.Path.{_≡_};
@@ -15,7 +15,7 @@ ghost use Rattle.model.specs.Setup.{inLimits};
 ghost use Rattle.timestamp.specs.Views.{setupOf};
 ghost use Rattle.holdback.specs.Queue.{frameStart};
 ghost use Rattle.holdback.specs.Seen.{tableLength};
-ghost use Rattle.holdback.specs.Marks.{noMarks};
+ghost use Rattle.holdback.specs.Starts.{allFront};
 ghost use Rattle.holdback.specs.Sound.{follows, frameSound, Walking, Between, Starting, Opened};
 
 // What the walk answers: sound or not, the number of frames, and where they end. Of an unsound queue the figures are those
@@ -60,29 +60,31 @@ fn judge_at(s: Setup, v: usize, buf: &[u8], seen: &[u8], i: usize, prev: usize, 
     next
 }
 
-// The walk, with the origins of the frames so far in the table, and marks of some of them. At a frame that is not sound both are
-// cleared again.
+// The walk, with the origins of the frames so far in one table, and in the other where the frames of each sum start: the places up
+// to that of a frame's sum that are not filled yet get the frame, and the last ones the end. At a frame that is not sound both
+// tables become what they were.
 fn walk_frames(
     s: Setup,
     v: usize,
     buf: &[u8],
     count: usize,
     seen: &mut [u8],
-    marks: &mut [u32],
+    starts: &mut [u32],
 ) -> Walk
     requires { ⌜ (inLimits (setupOf s) ≡ true) × (v < s .modulus) ⌝ }
-    requires { ⌜ Starting (setupOf s) v (now buf) (now seen) (now marks) count ⌝ }
-    ensures { λ w. ⌜ Opened (setupOf s) v (now (buf .entry)) (w .sound) (w .count) (w .end) (now (seen .exit)) (now (marks .exit)) ⌝ }
+    requires { ⌜ Starting (setupOf s) v (now buf) (now seen) (now starts) count ⌝ }
+    ensures { λ w. ⌜ Opened (setupOf s) v (now (buf .entry)) (w .sound) (w .count) (w .end) (now (seen .exit)) (now (starts .exit)) ⌝ }
 {
     let slots = seen.len();
     let mut i = 0;
     let mut prev = 2;
     let mut at = 2;
+    let mut filled = 0;
     while i < count {
         let next = judge_at(s, v, buf, seen, i, prev, at);
         if next == 0 {
             splice::clear(seen, 0, slots);
-            forget(marks);
+            fill(starts, 0, 96, 2);
             return Walk {
                 sound: false,
                 count: 0,
@@ -90,11 +92,14 @@ fn walk_frames(
             };
         }
         mark(s, v, &buf[at..next], seen);
-        note(marks, i, at);
+        let k = sum_place(s, v, &buf[at..next]) + 1;
+        fill(starts, filled, k, (i * 131072 + at) as u32);
+        filled = k;
         prev = at;
         at = next;
         i += 1;
     }
+    fill(starts, filled, 96, (count * 131072 + at) as u32);
     Walk {
         sound: true,
         count,
@@ -103,12 +108,12 @@ fn walk_frames(
 }
 
 // 01: "It is sound if it holds at most n(δ + 3ε) frames that pass 10 to 12, strictly in order, no station and r twice, each
-// sum at most ε − 1 past v and each sum + δ + ε not before v." The two tables are lent, both empty, and come back with the origins
-// of the frames with which the tick starts, and with marks of some of them.
-pub fn sound(s: Setup, v: usize, buf: &[u8], seen: &mut [u8], marks: &mut [u32]) -> Walk
+// sum at most ε − 1 past v and each sum + δ + ε not before v." The two tables are lent, the one empty and the other with the front in
+// each place, and come back for the frames with which the tick starts.
+pub fn sound(s: Setup, v: usize, buf: &[u8], seen: &mut [u8], starts: &mut [u32]) -> Walk
     requires { ⌜ (inLimits (setupOf s) ≡ true) × (v < s .modulus) ⌝ }
-    requires { ⌜ (2 ≤ length (now buf)) × ((now seen ≡ replicate tableLength 0) × (now marks ≡ noMarks)) ⌝ }
-    ensures { λ w. ⌜ Opened (setupOf s) v (now (buf .entry)) (w .sound) (w .count) (w .end) (now (seen .exit)) (now (marks .exit)) ⌝ }
+    requires { ⌜ (2 ≤ length (now buf)) × ((now seen ≡ replicate tableLength 0) × (now starts ≡ allFront)) ⌝ }
+    ensures { λ w. ⌜ Opened (setupOf s) v (now (buf .entry)) (w .sound) (w .count) (w .end) (now (seen .exit)) (now (starts .exit)) ⌝ }
 {
     let count = splice::two_at(buf, 0);
     if depth(s.n as usize, s.epsilon as usize, s.delta as usize) < count {
@@ -118,5 +123,5 @@ pub fn sound(s: Setup, v: usize, buf: &[u8], seen: &mut [u8], marks: &mut [u32])
             end: 2,
         };
     }
-    walk_frames(s, v, buf, count, seen, marks)
+    walk_frames(s, v, buf, count, seen, starts)
 }

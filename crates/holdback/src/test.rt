@@ -11,6 +11,7 @@ ghost use Rattle.model.specs.Holdback.{passes};
 ghost use Rattle.model.specs.Tick.{dueNow};
 ghost use Rattle.timestamp.specs.Views.{setupOf};
 ghost use Rattle.holdback.specs.Sound.{fits, Summed};
+ghost use Rattle.holdback.specs.Starts.{sumPlace};
 
 // The reading of a frame's r near v.
 pub fn reading_of(s: Setup, v: usize, frame: &[u8]) -> usize
@@ -59,4 +60,13 @@ pub fn is_due(s: Setup, v: usize, frame: &[u8]) -> bool
     ensures { λ b. ⌜ b ≡ dueNow (setupOf s) v (decode (s .epsilon) (now (frame .entry))) ⌝ }
 {
     sum_of(s, v, frame) + s.delta as usize + s.epsilon as usize == s.modulus as usize
+}
+
+// The place of its sum in a table by sums: how far its due clock lies past v.
+pub fn sum_place(s: Setup, v: usize, frame: &[u8]) -> usize
+    requires { ⌜ (inLimits (setupOf s) ≡ true) × (v < s .modulus) ⌝ }
+    requires { ⌜ fits (setupOf s) v (now frame) ≡ true ⌝ }
+    ensures { λ r. ⌜ r ≡ sumPlace (setupOf s) v (decode (s .epsilon) (now (frame .entry))) ⌝ }
+{
+    sum_of(s, v, frame) + s.delta as usize + s.epsilon as usize - s.modulus as usize
 }

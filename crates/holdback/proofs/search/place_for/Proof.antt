@@ -1,31 +1,51 @@
--- `holdback::search::place_for` meets its contract. The search starts where `skip` says. The invariant of the loop: every frame passed comes before it, and the next one starts at `at`. The measure is what is left of the count. Assumes nothing.
+-- `holdback::search::place_for` meets its contract. The search starts at the entry for the frame's sum. The invariant of the loop: every frame passed comes before it, and the next one starts at `at`. The measure is what is left of the count. Assumes nothing.
 use borrow.Author.Needs.{needs}
 use native.Mathlib.Omega.{arith}
-use Prim.Native.Nat.{_-_}
+use Prim.Native.Nat.{_-_, _<_}
 use Rattle.model.specs.Frame.{decode}
 use Rattle.model.specs.Order.{before}
 use Rattle.model.specs.Judge.{placeFor}
 use Rattle.timestamp.specs.Views.{setupOf}
 use Rattle.lemmas.proofs.Questions.{limits-from}
 use Rattle.holdback.specs.Sound.{Led}
+use Rattle.holdback.specs.Starts.{startPlaces}
+use Rattle.holdback.proofs.Judging.{fitting}
+use Rattle.holdback.proofs.Started.{place-inside, start-leads}
 use Rattle.holdback.proofs.Walks.{led-inside, led-next, led-passes, led-stops, led-turns, led-ends}
 use Rattle.holdback.proofs.search.place_for.Statement.{statement}
 use Rattle.holdback.proofs.search.place_for.Tie as tie
 
 abbrev Inv-loop : tie.InvT-loop
-Inv-loop s v buf count marks frame epsilon i₀ at₀ i at = Led (λ g. before (s .epsilon) (s .modulus) v g (decode (s .epsilon) frame)) (setupOf s) v buf count i at
+Inv-loop s v buf count starts frame epsilon start i₀ at₀ i at = Led (λ g. before (s .epsilon) (s .modulus) v g (decode (s .epsilon) frame)) (setupOf s) v buf count i at
 
 abbrev μ-loop : tie.MeasureT-loop
-μ-loop s v buf count marks frame epsilon i₀ at₀ i at = count - i
+μ-loop s v buf count starts frame epsilon start i₀ at₀ i at = count - i
 
 cast-epsilon : tie.Need-cast-epsilon Inv-loop μ-loop
 cast-epsilon c = search needs
 
-skip-requires : tie.Need-skip-requires Inv-loop μ-loop
-skip-requires c κs = c .before .before .before .before .pre
+sum-place-requires : tie.Need-sum-place-requires Inv-loop μ-loop
+sum-place-requires c κs = let start = c .before .before .before .before in (start .pre .0, start .pre .1 .1 .1)
+
+-- the frame's sum has a place
+inside : (c : tie.After-sum-place Inv-loop μ-loop) → c .sum-place .result < startPlaces
+inside c =
+    let start = c .before .before .before .before .before in
+    omega (arith, c .sum-place .ensures, place-inside (setupOf (start .args .s)) (start .args .v) (limits-from (setupOf (start .args .s)) (start .pre .0 .0)) (start .args .frame .now) (start .pre .1 .1 .1))
+
+mul-start : tie.Need-mul-start Inv-loop μ-loop
+mul-start c = omega (arith, inside c)
+
+shared-slice-read-start : tie.Need-shared-slice-read-start Inv-loop μ-loop
+shared-slice-read-start c = omega (arith, inside (c .before), c .before .before .before .before .before .before .pre .1 .1 .0 .long)
+
+cast-start : tie.Need-cast-start Inv-loop μ-loop
+cast-start c = omega (arith, c .shared-slice-known4 .given (c .before .sum-place .result))
 
 loop-holds : tie.Need-loop-holds Inv-loop μ-loop
-loop-holds c = c .skip .ensures
+loop-holds c =
+    let start = c .before .before .before .before .before .before in
+    start-leads (decode (start .args .s .epsilon) (start .args .frame .now)) (start .pre .1 .0) (start .pre .1 .1 .0 .each (c .before .sum-place .result) (inside (c .before))) (c .before .sum-place .ensures)
 
 sub-frame-end : tie.Need-sub-frame-end Inv-loop μ-loop
 sub-frame-end c = led-inside (c .before .loop .inv) (c .loop-test .taken)
@@ -37,7 +57,7 @@ part-frame-end-end : tie.Need-part-frame-end-end Inv-loop μ-loop
 part-frame-end-end c = search needs
 
 frame-end-requires : tie.Need-frame-end-requires Inv-loop μ-loop
-frame-end-requires c κs = limits-from (setupOf (c .before .before .before .before .before .before .before .before .args .s)) (c .before .before .before .before .before .before .before .before .pre .0 .0) .epsilon-most
+frame-end-requires c κs = limits-from (setupOf (c .before .before .before .before .before .before .before .before .before .args .s)) (c .before .before .before .before .before .before .before .before .before .pre .0 .0) .epsilon-most
 
 add-next : tie.Need-add-next Inv-loop μ-loop
 add-next c = omega (arith, led-next (c .before .before .before .loop .inv) (c .before .before .loop-test .taken) (c .frame-end .ensures))
@@ -53,9 +73,9 @@ part-comes-before-end c = omega (arith, led-next (c .before .before .before .loo
 
 comes-before-requires : tie.Need-comes-before-requires Inv-loop μ-loop
 comes-before-requires c κs =
-    let start = c .before .before .before .before .before .before .before .before .before .before in
+    let start = c .before .before .before .before .before .before .before .before .before .before .before in
     let ok = led-passes (c .before .before .before .before .loop .inv) (c .before .before .before .loop-test .taken) (c .before .frame-end .ensures) in
-    (start .pre .0, (ok, start .pre .1 .1 .1))
+    (start .pre .0, (ok, fitting (setupOf (start .args .s)) (start .args .v) (start .args .frame .now) (start .pre .1 .1 .1) .passed))
 
 returns : tie.Need-returns Inv-loop μ-loop
 unfolding placeFor
@@ -83,7 +103,10 @@ place-for-spec =
     Inv-loop
     μ-loop
     cast-epsilon
-    skip-requires
+    sum-place-requires
+    mul-start
+    shared-slice-read-start
+    cast-start
     loop-holds
     sub-frame-end
     part-frame-end-start

@@ -45,7 +45,7 @@ walk-frames-requires c κs =
         counted = c .before .before .before .before .before .before .before .two-at .ensures;
         few = omega (arith, c .before .before .before .depth .ensures, c .before .before .if1 .left);
         empty = start .pre .1 .1 .0 ∙ seen-none (setupOf (start .args .s)) (start .args .v);
-        unmarked = start .pre .1 .1 .1;
+        all-front = start .pre .1 .1 .1;
       },
     )
 

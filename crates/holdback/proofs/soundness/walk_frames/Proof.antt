@@ -1,4 +1,4 @@
--- `holdback::soundness::walk_frames` meets its contract. The invariant of the loop: the frames so far are sound, and the tables have their origins and marks of some of them. The measure is what is left of the count. Assumes nothing.
+-- `holdback::soundness::walk_frames` meets its contract. The invariant of the loop: the frames so far are sound, and the tables have their origins and, for sums up to theirs, where those start. The measure is what is left of the count. Assumes nothing.
 use native.Mathlib.Omega.{arith}
 use Rattle.timestamp.specs.Views.{setupOf}
 use mathlib.Core.Path.{_≡_, ap, sym, _∙_}
@@ -11,22 +11,22 @@ use Rattle.model.specs.Frame.{twoAt}
 use Rattle.lemmas.proofs.Questions.{limits-from}
 use Rattle.holdback.specs.Queue.{frameStart}
 use Rattle.holdback.specs.Sound.{frameSound, Walking}
-use Rattle.holdback.specs.Marks.{unset, markUnit, markPlaces, Marking}
+use Rattle.holdback.specs.Starts.{startUnit, startPlaces, front}
 use Rattle.holdback.proofs.Seen.{seen-cleared}
-use Rattle.holdback.proofs.Marked.{unmarked, noted-marking}
-use Rattle.holdback.proofs.Walks.{walk-starts, starting-long, table-long, at-low-enough, verdict-no, verdict-yes, walk-fails, opened-no, opened-yes, judged-inside, judged-window, walk-turns}
+use Rattle.holdback.proofs.Started.{all-front, place-inside}
+use Rattle.holdback.proofs.Walks.{walk-starts, starting-long, table-long, at-low-enough, verdict-no, verdict-yes, walk-fails, opened-no, opened-yes, judged-inside, judged-window, walk-turns, Filling, filling-starts, judged-fits, filling-turns, filling-ends}
 use Rattle.holdback.proofs.soundness.walk_frames.Statement.{statement}
 use Rattle.holdback.proofs.soundness.walk_frames.Tie as tie
 
 abbrev Inv-loop : tie.InvT-loop
-Inv-loop s v buf count seen₀ marks₀ slots i₀ prev₀ at₀ seen marks i prev at =
-    Walking (setupOf s) v buf seen i prev at × (Marking (s .epsilon) buf i marks × (i ≤ count))
+Inv-loop s v buf count seen₀ starts₀ slots i₀ prev₀ at₀ filled₀ seen starts i prev at filled =
+    Walking (setupOf s) v buf seen i prev at × (Filling (setupOf s) v buf i filled starts × (i ≤ count))
 
 abbrev μ-loop : tie.MeasureT-loop
-μ-loop s v buf count seen₀ marks₀ slots i₀ prev₀ at₀ seen marks i prev at = count - i
+μ-loop s v buf count seen₀ starts₀ slots i₀ prev₀ at₀ filled₀ seen starts i prev at filled = count - i
 
 loop-holds : tie.Need-loop-holds Inv-loop μ-loop
-loop-holds c = let start = c .before .before .before in (walk-starts (start .pre .1), (unmarked (start .pre .1 .unmarked), omega arith))
+loop-holds c = let start = c .before .before .before in (walk-starts (start .pre .1), (filling-starts (start .pre .1 .all-front), omega arith))
 
 judge-at-requires : tie.Need-judge-at-requires Inv-loop μ-loop
 judge-at-requires c κs = (c .before .before .before .before .before .before .pre .0, c .before .before .loop .inv .0)
@@ -36,20 +36,24 @@ module _ (c : tie.At-loop Inv-loop μ-loop) where
   seen-same : length (c .loop .seen) ≡ length (c .before .before .before .before .args .seen .now)
   seen-same = table-long (c .loop .inv .0) ∙ sym (starting-long (c .before .before .before .before .pre .1))
 
-  marks-same : length (c .loop .marks) ≡ length (c .before .before .before .before .args .marks .now)
-  marks-same = c .loop .inv .1 .0 .long ∙ sym (ap length (c .before .before .before .before .pre .1 .unmarked) ∙ length-replicate markPlaces unset)
+  starts-same : length (c .loop .starts) ≡ length (c .before .before .before .before .args .starts .now)
+  starts-same = c .loop .inv .1 .0 .table .long ∙ sym (ap length (c .before .before .before .before .pre .1 .all-front) ∙ length-replicate startPlaces front)
+
+  -- an entry has room for where the next frame starts
+  low : (c .loop .i < 2048) × (c .loop .at < startUnit)
+  low = at-low-enough (c .loop .inv .0) (limits-from (setupOf (c .before .before .before .before .args .s)) (c .before .before .before .before .pre .0 .0)) (omega (arith, c .loop .inv .1 .1, c .before .before .before .before .pre .1 .few))
 
 clear-requires : tie.Need-clear-requires Inv-loop μ-loop
 clear-requires c κs = omega (arith, seen-same (c .before .before .before .before .before))
 
-forget-requires : tie.Need-forget-requires Inv-loop μ-loop
-forget-requires c κs = c .before .before .before .before .before .before .before .before .before .loop .inv .1 .0 .long
+fill-requires : tie.Need-fill-requires Inv-loop μ-loop
+fill-requires c κs = (c .before .before .before .before .before .before .before .before .before .loop .inv .1 .0 .table .long, omega arith)
 
 same-length : tie.Need-same-length Inv-loop μ-loop
 same-length c = omega (arith, seen-same (c .before .before .before .before .before .before .before .before .before .before .before .before), c .before .before .before .before .before .before .clear .kept .0)
 
 same-length-2 : tie.Need-same-length-2 Inv-loop μ-loop
-same-length-2 c = omega (arith, marks-same (c .before .before .before .before .before .before .before .before .before .before .before .before), c .before .before .forget .kept .0)
+same-length-2 c = omega (arith, starts-same (c .before .before .before .before .before .before .before .before .before .before .before .before), c .before .before .fill .kept .0)
 
 returns : tie.Need-returns Inv-loop μ-loop
 returns c =
@@ -62,7 +66,7 @@ returns c =
     (walk-fails (setupOf (start .args .s)) (start .args .v) b (loop .i) l
     (verdict-no (setupOf (start .args .s)) (start .args .v) b (loop .i) (judged .result) (judged .ensures) (c .before .before .before .before .before .before .before .before .if1 .taken)))
     (seen-cleared (setupOf (start .args .s)) (start .args .v) (loop .seen) _ (length (start .args .seen .now)) (table-long (loop .inv .0)) (sym (seen-same (c .before .before .before .before .before .before .before .before .before .before .before .before))) (c .before .before .before .before .before .before .clear .ensures))
-    (c .before .before .forget .ensures)
+    (all-front (loop .starts) (c .before .before .fill .ensures))
 
 -- a frame that is sound, and where it ends
 module _ (c : tie.Else1 Inv-loop μ-loop) where
@@ -87,9 +91,6 @@ module _ (c : tie.Else1 Inv-loop μ-loop) where
   inside : (c .before .before .before .before .loop .at ≤ next) × (next ≤ length buffer)
   inside = judged-inside walk next right
 
-  low : (c .before .before .before .before .loop .i < 2048) × (c .before .before .before .before .loop .at < markUnit)
-  low = at-low-enough walk (limits-from setup (start .pre .0 .0)) (omega (arith, c .before .before .before .loop-test .taken, start .pre .1 .few))
-
 sub-mark : tie.Need-sub-mark Inv-loop μ-loop
 sub-mark c = inside c .0
 
@@ -104,32 +105,82 @@ mark-requires c κs =
     let at = c .before .before in
     (start at .pre .0, (judged-window (walk at) (next at) (right at), table-long (walk at)))
 
-note-requires : tie.Need-note-requires Inv-loop μ-loop
-note-requires c κs = (c .before .before .before .before .before .before .before .before .before .before .loop .inv .1 .0 .long, low (c .before .before .before .before .before .before))
+sub-sum-place : tie.Need-sub-sum-place Inv-loop μ-loop
+sub-sum-place c = inside (c .before .before .before .before .before) .0
+
+part-sum-place-start : tie.Need-part-sum-place-start Inv-loop μ-loop
+part-sum-place-start c = omega (arith, inside (c .before .before .before .before .before))
+
+part-sum-place-end : tie.Need-part-sum-place-end Inv-loop μ-loop
+part-sum-place-end c = omega (arith, inside (c .before .before .before .before .before))
+
+sum-place-requires : tie.Need-sum-place-requires Inv-loop μ-loop
+sum-place-requires c κs =
+    let at = c .before .before .before .before .before .before in
+    (start at .pre .0, judged-fits (walk at) (next at) (right at))
+
+-- its sum has a place
+placed : (c : tie.After-sum-place Inv-loop μ-loop) → c .sum-place .result < startPlaces
+placed c =
+    let at = c .before .before .before .before .before .before .before in
+    omega (arith, c .sum-place .ensures, place-inside (setup at) (start at .args .v) (limits-from (setup at) (start at .pre .0 .0)) _ (judged-fits (walk at) (next at) (right at)))
+
+add-k : tie.Need-add-k Inv-loop μ-loop
+add-k c = omega (arith, placed c)
+
+mul-fill : tie.Need-mul-fill Inv-loop μ-loop
+mul-fill c = omega (arith, low (c .before .before .before .before .before .before .before .before .before .before .before .before))
+
+add-fill : tie.Need-add-fill Inv-loop μ-loop
+add-fill c = omega (arith, low (c .before .before .before .before .before .before .before .before .before .before .before .before))
+
+cast-fill : tie.Need-cast-fill Inv-loop μ-loop
+cast-fill c = omega (arith, low (c .before .before .before .before .before .before .before .before .before .before .before .before))
+
+fill-requires-2 : tie.Need-fill-requires-2 Inv-loop μ-loop
+fill-requires-2 c κs = (c .before .before .before .before .before .before .before .before .before .before .before .before .loop .inv .1 .0 .table .long, omega (arith, placed (c .before)))
 
 add-i : tie.Need-add-i Inv-loop μ-loop
-add-i c = omega (arith, low (c .before .before .before .before .before .before .before .before .before))
+add-i c = omega (arith, low (c .before .before .before .before .before .before .before .before .before .before .before .before .before .before .before))
 
 loop-less : tie.Need-loop-less Inv-loop μ-loop
-loop-less c = omega (arith, c .before .before .before .before .before .before .before .before .before .before .before .before .loop-test .taken)
+loop-less c = omega (arith, c .before .before .before .before .before .before .before .before .before .before .before .before .before .before .loop-test .taken)
 
 loop-again : tie.Need-loop-again Inv-loop μ-loop
 loop-again c =
-    let at = c .before .before .before .before .before .before .before .before .before in (
-      walk-turns (walk at) (next at) (right at) _ (c .before .before .before .before .before .before .mark .ensures),
-      (noted-marking (c .before .before .before .before .before .before .before .before .before .before .before .before .before .loop .inv .1 .0) (walk at .starts) (low at .1) (low at .0) (c .before .before .note .ensures), omega (arith, c .before .before .before .before .before .before .before .before .before .before .before .before .loop-test .taken)),
+    let at = c .before .before .before .before .before .before .before .before .before .before .before in
+    let loop = c .before .before .before .before .before .before .before .before .before .before .before .before .before .before .before .loop in (
+      walk-turns (walk at) (next at) (right at) _ (c .before .before .before .before .before .before .before .before .mark .ensures),
+      (
+        filling-turns (walk at) (next at) (right at) (loop .inv .1 .0) (low (c .before .before .before .before .before .before .before .before .before .before .before .before .before .before .before) .1) (omega (arith, c .before .before .before .before .before .before .before .before .before .before .before .before .before .before .loop-test .taken, start at .pre .1 .counted)) (c .before .before .before .before .sum-place .ensures) (c .before .before .fill2 .ensures),
+        omega (arith, c .before .before .before .before .before .before .before .before .before .before .before .before .before .before .loop-test .taken),
+      ),
     )
 
+mul-fill-2 : tie.Need-mul-fill-2 Inv-loop μ-loop
+mul-fill-2 c = omega (arith, low (c .before .before), c .before .loop-test .left, c .before .before .loop .inv .1 .1)
+
+add-fill-2 : tie.Need-add-fill-2 Inv-loop μ-loop
+add-fill-2 c = omega (arith, low (c .before .before), c .before .loop-test .left, c .before .before .loop .inv .1 .1)
+
+cast-fill-2 : tie.Need-cast-fill-2 Inv-loop μ-loop
+cast-fill-2 c = omega (arith, low (c .before .before), c .before .loop-test .left, c .before .before .loop .inv .1 .1)
+
+fill-requires-3 : tie.Need-fill-requires-3 Inv-loop μ-loop
+fill-requires-3 c κs = (c .before .before .loop .inv .1 .0 .table .long, omega arith)
+
 same-length-3 : tie.Need-same-length-3 Inv-loop μ-loop
-same-length-3 c = seen-same (c .before)
+same-length-3 c = seen-same (c .before .before .before .before .before)
 
 same-length-4 : tie.Need-same-length-4 Inv-loop μ-loop
-same-length-4 c = marks-same (c .before)
+same-length-4 c = omega (arith, starts-same (c .before .before .before .before .before), c .before .before .fill3 .kept .0)
 
 returns-2 : tie.Need-returns-2 Inv-loop μ-loop
 returns-2 c =
-    let loop = c .before .loop in
-    opened-yes (c .before .before .before .before .before .pre .1) (loop .inv .0) (loop .inv .1 .0) (loop .inv .1 .1) (c .loop-test .left)
+    let loop = c .before .before .before .before .before .loop in
+    let start = c .before .before .before .before .before .before .before .before .before in
+    let left = c .before .before .before .before .loop-test .left in
+    opened-yes (start .pre .1) (loop .inv .0) (filling-ends (loop .inv .0) (loop .inv .1 .0) (low (c .before .before .before .before .before) .1) (start .pre .1 .counted) (loop .inv .1 .1) left (c .before .before .fill3 .ensures)) (loop .inv .1 .1) left
 
 pub walk-frames-spec : {M : Type 1} → statement M
 walk-frames-spec =
@@ -140,7 +191,7 @@ walk-frames-spec =
     loop-holds
     judge-at-requires
     clear-requires
-    forget-requires
+    fill-requires
     same-length
     same-length-2
     returns
@@ -148,10 +199,22 @@ walk-frames-spec =
     part-mark-start
     part-mark-end
     mark-requires
-    note-requires
+    sub-sum-place
+    part-sum-place-start
+    part-sum-place-end
+    sum-place-requires
+    add-k
+    mul-fill
+    add-fill
+    cast-fill
+    fill-requires-2
     add-i
     loop-less
     loop-again
+    mul-fill-2
+    add-fill-2
+    cast-fill-2
+    fill-requires-3
     same-length-3
     same-length-4
     returns-2)

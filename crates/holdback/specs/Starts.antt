@@ -1,0 +1,71 @@
+-- Starts: where a search for the place of a frame may start, by the frame's sum.
+-- Assumes nothing.
+use Prim.Native.Nat.{ℕ, _+_, _-_, _/_, _%_, _≤_, _<_}
+use mathlib.Core.Path.{_≡_}
+use mathlib.Core.Bool.{true, cond}
+use mathlib.Core.List.{List}
+use lib.Dec.{ltb}
+use lib.ListN.{length, take, getD, replicate}
+use Rattle.laws.specs.Lists.{tab, every}
+use Rattle.model.specs.Setup.{Setup}
+use Rattle.model.specs.Frame.{Frame}
+use Rattle.model.specs.Order.{dueNear}
+use Rattle.model.specs.Holdback.{held}
+use Rattle.holdback.specs.Queue.{frameStart}
+
+-- an entry is so many times a number of frames, and where the next one starts, which is less
+abbrev pub startUnit : ℕ
+startUnit = 131072
+
+-- every entry is below
+abbrev pub startLimit : ℕ
+startLimit = 2147483648
+
+-- places in the table: a place for each sum of a sound queue's frames, which are δ + 2ε at most
+abbrev pub startPlaces : ℕ
+startPlaces = 96
+
+-- the entry for the front: no frames, and the first one starts behind the count
+abbrev pub front : ℕ
+front = 2
+
+-- the table with which every search starts at the front
+abbrev pub allFront : List ℕ
+allFront = replicate startPlaces front
+
+-- the place for a frame's sum: how far its due clock, sum + δ + ε, lies past v, which reads B
+unfoldable pub sumPlace : Setup → ℕ → Frame → ℕ
+sumPlace s v f = dueNear (s .epsilon) (s .delta) (s .modulus) v f - s .modulus
+
+-- an entry for place k: of the first count frames of a queue so many stand before it, the next one starts there, and those before have smaller sums
+pub record Start (s : Setup) (v : ℕ) (queue : List ℕ) (count k m : ℕ) : Type 0 where
+  pub inside : m / startUnit ≤ count
+  pub next : m % startUnit ≡ frameStart (s .epsilon) queue (m / startUnit)
+  pub smaller : every (λ f. ltb (sumPlace s v f) k) (take (m / startUnit) (held (s .epsilon) queue)) ≡ true
+
+-- a table of such entries
+pub record StartTable (s : Setup) (v : ℕ) (queue : List ℕ) (count : ℕ) (starts : List ℕ) : Type 0 where
+  pub long : length starts ≡ startPlaces
+  pub each : (k : ℕ) → k < startPlaces → Start s v queue count k (getD starts k 0)
+
+-- the table with the places from one up to, not including, another changed
+unfoldable pub changed : (ℕ → ℕ) → ℕ → ℕ → List ℕ → List ℕ
+changed f from to starts =
+    tab startPlaces (λ k. cond (ltb k from) (getD starts k 0) (cond (ltb k to) (f (getD starts k 0)) (getD starts k 0)))
+
+-- one entry in all of them
+abbrev pub filled : ℕ → ℕ → ℕ → List ℕ → List ℕ
+filled m from to starts = changed (λ _. m) from to starts
+
+-- an entry, once a frame is put into the queue: one from the floor on has one frame more before it
+unfoldable pub movedStart : ℕ → ℕ → ℕ → ℕ
+movedStart floor step m = cond (ltb m floor) m (m + step)
+
+abbrev pub movedStarts : ℕ → ℕ → ℕ → List ℕ → List ℕ
+movedStarts from floor step starts = changed (movedStart floor step) from startPlaces starts
+
+-- numbers with which entries are moved
+pub record Moving (starts : List ℕ) (step : ℕ) : Type 0 where
+  pub long : length starts ≡ startPlaces
+  pub each : (k : ℕ) → k < startPlaces → getD starts k 0 < startLimit
+  pub small : step < startLimit
