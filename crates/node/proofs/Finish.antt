@@ -60,9 +60,9 @@ module _ (s : Setup) (v : ℕ) (t : Timestamp) where
       }
 
   -- the first three steps together
-  pub listened : {batch buffer verdicts : List ℕ} {t₁ : Timestamp} {repair emptied stop₁ : ℕ} {buffer₁ table₁ marks₁ : List ℕ} {t₂ : Timestamp} {count stop : ℕ} {buffer₂ table₂ marks₂ verdicts₂ : List ℕ}
-      → Limits s → StampOpened s v t t₁ repair → QueueOpened s v buffer emptied stop₁ buffer₁ table₁ marks₁
-      → HeardAll s v t₁ batch buffer₁ verdicts t₂ count stop buffer₂ table₂ marks₂ verdicts₂
+  pub listened : {batch buffer verdicts : List ℕ} {t₁ : Timestamp} {repair emptied stop₁ : ℕ} {buffer₁ table₁ starts₁ : List ℕ} {t₂ : Timestamp} {count stop : ℕ} {buffer₂ table₂ starts₂ verdicts₂ : List ℕ}
+      → Limits s → StampOpened s v t t₁ repair → QueueOpened s v buffer emptied stop₁ buffer₁ table₁ starts₁
+      → HeardAll s v t₁ batch buffer₁ verdicts t₂ count stop buffer₂ table₂ starts₂ verdicts₂
       → ListenedAll s v t batch buffer verdicts t₂ (repair + emptied) count stop buffer₂ verdicts₂
   listened {batch} {buffer} {verdicts} {t₁} {repair} {emptied} {stop₁} {buffer₁} lim o q h =
       let from : heardFrom (s .epsilon) t₁ buffer₁ ≡ openedHeard s v t buffer =

@@ -24,15 +24,16 @@ use Rattle.timestamp.proofs.InLimits.{frames-most}
 use Rattle.holdback.specs.Queue.{frameStart, endOf, Figures}
 use Rattle.holdback.specs.Seen.{InWindow, seenTable, marked}
 use Rattle.holdback.specs.Sound.{openedQueue}
-use Rattle.holdback.specs.Marks.{markUnit, Marking, Moving, movedMarks}
+use Rattle.holdback.specs.Sound as sounds
+use Rattle.holdback.specs.Starts.{startUnit, sumPlace, StartTable, Moving, movedStarts}
 use Rattle.holdback.proofs.RoundTrip.{Bytes}
 use Rattle.holdback.proofs.Frames.{start-zero, start-within, start-most}
 use Rattle.holdback.proofs.Changes.{formed-frames, length-held}
 use Rattle.holdback.proofs.Placed.{Wide, start-before, start-behind, count-behind, end-behind}
-use Rattle.holdback.proofs.Marked.{moving, moved-marking, no-frames}
+use Rattle.holdback.proofs.Started.{moving, moved-table, no-frames}
 use Rattle.holdback.proofs.Seen.{seen-insert}
 use Rattle.node.specs.States.{Timed, Queued, Taking, Placing, QueueOpened}
-use Rattle.node.proofs.Verdicts.{taken-passed, late-window}
+use Rattle.node.proofs.Verdicts.{taken-passed, judged-form, fits-when, late-window}
 
 -- ---- a sound queue
 
@@ -76,6 +77,7 @@ pub record Known (s : Setup) (v : ℕ) (buffer : List ℕ) (place : ℕ) (bytes 
   pub ok : QueueOk s v (held (s .epsilon) buffer)
   pub few : twoAt buffer 0 < 1792
   pub window : InWindow s v (decode (s .epsilon) bytes)
+  pub fit : sounds.fits s v bytes ≡ true
 
 pub known : {s : Setup} {v : ℕ} {buffer : List ℕ} {place : ℕ} {bytes : List ℕ} → Taking s v buffer place bytes → Known s v buffer place bytes
 unfolding placeFor judgeQuestions depth
@@ -100,6 +102,7 @@ known {s} {v} {buffer} {place} {bytes} t =
       ok = ok;
       few = omega (arith, long, room, most, lim .epsilon-most, lim .delta-most);
       window = late-window s v (decode (s .epsilon) bytes) (passed .frame) (passed .late);
+      fit = fits-when s v bytes (judged-form s v queue bytes (both .0)) (passed .late) (passed .early);
     }
 
 module _ {s : Setup} {v : ℕ} {buffer : List ℕ} {place : ℕ} {bytes : List ℕ} (t : Taking s v buffer place bytes) where
@@ -120,15 +123,15 @@ module _ {s : Setup} {v : ℕ} {buffer : List ℕ} {place : ℕ} {bytes : List �
       let many : (twoAt buffer 0 + 1) * (39 + 2 * s .epsilon) ≤ depth (s .n) (s .epsilon) (s .delta) * (39 + 2 * s .epsilon) = mul-le-mul-right (39 + 2 * s .epsilon) one in
       omega (arith, mul-comm (depth (s .n) (s .epsilon) (s .delta)) (39 + 2 * s .epsilon), add-mul (twoAt buffer 0) 1 (39 + 2 * s .epsilon), one-mul (39 + 2 * s .epsilon))
 
-  short : length bytes ≤ 71
+  pub short : length bytes ≤ 71
   unfolding width
   short = let shape = formed-from (s .epsilon) bytes (k .form) in omega (arith, k .limits .epsilon-most)
 
-  -- the marks can be moved
-  pub movable : {marks : List ℕ} → Marking (s .epsilon) buffer (twoAt buffer 0) marks → Moving marks (length bytes)
+  -- the starts can be moved
+  pub movable : {starts : List ℕ} → StartTable s v buffer (twoAt buffer 0) starts → Moving starts (startUnit + length bytes)
   movable m = moving m (omega (arith, k .few)) (omega (arith, short))
 
-  start-low : (i : ℕ) → i < twoAt buffer 0 → frameStart (s .epsilon) buffer i + length bytes < markUnit
+  start-low : (i : ℕ) → i ≤ twoAt buffer 0 → frameStart (s .epsilon) buffer i + length bytes < startUnit
   start-low i h =
       omega (arith, start-within (s .epsilon) buffer i (k .two) (λ j l. formed-frames (s .epsilon) buffer (k .formed) j (omega arith)), t .size, size-small s (k .limits), short)
 
@@ -168,14 +171,19 @@ module _ {s : Setup} {v : ℕ} {buffer : List ℕ} {place : ℕ} {bytes : List �
       pub more-ends : endOf (s .epsilon) buffer′ ≡ endOf (s .epsilon) buffer + length bytes
       more-ends = end-behind here clean bytes bytes-clean (k .form) wide buffer′ e
 
-      more-marked : {marks marks′ : List ℕ} → Marking (s .epsilon) buffer (twoAt buffer 0) marks → marks′ ≡ movedMarks place (length bytes) marks → Marking (s .epsilon) buffer′ (twoAt buffer′ 0) marks′
-      more-marked old moved =
+      more-started : {sum : ℕ} {starts starts′ : List ℕ} → StartTable s v buffer (twoAt buffer 0) starts → sum ≡ sumPlace s v (decode (s .epsilon) bytes)
+          → starts′ ≡ movedStarts (sum + 1) (place * startUnit) (startUnit + length bytes) starts → StartTable s v buffer′ (twoAt buffer′ 0) starts′
+      unfolding placeFor
+      more-started {starts} old own moved =
           rw (count-behind here clean bytes bytes-clean (k .form) wide buffer′ e)
-          (moved-marking place (length bytes) old start-low (start-before here clean bytes bytes-clean (k .form) wide buffer′ e) (start-behind here clean bytes bytes-clean (k .form) wide buffer′ e) moved)
+          (moved-table (decode (s .epsilon) bytes) place (length bytes) old (length-held (s .epsilon) buffer) (k .place-is) more-held start-low
+          (start-before here clean bytes bytes-clean (k .form) wide buffer′ e) (start-behind here clean bytes bytes-clean (k .form) wide buffer′ e)
+          (moved ∙ ap (λ (n : ℕ). movedStarts (n + 1) (place * startUnit) (startUnit + length bytes) starts) own))
 
-      pub more-queued : {table table′ marks marks′ : List ℕ} → Queued s v buffer table marks → table′ ≡ marked s v (decode (s .epsilon) bytes) table → marks′ ≡ movedMarks place (length bytes) marks → Queued s v buffer′ table′ marks′
+      pub more-queued : {sum : ℕ} {table table′ starts starts′ : List ℕ} → Queued s v buffer table starts → table′ ≡ marked s v (decode (s .epsilon) bytes) table
+          → sum ≡ sumPlace s v (decode (s .epsilon) bytes) → starts′ ≡ movedStarts (sum + 1) (place * startUnit) (startUnit + length bytes) starts → Queued s v buffer′ table′ starts′
       unfolding overlay
-      more-queued old h′ moved =
+      more-queued old h′ own moved =
           let room : length more < depth (s .n) (s .epsilon) (s .delta) = queue-room s v more (k .limits) (k .below) more-ok in
           let long : length (encodeFrames more) ≤ length buffer = omega (arith, frames-long s more (k .limits) (more-ok .frames) (omega arith), t .size) in
           record {
@@ -183,25 +191,25 @@ module _ {s : Setup} {v : ℕ} {buffer : List ℕ} {place : ℕ} {bytes : List �
             sound = ap (soundHoldback s v) e ∙ frames-sound s v more (drop (length (encodeFrames more)) buffer) (k .limits) (k .below) more-ok;
             table-is =
                 h′ ∙ (ap (marked s v (decode (s .epsilon) bytes)) (old .table-is) ∙ (seen-insert s v (held (s .epsilon) buffer) place (decode (s .epsilon) bytes) ∙ sym (ap (seenTable s v) more-held)));
-            marked = more-marked (old .marked) moved;
+            started = more-started (old .started) own moved;
           }
 
 -- ---- the queue opened
 
 module _ (s : Setup) (v : ℕ) (buffer : List ℕ) (t : Timed s v) (size : length buffer ≡ holdbackSize s) where
-  pub opened-sound : {stop : ℕ} {table marks : List ℕ} → soundHoldback s v buffer ≡ true → stop ≡ cond (soundHoldback s v buffer) (endOf (s .epsilon) buffer) 2 → table ≡ seenTable s v (openedQueue s v buffer)
-      → {count : ℕ} → count ≡ cond (soundHoldback s v buffer) (twoAt buffer 0) 0 → Marking (s .epsilon) buffer count marks → QueueOpened s v buffer 0 stop buffer table marks
+  pub opened-sound : {stop : ℕ} {table starts : List ℕ} → soundHoldback s v buffer ≡ true → stop ≡ cond (soundHoldback s v buffer) (endOf (s .epsilon) buffer) 2 → table ≡ seenTable s v (openedQueue s v buffer)
+      → {count : ℕ} → count ≡ cond (soundHoldback s v buffer) (twoAt buffer 0) 0 → StartTable s v buffer count starts → QueueOpened s v buffer 0 stop buffer table starts
   unfolding openedQueue
   opened-sound h ends e counted m =
       record {
         repaired = rw h;
-        queued = record { size = size; sound = h; table-is = rw h at e; marked = rw (counted, h) at m };
+        queued = record { size = size; sound = h; table-is = rw h at e; started = rw (counted, h) at m };
         ends = rw h at ends;
         queue = rw h;
       }
 
-  pub opened-empty : {buffer′ table marks : List ℕ} → soundHoldback s v buffer ≡ false → table ≡ seenTable s v (openedQueue s v buffer)
-      → {count : ℕ} → count ≡ cond (soundHoldback s v buffer) (twoAt buffer 0) 0 → Marking (s .epsilon) buffer count marks → buffer′ ≡ encodeHoldback (length buffer) [] → QueueOpened s v buffer 2 2 buffer′ table marks
+  pub opened-empty : {buffer′ table starts : List ℕ} → soundHoldback s v buffer ≡ false → table ≡ seenTable s v (openedQueue s v buffer)
+      → {count : ℕ} → count ≡ cond (soundHoldback s v buffer) (twoAt buffer 0) 0 → StartTable s v buffer count starts → buffer′ ≡ encodeHoldback (length buffer) [] → QueueOpened s v buffer 2 2 buffer′ table starts
   unfolding openedQueue
   opened-empty {buffer′} h e counted m b =
       let lim : Limits s = limits-from s (t .limits) in
@@ -216,7 +224,7 @@ module _ (s : Setup) (v : ℕ) (buffer : List ℕ) (t : Timed s v) (size : lengt
               size = ap length b′ ∙ length-holdback s [] lim (queue-none s v .frames) (omega arith);
               sound = ap (soundHoldback s v) b′ ∙ queue-sound s v [] lim (t .below) (queue-none s v);
               table-is = rw h at e ∙ sym (ap (seenTable s v) empty);
-              marked = rw none-held (no-frames (rw (counted, h) at m));
+              started = rw none-held (no-frames (rw (counted, h) at m));
             };
         ends = sym (ap (frameStart (s .epsilon) buffer′) none-held ∙ start-zero (s .epsilon) buffer′);
         queue = rw h empty;

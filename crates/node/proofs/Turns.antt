@@ -29,10 +29,10 @@ abbrev pub sofar : ℕ → Timestamp → List ℕ → List ℕ → Heard
 sofar epsilon t buffer done = record { stamp = trimmed epsilon t; queue = held epsilon buffer; verdicts = done }
 
 -- the loop's invariant, at entry i, whose length stands at `at`
-pub record Turning (s : Setup) (v : ℕ) (t₀ : Timestamp) (batch buffer₀ verdicts₀ : List ℕ) (t : Timestamp) (count stop at i : ℕ) (buffer table marks verdicts : List ℕ) : Type 0 where
+pub record Turning (s : Setup) (v : ℕ) (t₀ : Timestamp) (batch buffer₀ verdicts₀ : List ℕ) (t : Timestamp) (count stop at i : ℕ) (buffer table starts verdicts : List ℕ) : Type 0 where
   pub within : i ≤ countOf batch
   pub narrow : t ≡ widened (trimmed (s .epsilon) t)
-  pub queued : Queued s v buffer table marks
+  pub queued : Queued s v buffer table starts
   pub ends : stop ≡ endOf (s .epsilon) buffer
   pub whole : heardAll s v t₀ batch buffer₀ ≡ hear s v (sofar (s .epsilon) t buffer (take i verdicts)) (walked (countOf batch - i) batch at)
   pub counted : count ≡ takenCount (take i verdicts)
@@ -40,8 +40,8 @@ pub record Turning (s : Setup) (v : ℕ) (t₀ : Timestamp) (batch buffer₀ ver
   pub long : length verdicts ≡ length verdicts₀
   pub after : drop i verdicts ≡ drop i verdicts₀
 
-pub turning-start : {s : Setup} {v : ℕ} {t : Timestamp} {stop : ℕ} {batch buffer table marks verdicts : List ℕ} → Listening (s .epsilon) t batch verdicts → Queued s v buffer table marks → stop ≡ endOf (s .epsilon) buffer
-    → Turning s v t batch buffer verdicts t 0 stop 1 0 buffer table marks verdicts
+pub turning-start : {s : Setup} {v : ℕ} {t : Timestamp} {stop : ℕ} {batch buffer table starts verdicts : List ℕ} → Listening (s .epsilon) t batch verdicts → Queued s v buffer table starts → stop ≡ endOf (s .epsilon) buffer
+    → Turning s v t batch buffer verdicts t 0 stop 1 0 buffer table starts verdicts
 unfolding takenCount select
 turning-start {batch} l q ends =
     record {
@@ -81,8 +81,8 @@ walk-more batch at i h =
     rw e
 
 -- one turn: the entry's bytes are judged, and the next entry stands at at′
-module _ {s : Setup} {v : ℕ} {t₀ : Timestamp} {batch buffer₀ verdicts₀ : List ℕ} {t : Timestamp} {count stop at i : ℕ} {buffer table marks verdicts : List ℕ}
-    (u : Turning s v t₀ batch buffer₀ verdicts₀ t count stop at i buffer table marks verdicts) (more : i < countOf batch) (few : countOf batch ≤ length verdicts₀)
+module _ {s : Setup} {v : ℕ} {t₀ : Timestamp} {batch buffer₀ verdicts₀ : List ℕ} {t : Timestamp} {count stop at i : ℕ} {buffer table starts verdicts : List ℕ}
+    (u : Turning s v t₀ batch buffer₀ verdicts₀ t count stop at i buffer table starts verdicts) (more : i < countOf batch) (few : countOf batch ≤ length verdicts₀)
     {bytes : List ℕ} {at′ : ℕ} (entry : bytes ≡ entryAt batch at) (step : at′ ≡ nextAt batch at) where
   abbrev now : Heard
   now = sofar (s .epsilon) t buffer (take i verdicts)
@@ -99,7 +99,7 @@ module _ {s : Setup} {v : ℕ} {t₀ : Timestamp} {batch buffer₀ verdicts₀ :
       ∙ ap (λ (d : Verdict). hear s v (hearBy s v d (decode (s .epsilon) bytes) now) others) e)
 
   pub turn-refused : {number x : ℕ} → judge s v (held (s .epsilon) buffer) bytes ≡ refused number → x ≡ number
-      → Turning s v t₀ batch buffer₀ verdicts₀ t count stop at′ (i + 1) buffer table marks (set verdicts i x)
+      → Turning s v t₀ batch buffer₀ verdicts₀ t count stop at′ (i + 1) buffer table starts (set verdicts i x)
   turn-refused {number} {x} e same =
       let inside : i < length verdicts = omega (arith, u .long) in
       let no-zero : x ≡ 0 → ⊥ = λ z. refused-number s v (held (s .epsilon) buffer) bytes number e (sym same ∙ z) in
@@ -118,9 +118,9 @@ module _ {s : Setup} {v : ℕ} {t₀ : Timestamp} {batch buffer₀ verdicts₀ :
         after = rest-after verdicts verdicts₀ i x (u .after);
       }
 
-  pub turn-taken : {place : ℕ} {t′ : Timestamp} {buffer′ table′ marks′ : List ℕ} → s .epsilon ≤ 16 → judge s v (held (s .epsilon) buffer) bytes ≡ taken place
-      → Took s v t place bytes buffer t′ buffer′ table′ marks′
-      → Turning s v t₀ batch buffer₀ verdicts₀ t′ (count + 1) (stop + length bytes) at′ (i + 1) buffer′ table′ marks′ (set verdicts i 0)
+  pub turn-taken : {place : ℕ} {t′ : Timestamp} {buffer′ table′ starts′ : List ℕ} → s .epsilon ≤ 16 → judge s v (held (s .epsilon) buffer) bytes ≡ taken place
+      → Took s v t place bytes buffer t′ buffer′ table′ starts′
+      → Turning s v t₀ batch buffer₀ verdicts₀ t′ (count + 1) (stop + length bytes) at′ (i + 1) buffer′ table′ starts′ (set verdicts i 0)
   turn-taken {place} {t′} {buffer′} small e k =
       let f : Frame = decode (s .epsilon) bytes in
       let a : Timestamp = absorb (s .epsilon) (s .modulus) (trimmed (s .epsilon) t) (readingOf s v f) (f .stamp) in
@@ -145,11 +145,11 @@ heard-none : (s : Setup) (v : ℕ) (h : Heard) (batch : List ℕ) (at k : ℕ) �
 unfolding hear walked
 heard-none s v h batch at k e = rw e
 
-pub turning-end : {s : Setup} {v : ℕ} {t₀ : Timestamp} {batch buffer₀ verdicts₀ : List ℕ} {t : Timestamp} {count stop at i : ℕ} {buffer table marks verdicts : List ℕ}
-    → Turning s v t₀ batch buffer₀ verdicts₀ t count stop at i buffer table marks verdicts → countOf batch ≤ i → countOf batch ≤ length verdicts₀
-    → HeardAll s v t₀ batch buffer₀ verdicts₀ t count stop buffer table marks verdicts
+pub turning-end : {s : Setup} {v : ℕ} {t₀ : Timestamp} {batch buffer₀ verdicts₀ : List ℕ} {t : Timestamp} {count stop at i : ℕ} {buffer table starts verdicts : List ℕ}
+    → Turning s v t₀ batch buffer₀ verdicts₀ t count stop at i buffer table starts verdicts → countOf batch ≤ i → countOf batch ≤ length verdicts₀
+    → HeardAll s v t₀ batch buffer₀ verdicts₀ t count stop buffer table starts verdicts
 unfolding overlay
-turning-end {s} {v} {t₀} {batch} {buffer₀} {verdicts₀} {t} {count} {stop} {at} {i} {buffer} {table} {marks} {verdicts} u h few =
+turning-end {s} {v} {t₀} {batch} {buffer₀} {verdicts₀} {t} {count} {stop} {at} {i} {buffer} {table} {starts} {verdicts} u h few =
     let none : countOf batch - i ≡ 0 = omega arith in
     let all : heardAll s v t₀ batch buffer₀ ≡ sofar (s .epsilon) t buffer (take i verdicts) = u .whole ∙ heard-none s v (sofar (s .epsilon) t buffer (take i verdicts)) batch at (countOf batch - i) none in
     let size : length (take i verdicts) ≡ i = length-take-le i verdicts (omega (arith, u .long, u .within)) in

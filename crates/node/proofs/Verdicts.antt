@@ -6,21 +6,24 @@ use mathlib.Core.Bool.{Bool, true, false, cond}
 use mathlib.Core.List.{List, [], _∷_, _++_}
 use lib.Dec.{leb, eqb}
 use lib.ListN.{length, getD}
-use borrow.Author.Tests.{lt-ltb, le-ltb, leb-true}
+use borrow.Author.Tests.{lt-ltb, le-ltb, le-leb, leb-true, eq-eqb}
 use Rattle.laws.specs.Lists.{any, every}
-use Rattle.laws.proofs.Numbers.{and-left, and-right}
+use Rattle.laws.proofs.Numbers.{and-intro, and-left, and-right}
 use Rattle.laws.proofs.Lists.{length-tab}
 use Rattle.model.specs.Setup.{Setup, depth}
+use Rattle.model.specs.Timestamp.{sum, near}
 use Rattle.model.specs.Frame.{Frame, decode}
-use Rattle.model.specs.Question.{Question, firstNo, frameQuestions, askForm, askRange, askStamp}
-use Rattle.model.specs.Holdback.{held, sameOrigin}
+use Rattle.model.specs.Order.{due, dueNear}
+use Rattle.model.specs.Question.{Question, ask, firstNo, frameQuestions, askForm, askRange, askStamp}
+use Rattle.model.specs.Holdback.{held, passes, sameOrigin, notEarly, notOverdue}
 use Rattle.model.specs.Judge.{Verdict, taken, refused, verdictNumber, verdictPlace, verdictBy, judge, judgeQuestions, placeQuestions, askLate, askEarly, askCounts, askRepeat, askRoom, placeFor, readingOf}
 use Rattle.lemmas.proofs.Bounds.{Limits, FrameOk, QueueOk}
-use Rattle.lemmas.proofs.Questions.{limits-from, first-yes}
+use Rattle.lemmas.proofs.Questions.{limits-from, first-yes, other-yes}
 use Rattle.lemmas.proofs.Queue.{sound-queue, queue-window}
 use Rattle.lemmas.proofs.Queue as queues
 use Rattle.holdback.specs.Queue.{frameStart}
 use Rattle.holdback.specs.Seen.{InWindow, seenTable, isMarked, slotOf}
+use Rattle.holdback.specs.Sound.{fits}
 use Rattle.holdback.proofs.Seen.{seen-at}
 use Rattle.holdback.specs.declared.change.Place.{Place}
 use Rattle.node.specs.declared.verdict.Verdict as codes
@@ -39,6 +42,14 @@ first-answers (q ∷ qs) rs k e = go (q .holds) (firstNo qs) (firstNo (qs ++ rs)
     go : (b : Bool) (x y : ℕ) → cond b x (q .number) ≡ suc k → (x ≡ suc k → y ≡ suc k) → cond b y (q .number) ≡ suc k
     go true x y h f = f h
     go false x y h f = h
+
+-- where both together have none, the first has none
+first-none : (qs rs : List Question) → firstNo (qs ++ rs) ≡ 0 → firstNo qs ≡ 0
+first-none qs rs e = go (firstNo qs) refl
+  where
+    go : (k : ℕ) → firstNo qs ≡ k → k ≡ 0
+    go zero h = refl
+    go (suc k) h = absurd (omega (arith, first-answers qs rs k h))
 
 -- no number is 0
 unfoldable pub numbered : List Question → Bool
@@ -150,6 +161,20 @@ refused-located = record { stands = λ place e. absurd (let z : _≡_ {A = ℕ} 
 pub taken-located : {epsilon : ℕ} {buffer : List ℕ} {place : Place} → place .at ≡ frameStart epsilon buffer (place .index) → Located epsilon buffer (Taken place)
 taken-located {place} h = record { stands = λ place′ e. let same : place ≡ place′ = cc in rw (← same) h }
 
+-- ---- a frame that has passed 10 to 14 fits
+
+pub fits-when : (s : Setup) (v : ℕ) (bytes : List ℕ) → firstNo (frameQuestions s bytes) ≡ 0 → s .modulus ≤ readingOf s v (decode (s .epsilon) bytes) + (s .delta + s .epsilon)
+    → notEarly s v (decode (s .epsilon) bytes) ≡ true → fits s v bytes ≡ true
+unfolding fits passes notOverdue dueNear due sum readingOf
+fits-when s v bytes form late early =
+    let f : Frame = decode (s .epsilon) bytes in
+    and-intro (eq-eqb (firstNo (frameQuestions s bytes)) 0 form)
+    (and-intro early (le-leb (s .modulus) (near (s .epsilon) (s .modulus) v (f .stamp .r) + f .stamp .c + s .delta + s .epsilon) (omega arith)))
+
+pub judged-form : (s : Setup) (v : ℕ) (queue : List Frame) (bytes : List ℕ) → firstNo (judgeQuestions s v queue bytes) ≡ 0 → firstNo (frameQuestions s bytes) ≡ 0
+unfolding judgeQuestions
+judged-form s v queue bytes e = first-none (frameQuestions s bytes) (placeQuestions s v queue (decode (s .epsilon) bytes)) e
+
 -- ---- the table of origins
 
 pub window-of : (s : Setup) (v : ℕ) (f : Frame) → queues.InWindow s v f → FrameOk s f → InWindow s v f
@@ -164,15 +189,20 @@ unfolding timeQuestions askLate
 time-late s v f e =
     leb-true (s .modulus) (readingOf s v f + (s .delta + s .epsilon)) (first-yes (leb (s .modulus) (readingOf s v f + (s .delta + s .epsilon))) 12 (askEarly s v f ∷ askCounts s v f ∷ []) e)
 
+pub time-early : (s : Setup) (v : ℕ) (f : Frame) → firstNo (timeQuestions s v f) ≡ 0 → notEarly s v f ≡ true
+unfolding timeQuestions askLate askEarly
+time-early s v f e =
+    first-yes (notEarly s v f) 13 (askCounts s v f ∷ []) (other-yes (leb (s .modulus) (readingOf s v f + (s .delta + s .epsilon))) 12 (ask (notEarly s v f) 14 ∷ askCounts s v f ∷ []) e)
+
 marked-by : (b : Bool) → eqb (cond b 1 0) 1 ≡ b
 marked-by true = refl
 marked-by false = refl
 
 -- question 16 by one look-up
-pub marked-is : (s : Setup) (v : ℕ) (buffer table marks : List ℕ) (f : Frame) → Timed s v → Queued s v buffer table marks → InWindow s v f
+pub marked-is : (s : Setup) (v : ℕ) (buffer table starts : List ℕ) (f : Frame) → Timed s v → Queued s v buffer table starts → InWindow s v f
     → isMarked s v f table ≡ any (sameOrigin f) (held (s .epsilon) buffer)
 unfolding isMarked
-marked-is s v buffer table marks f t q w =
+marked-is s v buffer table starts f t q w =
     let lim : Limits s = limits-from s (t .limits) in
     let ok : QueueOk s v (held (s .epsilon) buffer) = sound-queue s v buffer lim (q .sound) in
     ap (λ (l : List ℕ). eqb (getD l (slotOf s v f) 0) 1) (q .table-is)

@@ -18,7 +18,7 @@ use Rattle.model.specs.Tick.{holdbackSize, dueNow, takenCount}
 use Rattle.holdback.specs.Queue.{frameStart, endOf}
 use Rattle.holdback.specs.Seen.{seenTable}
 use Rattle.holdback.specs.Sound.{openedQueue}
-use Rattle.holdback.specs.Marks.{Marking}
+use Rattle.holdback.specs.Starts.{StartTable}
 
 -- a call that has passed 1 and 2
 pub record Timed (s : Setup) (v : ℕ) : Type 0 where
@@ -35,12 +35,12 @@ pub record Stored (s : Setup) (buffer : List ℕ) : Type 0 where
   pub limits : inLimits s ≡ true
   pub size : length buffer ≡ holdbackSize s
 
--- the buffer has a sound queue, and the tables the origins of its frames, and marks of some
-pub record Queued (s : Setup) (v : ℕ) (buffer table marks : List ℕ) : Type 0 where
+-- the buffer has a sound queue, and the tables have the origins of its frames, and where those of each sum start
+pub record Queued (s : Setup) (v : ℕ) (buffer table starts : List ℕ) : Type 0 where
   pub size : length buffer ≡ holdbackSize s
   pub sound : soundHoldback s v buffer ≡ true
   pub table-is : table ≡ seenTable s v (held (s .epsilon) buffer)
-  pub marked : Marking (s .epsilon) buffer (twoAt buffer 0) marks
+  pub started : StartTable s v buffer (twoAt buffer 0) starts
 
 -- a frame that is to be taken, at its place
 pub record Taking (s : Setup) (v : ℕ) (buffer : List ℕ) (place : ℕ) (bytes : List ℕ) : Type 0 where
@@ -55,9 +55,9 @@ pub record Placing (epsilon : ℕ) (buffer : List ℕ) (place at stop : ℕ) : T
   pub ends : stop ≡ endOf epsilon buffer
 
 -- what taking it leaves
-pub record Took (s : Setup) (v : ℕ) (t : Timestamp) (place : ℕ) (bytes buffer : List ℕ) (t′ : Timestamp) (buffer′ table′ marks′ : List ℕ) : Type 0 where
+pub record Took (s : Setup) (v : ℕ) (t : Timestamp) (place : ℕ) (bytes buffer : List ℕ) (t′ : Timestamp) (buffer′ table′ starts′ : List ℕ) : Type 0 where
   pub stamp : t′ ≡ widened (absorb (s .epsilon) (s .modulus) (trimmed (s .epsilon) t) (readingOf s v (decode (s .epsilon) bytes)) (decode (s .epsilon) bytes .stamp))
-  pub queued : Queued s v buffer′ table′ marks′
+  pub queued : Queued s v buffer′ table′ starts′
   pub queue : held (s .epsilon) buffer′ ≡ insertAt place (decode (s .epsilon) bytes) (held (s .epsilon) buffer)
   pub ends : endOf (s .epsilon) buffer′ ≡ endOf (s .epsilon) buffer + length bytes
 
@@ -75,9 +75,9 @@ abbrev pub heardAll : Setup → ℕ → Timestamp → List ℕ → List ℕ → 
 heardAll s v t batch buffer = hear s v (heardFrom (s .epsilon) t buffer) (batchEntries batch)
 
 -- what hearing leaves
-pub record HeardAll (s : Setup) (v : ℕ) (t : Timestamp) (batch buffer verdicts : List ℕ) (t′ : Timestamp) (count stop : ℕ) (buffer′ table′ marks′ verdicts′ : List ℕ) : Type 0 where
+pub record HeardAll (s : Setup) (v : ℕ) (t : Timestamp) (batch buffer verdicts : List ℕ) (t′ : Timestamp) (count stop : ℕ) (buffer′ table′ starts′ verdicts′ : List ℕ) : Type 0 where
   pub stamp : t′ ≡ widened (heardAll s v t batch buffer .stamp)
-  pub queued : Queued s v buffer′ table′ marks′
+  pub queued : Queued s v buffer′ table′ starts′
   pub ends : stop ≡ endOf (s .epsilon) buffer′
   pub queue : held (s .epsilon) buffer′ ≡ heardAll s v t batch buffer .queue
   pub numbers : verdicts′ ≡ overlay (heardAll s v t batch buffer .verdicts) verdicts
@@ -95,9 +95,9 @@ pub record StampOpened (s : Setup) (v : ℕ) (t t′ : Timestamp) (repair : ℕ)
   pub repaired : repair ≡ cond (stampSound s v t) 0 1
 
 -- 01, tick 1: the queue judged, and emptied if it is unsound
-pub record QueueOpened (s : Setup) (v : ℕ) (buffer : List ℕ) (repair stop : ℕ) (buffer′ table′ marks′ : List ℕ) : Type 0 where
+pub record QueueOpened (s : Setup) (v : ℕ) (buffer : List ℕ) (repair stop : ℕ) (buffer′ table′ starts′ : List ℕ) : Type 0 where
   pub repaired : repair ≡ cond (soundHoldback s v buffer) 0 2
-  pub queued : Queued s v buffer′ table′ marks′
+  pub queued : Queued s v buffer′ table′ starts′
   pub ends : stop ≡ endOf (s .epsilon) buffer′
   pub queue : held (s .epsilon) buffer′ ≡ openedQueue s v buffer
 

@@ -9,7 +9,8 @@ use frame::r_of;
 use frame::stamp_of;
 use holdback::Place;
 use holdback::mark;
-use holdback::shift_marks;
+use holdback::shift_starts;
+use holdback::sum_place;
 use timestamp::Setup;
 use timestamp::Timestamp;
 use timestamp::near;
@@ -19,7 +20,7 @@ ghost use Rattle.holdback.specs.Queue.{endOf};
 ghost use Rattle.node.specs.States.{Timed, Queued, Taking, Placing, Took, Listening, HeardAll};
 
 // "A taken frame goes on the shelf, and c and each count become the larger of own and frame's". Its origin is marked,
-// and the marks of the frames behind it move.
+// and the starts of the larger sums move.
 fn take(
     setup: Setup,
     clock: usize,
@@ -29,18 +30,20 @@ fn take(
     s: &[u8],
     holdback: &mut [u8],
     seen: &mut [u8],
-    marks: &mut [u32],
+    starts: &mut [u32],
 ) -> Timestamp
     requires { ⌜ Taking (setupOf setup) clock (now holdback) (place .index) (now s) ⌝ }
     requires { ⌜ Placing (setup .epsilon) (now holdback) (place .index) (place .at) end ⌝ }
-    requires { ⌜ Queued (setupOf setup) clock (now holdback) (now seen) (now marks) ⌝ }
+    requires { ⌜ Queued (setupOf setup) clock (now holdback) (now seen) (now starts) ⌝ }
     ensures { λ r. ⌜ Took (setupOf setup) clock (stampOf stamp) (place .index) (now (s .entry)) (now (holdback .entry))
-        (stampOf r) (now (holdback .exit)) (now (seen .exit)) (now (marks .exit)) ⌝ }
+        (stampOf r) (now (holdback .exit)) (now (seen .exit)) (now (starts .exit)) ⌝ }
 {
     let epsilon = setup.epsilon as usize;
     let modulus = setup.modulus as usize;
     place_frame(setup, clock, place, end, s, holdback);
-    shift_marks(marks, place.index, s.len());
+    let k = sum_place(setup, clock, s);
+    let floor = (place.index * 131072) as u32;
+    shift_starts(starts, k + 1, floor, (131072 + s.len()) as u32);
     mark(setup, clock, s, seen);
     let reading = near(epsilon, modulus, clock, r_of(s));
     let other = stamp_of(epsilon, s);
@@ -66,15 +69,15 @@ pub fn hear(
     end: usize,
     holdback: &mut [u8],
     seen: &mut [u8],
-    marks: &mut [u32],
+    starts: &mut [u32],
     verdicts: &mut [u8],
 ) -> Heard
     requires { ⌜ Timed (setupOf setup) clock ⌝ }
-    requires { ⌜ Queued (setupOf setup) clock (now holdback) (now seen) (now marks) ⌝ }
+    requires { ⌜ Queued (setupOf setup) clock (now holdback) (now seen) (now starts) ⌝ }
     requires { ⌜ end ≡ endOf (setup .epsilon) (now holdback) ⌝ }
     requires { ⌜ Listening (setup .epsilon) (stampOf stamp) (now batch) (now verdicts) ⌝ }
     ensures { λ r. ⌜ HeardAll (setupOf setup) clock (stampOf stamp) (now (batch .entry)) (now (holdback .entry)) (now (verdicts .entry))
-        (stampOf (r .stamp)) (r .taken) (r .end) (now (holdback .exit)) (now (seen .exit)) (now (marks .exit)) (now (verdicts .exit)) ⌝ }
+        (stampOf (r .stamp)) (r .taken) (r .end) (now (holdback .exit)) (now (seen .exit)) (now (starts .exit)) (now (verdicts .exit)) ⌝ }
 {
     let count = count_of(batch);
     let mut own = stamp;
@@ -87,13 +90,13 @@ pub fn hear(
         let start = step.start;
         at = step.end;
         let s = &batch[start..at];
-        let verdict = judge(setup, clock, holdback, seen, marks, s);
+        let verdict = judge(setup, clock, holdback, seen, starts, s);
         let Verdict::Taken(place) = verdict else {
             verdicts[i] = number_of(verdict);
             i += 1;
             continue;
         };
-        own = take(setup, clock, own, place, stop, s, holdback, seen, marks);
+        own = take(setup, clock, own, place, stop, s, holdback, seen, starts);
         stop += s.len();
         verdicts[i] = 0;
         taken += 1;

@@ -41,17 +41,17 @@ pub fn check_time(setup: Setup, clock: usize, s: &[u8]) -> u8
 }
 
 // One frame judged: the first no's number, or its place in the queue, and where that stands. The tables have the origins of the queue's frames,
-// and marks of some.
+// and where those of each sum start.
 pub fn judge(
     setup: Setup,
     clock: usize,
     holdback: &[u8],
     seen: &[u8],
-    marks: &[u32],
+    starts: &[u32],
     s: &[u8],
 ) -> Verdict
     requires { ⌜ Timed (setupOf setup) clock ⌝ }
-    requires { ⌜ Queued (setupOf setup) clock (now holdback) (now seen) (now marks) ⌝ }
+    requires { ⌜ Queued (setupOf setup) clock (now holdback) (now seen) (now starts) ⌝ }
     ensures { λ r. ⌜ verdictOf r ≡ model.judge (setupOf setup) clock (held (setup .epsilon) (now (holdback .entry))) (now (s .entry)) ⌝ }
     ensures { λ r. ⌜ Located (setup .epsilon) (now (holdback .entry)) r ⌝ }
 {
@@ -76,6 +76,6 @@ pub fn judge(
     {
         return Verdict::Refused(17);
     }
-    let place = place_for(setup, clock, holdback, count, marks, s);
+    let place = place_for(setup, clock, holdback, count, starts, s);
     Verdict::Taken(place)
 }

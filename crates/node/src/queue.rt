@@ -13,7 +13,7 @@ ghost use Rattle.model.specs.Frame.{decode};
 ghost use Rattle.model.specs.Holdback.{held, encodeFrames};
 ghost use Rattle.timestamp.specs.Views.{setupOf};
 ghost use Rattle.holdback.specs.Seen.{tableLength};
-ghost use Rattle.holdback.specs.Marks.{noMarks};
+ghost use Rattle.holdback.specs.Starts.{allFront};
 ghost use Rattle.node.specs.States.{Timed, Stored, Taking, Placing, Closing, QueueOpened, Delivered};
 
 // What opening the queue answers beside the buffers.
@@ -24,21 +24,21 @@ pub struct OpenedQueue {
     pub end: usize,
 }
 
-// 01, tick 1: "An unsound shelf is emptied (mend 2)". The empty tables get the frames' origins,
-// and marks of some.
+// 01, tick 1: "An unsound shelf is emptied (mend 2)". The tables get the frames' origins,
+// and where the frames of each sum start.
 pub fn open_queue(
     setup: Setup,
     clock: usize,
     holdback: &mut [u8],
     seen: &mut [u8],
-    marks: &mut [u32],
+    starts: &mut [u32],
 ) -> OpenedQueue
     requires { ⌜ Timed (setupOf setup) clock ⌝ }
     requires { ⌜ Stored (setupOf setup) (now holdback) ⌝ }
-    requires { ⌜ (now seen ≡ replicate tableLength 0) × (now marks ≡ noMarks) ⌝ }
-    ensures { λ r. ⌜ QueueOpened (setupOf setup) clock (now (holdback .entry)) (r .repair) (r .end) (now (holdback .exit)) (now (seen .exit)) (now (marks .exit)) ⌝ }
+    requires { ⌜ (now seen ≡ replicate tableLength 0) × (now starts ≡ allFront) ⌝ }
+    ensures { λ r. ⌜ QueueOpened (setupOf setup) clock (now (holdback .entry)) (r .repair) (r .end) (now (holdback .exit)) (now (seen .exit)) (now (starts .exit)) ⌝ }
 {
-    let walk = sound(setup, clock, holdback, seen, marks);
+    let walk = sound(setup, clock, holdback, seen, starts);
     if walk.sound {
         return OpenedQueue {
             repair: 0,

@@ -46,7 +46,7 @@ pub struct Listened {
     pub end: usize,
 }
 
-// 01, tick 1 to 3. The tables of origins and of marks live here.
+// 01, tick 1 to 3. The tables of origins and of starts live here.
 fn listen(
     setup: Setup,
     clock: usize,
@@ -61,9 +61,9 @@ fn listen(
         (stampOf (r .stamp)) (r .repair) (r .taken) (r .end) (now (holdback .exit)) (now (verdicts .exit)) ⌝ }
 {
     let mut seen = [0u8; 2048];
-    let mut marks = [0u32; 80];
+    let mut starts = [2u32; 96];
     let opening = open_stamp(setup, clock, tables);
-    let opened = open_queue(setup, clock, holdback, &mut seen, &mut marks);
+    let opened = open_queue(setup, clock, holdback, &mut seen, &mut starts);
     let stamp = opening.stamp;
     let end = opened.end;
     let heard = hear(
@@ -74,7 +74,7 @@ fn listen(
         end,
         holdback,
         &mut seen,
-        &mut marks,
+        &mut starts,
         verdicts,
     );
     let own = heard.stamp;

@@ -25,11 +25,11 @@ abbrev tags : Tags
 tags = record { tag = Declared.tagOf Rattle.node.proofs.verdict.Verdict.the-type; at-taken = λ place. refl; at-refused = λ number. refl }
 
 abbrev Inv-loop : tie.InvT-loop
-Inv-loop setup clock batch end holdback₀ seen₀ marks₀ verdicts₀ count own₀ taken₀ stop₀ at₀ i₀ holdback seen marks verdicts own took stop at i =
-    Turning (setupOf setup) clock (stampOf own₀) batch holdback₀ verdicts₀ (stampOf own) took stop at i holdback seen marks verdicts
+Inv-loop setup clock batch end holdback₀ seen₀ starts₀ verdicts₀ count own₀ taken₀ stop₀ at₀ i₀ holdback seen starts verdicts own took stop at i =
+    Turning (setupOf setup) clock (stampOf own₀) batch holdback₀ verdicts₀ (stampOf own) took stop at i holdback seen starts verdicts
 
 abbrev μ-loop : tie.MeasureT-loop
-μ-loop setup clock batch end holdback₀ seen₀ marks₀ verdicts₀ count own₀ taken₀ stop₀ at₀ i₀ holdback seen marks verdicts own took stop at i = count - i
+μ-loop setup clock batch end holdback₀ seen₀ starts₀ verdicts₀ count own₀ taken₀ stop₀ at₀ i₀ holdback seen starts verdicts own took stop at i = count - i
 
 limits : (c : tie.Start Inv-loop μ-loop) → Limits (setupOf (c .args .setup))
 limits c = limits-from (setupOf (c .args .setup)) (c .pre .0 .limits)
@@ -158,7 +158,7 @@ same-length-2 c =
     ∙ sym (ap length (start .pre .1 .0 .table-is) ∙ table-long (setupOf (start .args .setup)) (start .args .clock) (held (start .args .setup .epsilon) (start .args .holdback .now)))
 
 same-length-3 : tie.Need-same-length-3 Inv-loop μ-loop
-same-length-3 c = c .before .loop .inv .queued .marked .long ∙ sym (c .before .before .before .before .before .before .before .before .pre .1 .0 .marked .long)
+same-length-3 c = c .before .loop .inv .queued .started .long ∙ sym (c .before .before .before .before .before .before .before .before .pre .1 .0 .started .long)
 
 same-length-4 : tie.Need-same-length-4 Inv-loop μ-loop
 same-length-4 c = c .before .loop .inv .long

@@ -9,11 +9,13 @@ use Rattle.model.specs.Frame.{Frame, decode}
 use Rattle.model.specs.Holdback.{held}
 use Rattle.model.specs.Judge.{readingOf}
 use Rattle.lemmas.proofs.Reading.{near-high}
+use Rattle.holdback.specs.Starts.{startPlaces}
 use Rattle.holdback.proofs.RoundTrip.{Bytes}
+use Rattle.holdback.proofs.Started.{place-inside}
 use Rattle.frame.proofs.Asking.{stamp-kept}
 use Rattle.timestamp.specs.Views.{setupOf, stampOf}
 use Rattle.node.proofs.Verdicts.{table-long}
-use Rattle.node.proofs.Places.{Known, known, movable, more-held, more-ends, more-queued}
+use Rattle.node.proofs.Places.{Known, known, short, movable, more-held, more-ends, more-queued}
 use Rattle.node.proofs.hearing.take.Statement.{statement}
 use Rattle.node.proofs.hearing.take.Tie as tie
 
@@ -32,12 +34,41 @@ cast-modulus c = search needs
 place-frame-requires : tie.Need-place-frame-requires
 place-frame-requires c κs = (c .before .before .before .before .before .before .before .pre .0, c .before .before .before .before .before .before .before .pre .1 .0)
 
-shift-marks-requires : tie.Need-shift-marks-requires
-shift-marks-requires c κs = movable (c .before .before .before .before .before .before .before .before .before .before .before .pre .0) (c .before .before .before .before .before .before .before .before .before .before .before .pre .1 .1 .marked)
+sum-place-requires : tie.Need-sum-place-requires
+sum-place-requires c κs = let start = c .before .before .before .before .before .before .before .before .before .before in ((start .pre .0 .timed .limits, start .pre .0 .timed .below), here start .fit)
+
+-- the sum has a place, and the numbers are small
+module _ (c : tie.After-sum-place) where
+  abbrev begin : tie.Start
+  begin = c .before .before .before .before .before .before .before .before .before .before .before
+
+  placed : c .sum-place .result < startPlaces
+  placed = omega (arith, c .sum-place .ensures, place-inside (setupOf (begin .args .setup)) (begin .args .clock) (here begin .limits) (begin .args .s .now) (here begin .fit))
+
+  low : begin .args .place .index < 1792
+  low = omega (arith, here begin .inside, here begin .few)
+
+mul-floor : tie.Need-mul-floor
+mul-floor c = omega (arith, low (c .before))
+
+cast-floor : tie.Need-cast-floor
+cast-floor c = omega (arith, low (c .before))
+
+add-shift-starts : tie.Need-add-shift-starts
+add-shift-starts c = omega (arith, placed (c .before .before))
+
+add-shift-starts-2 : tie.Need-add-shift-starts-2
+add-shift-starts-2 c = omega (arith, short (begin (c .before .before) .pre .0))
+
+cast-shift-starts : tie.Need-cast-shift-starts
+cast-shift-starts c = omega (arith, short (begin (c .before .before) .pre .0))
+
+shift-starts-requires : tie.Need-shift-starts-requires
+shift-starts-requires c κs = movable (c .before .before .before .before .before .before .before .before .before .before .before .before .before .pre .0) (c .before .before .before .before .before .before .before .before .before .before .before .before .before .pre .1 .1 .started)
 
 mark-requires : tie.Need-mark-requires
 mark-requires c κs =
-    let start = c .before .before .before .before .before .before .before .before .before .before .before .before .before .before .before in (
+    let start = c .before .before .before .before .before .before .before .before .before .before .before .before .before .before .before .before .before in (
       (start .pre .0 .timed .limits, start .pre .0 .timed .below),
       (here start .window, ap length (start .pre .1 .1 .table-is) ∙ table-long (setupOf (start .args .setup)) (start .args .clock) (held (start .args .setup .epsilon) (start .args .holdback .now))),
     )
@@ -45,39 +76,39 @@ mark-requires c κs =
 r-of-requires : tie.Need-r-of-requires
 r-of-requires c κs = search needs
 
-r-below : (c : tie.After-r-of) → c .r-of .result < c .before .before .before .before .before .before .before .before .before .before .before .before .before .before .before .before .before .before .before .args .setup .modulus
-r-below c = omega (arith, c .r-of .ensures (c .before .before .before .before .before .before .before .before .before .before .before .before .before .before .before .before .before .before .before .args .setup .epsilon), here (c .before .before .before .before .before .before .before .before .before .before .before .before .before .before .before .before .before .before .before) .window .r-below)
+r-below : (c : tie.After-r-of) → c .r-of .result < c .before .before .before .before .before .before .before .before .before .before .before .before .before .before .before .before .before .before .before .before .before .args .setup .modulus
+r-below c = omega (arith, c .r-of .ensures (c .before .before .before .before .before .before .before .before .before .before .before .before .before .before .before .before .before .before .before .before .before .args .setup .epsilon), here (c .before .before .before .before .before .before .before .before .before .before .before .before .before .before .before .before .before .before .before .before .before) .window .r-below)
 
 near-requires : tie.Need-near-requires
 near-requires c κs =
-    let known = here (c .before .before .before .before .before .before .before .before .before .before .before .before .before .before .before .before .before .before .before) in
+    let known = here (c .before .before .before .before .before .before .before .before .before .before .before .before .before .before .before .before .before .before .before .before .before) in
     (known .limits .epsilon-pos, (known .limits .modulus-most, (known .below, r-below c)))
 
 stamp-of-requires : tie.Need-stamp-of-requires
-stamp-of-requires c κs = (here (c .before .before .before .before .before .before .before .before .before .before .before .before .before .before .before .before .before .before .before .before) .limits .epsilon-most, here (c .before .before .before .before .before .before .before .before .before .before .before .before .before .before .before .before .before .before .before .before) .form)
+stamp-of-requires c κs = (here (c .before .before .before .before .before .before .before .before .before .before .before .before .before .before .before .before .before .before .before .before .before .before) .limits .epsilon-most, here (c .before .before .before .before .before .before .before .before .before .before .before .before .before .before .before .before .before .before .before .before .before .before) .form)
 
-reads : (c : tie.After-near) → c .near .result ≡ readingOf (setupOf (c .before .before .before .before .before .before .before .before .before .before .before .before .before .before .before .before .before .before .before .before .args .setup)) (c .before .before .before .before .before .before .before .before .before .before .before .before .before .before .before .before .before .before .before .before .args .clock) (frame (c .before .before .before .before .before .before .before .before .before .before .before .before .before .before .before .before .before .before .before .before))
+reads : (c : tie.After-near) → c .near .result ≡ readingOf (setupOf (c .before .before .before .before .before .before .before .before .before .before .before .before .before .before .before .before .before .before .before .before .before .before .args .setup)) (c .before .before .before .before .before .before .before .before .before .before .before .before .before .before .before .before .before .before .before .before .before .before .args .clock) (frame (c .before .before .before .before .before .before .before .before .before .before .before .before .before .before .before .before .before .before .before .before .before .before))
 unfolding readingOf
 reads c =
-    let start = c .before .before .before .before .before .before .before .before .before .before .before .before .before .before .before .before .before .before .before .before in
+    let start = c .before .before .before .before .before .before .before .before .before .before .before .before .before .before .before .before .before .before .before .before .before .before in
     c .near .ensures ∙ ap (near (start .args .setup .epsilon) (start .args .setup .modulus) (start .args .clock)) (c .before .r-of .ensures (start .args .setup .epsilon))
 
 high : (c : tie.After-near) → c .near .result ≤ 2 ^ 17
 unfolding readingOf
 high c =
-    let start = c .before .before .before .before .before .before .before .before .before .before .before .before .before .before .before .before .before .before .before .before in
+    let start = c .before .before .before .before .before .before .before .before .before .before .before .before .before .before .before .before .before .before .before .before .before .before in
     let lim = here start .limits in
     omega (arith, reads c, near-high (start .args .setup .epsilon) (start .args .setup .modulus) (start .args .clock) (frame start .stamp .r) (lim .epsilon-pos) (omega (arith, lim .modulus-least, lim .epsilon-pos)), lim .modulus-most, lim .epsilon-most)
 
 lead : (c : tie.After-stamp-of) → c .stamp-of .result .c ≤ 2 ^ 16
 unfolding widened
 lead c =
-    let known = here (c .before .before .before .before .before .before .before .before .before .before .before .before .before .before .before .before .before .before .before .before .before) in
-    let same : c .stamp-of .result .c ≡ frame (c .before .before .before .before .before .before .before .before .before .before .before .before .before .before .before .before .before .before .before .before .before) .stamp .c = ap (λ (t : Timestamp). t .c) (c .stamp-of .ensures) in
+    let known = here (c .before .before .before .before .before .before .before .before .before .before .before .before .before .before .before .before .before .before .before .before .before .before .before) in
+    let same : c .stamp-of .result .c ≡ frame (c .before .before .before .before .before .before .before .before .before .before .before .before .before .before .before .before .before .before .before .before .before .before .before) .stamp .c = ap (λ (t : Timestamp). t .c) (c .stamp-of .ensures) in
     omega (arith, known .passed .frame .sound .close, known .limits .epsilon-most)
 
 absorb-requires : tie.Need-absorb-requires
-absorb-requires c κs = (here (c .before .before .before .before .before .before .before .before .before .before .before .before .before .before .before .before .before .before .before .before .before) .limits .epsilon-most, (here (c .before .before .before .before .before .before .before .before .before .before .before .before .before .before .before .before .before .before .before .before .before) .limits .modulus-most, (high (c .before), lead c)))
+absorb-requires c κs = (here (c .before .before .before .before .before .before .before .before .before .before .before .before .before .before .before .before .before .before .before .before .before .before .before) .limits .epsilon-most, (here (c .before .before .before .before .before .before .before .before .before .before .before .before .before .before .before .before .before .before .before .before .before .before .before) .limits .modulus-most, (high (c .before), lead c)))
 
 same-length : tie.Need-same-length
 same-length c = search needs
@@ -88,22 +119,22 @@ same-length-2 c = search needs
 same-length-3 : tie.Need-same-length-3
 same-length-3 c = search needs
 
-other : (c : tie.After-stamp-of) → trimmed (c .before .before .before .before .before .before .before .before .before .before .before .before .before .before .before .before .before .before .before .before .before .args .setup .epsilon) (stampOf (c .stamp-of .result)) ≡ frame (c .before .before .before .before .before .before .before .before .before .before .before .before .before .before .before .before .before .before .before .before .before) .stamp
+other : (c : tie.After-stamp-of) → trimmed (c .before .before .before .before .before .before .before .before .before .before .before .before .before .before .before .before .before .before .before .before .before .before .before .args .setup .epsilon) (stampOf (c .stamp-of .result)) ≡ frame (c .before .before .before .before .before .before .before .before .before .before .before .before .before .before .before .before .before .before .before .before .before .before .before) .stamp
 other c =
-    let start = c .before .before .before .before .before .before .before .before .before .before .before .before .before .before .before .before .before .before .before .before .before in
+    let start = c .before .before .before .before .before .before .before .before .before .before .before .before .before .before .before .before .before .before .before .before .before .before .before in
     ap (trimmed (start .args .setup .epsilon)) (c .stamp-of .ensures) ∙ stamp-kept (start .args .setup .epsilon) (start .args .s .now) (here start .limits .epsilon-most) (here start .form)
 
 returns : tie.Need-returns
 returns c =
-    let start = c .before .before .before .before .before .before .before .before .before .before .before .before .before .before .before .before .before .before .before .before .before .before in
-    let placed = c .before .before .before .before .before .before .before .before .before .before .before .before .before .before .place-frame .ensures in
-    let clean : Bytes (start .args .holdback .now) = λ i. omega (arith, c .before .before .before .before .before .before .before .before .before .before .before .before .before .before .before .before .before .before .before .before .slice-known .given i) in
-    let bytes-clean : Bytes (start .args .s .now) = λ i. omega (arith, c .before .before .before .before .before .before .before .before .before .before .before .before .before .before .before .before .before .before .before .before .before .shared-slice-known .given i) in
+    let start = c .before .before .before .before .before .before .before .before .before .before .before .before .before .before .before .before .before .before .before .before .before .before .before .before in
+    let placed = c .before .before .before .before .before .before .before .before .before .before .before .before .before .before .before .before .place-frame .ensures in
+    let clean : Bytes (start .args .holdback .now) = λ i. omega (arith, c .before .before .before .before .before .before .before .before .before .before .before .before .before .before .before .before .before .before .before .before .before .before .slice-known .given i) in
+    let bytes-clean : Bytes (start .args .s .now) = λ i. omega (arith, c .before .before .before .before .before .before .before .before .before .before .before .before .before .before .before .before .before .before .before .before .before .before .before .shared-slice-known .given i) in
     record {
       stamp =
           c .absorb .ensures
           ∙ ap₂ (λ (x : ℕ) (t : Timestamp). widened (absorb (start .args .setup .epsilon) (start .args .setup .modulus) (trimmed (start .args .setup .epsilon) (stampOf (start .args .stamp))) x t)) (reads (c .before .before)) (other (c .before));
-      queued = more-queued (start .pre .0) placed clean bytes-clean (start .pre .1 .1) (c .before .before .before .before .before .before .mark .ensures) (c .before .before .before .before .before .before .before .before .before .before .shift-marks .ensures);
+      queued = more-queued (start .pre .0) placed clean bytes-clean (start .pre .1 .1) (c .before .before .before .before .before .before .mark .ensures) (c .before .before .before .before .before .before .before .before .before .before .before .before .before .sum-place .ensures) (c .before .before .before .before .before .before .before .before .before .before .shift-starts .ensures);
       queue = more-held (start .pre .0) placed;
       ends = more-ends (start .pre .0) placed clean bytes-clean;
     }
@@ -115,7 +146,13 @@ take-spec =
     cast-epsilon
     cast-modulus
     place-frame-requires
-    shift-marks-requires
+    sum-place-requires
+    mul-floor
+    cast-floor
+    add-shift-starts
+    add-shift-starts-2
+    cast-shift-starts
+    shift-starts-requires
     mark-requires
     r-of-requires
     near-requires

@@ -5,23 +5,23 @@ use mathlib.Core.Path.{_≡_, sym, _∙_, ap}
 use mathlib.Core.Bool.{true}
 use mathlib.Core.List.{List}
 use lib.ListN.{length}
-use borrow.Author.Tests.{eq-eqb}
 use borrow.Author.Needs.{needs}
 use Rattle.laws.specs.Lists.{any}
 use Rattle.model.specs.Setup.{depth}
 use Rattle.model.specs.Frame.{Frame, decode}
 use Rattle.model.specs.Question.{firstNo, frameQuestions}
-use Rattle.model.specs.Holdback.{held, passes, sameOrigin}
+use Rattle.model.specs.Holdback.{held, sameOrigin}
 use Rattle.model.specs.Judge.{taken}
 use Rattle.lemmas.proofs.Bounds.{Limits}
 use Rattle.lemmas.proofs.Questions.{limits-from}
 use Rattle.holdback.specs.Seen.{InWindow}
+use Rattle.holdback.specs.Sound.{fits}
 use Rattle.holdback.proofs.Changes.{length-held}
 use Rattle.timestamp.specs.Views.{setupOf}
 use Rattle.node.specs.Views.{timeQuestions}
 use Rattle.node.specs.States.{Readable}
 use Rattle.node.proofs.Times.{given}
-use Rattle.node.proofs.Verdicts.{form-no, time-no, repeat-no, room-no, all-yes, late-window, time-late, marked-is, table-long, refused-located, taken-located}
+use Rattle.node.proofs.Verdicts.{form-no, time-no, repeat-no, room-no, all-yes, fits-when, late-window, time-late, time-early, marked-is, table-long, refused-located, taken-located}
 use Rattle.node.proofs.Places.{size-two}
 use Rattle.node.proofs.questions.judge.Statement.{statement}
 use Rattle.node.proofs.questions.judge.Tie as tie
@@ -68,7 +68,7 @@ repeats-requires c κs = (
 )
 
 repeated : (c : tie.After-repeats) → c .repeats .result ≡ any (sameOrigin (frame (c .before .before .before .before .before .before .before .before .before))) (queue (c .before .before .before .before .before .before .before .before .before))
-repeated c = c .repeats .ensures ∙ marked-is (setupOf (c .before .before .before .before .before .before .before .before .before .args .setup)) (c .before .before .before .before .before .before .before .before .before .args .clock) (c .before .before .before .before .before .before .before .before .before .args .holdback .now) (c .before .before .before .before .before .before .before .before .before .args .seen .now) (c .before .before .before .before .before .before .before .before .before .args .marks .now) (frame (c .before .before .before .before .before .before .before .before .before)) (c .before .before .before .before .before .before .before .before .before .pre .0) (c .before .before .before .before .before .before .before .before .before .pre .1) (window (c .before))
+repeated c = c .repeats .ensures ∙ marked-is (setupOf (c .before .before .before .before .before .before .before .before .before .args .setup)) (c .before .before .before .before .before .before .before .before .before .args .clock) (c .before .before .before .before .before .before .before .before .before .args .holdback .now) (c .before .before .before .before .before .before .before .before .before .args .seen .now) (c .before .before .before .before .before .before .before .before .before .args .starts .now) (frame (c .before .before .before .before .before .before .before .before .before)) (c .before .before .before .before .before .before .before .before .before .pre .0) (c .before .before .before .before .before .before .before .before .before .pre .1) (window (c .before))
 
 returns-3 : tie.Need-returns-3
 returns-3 c = (repeat-no (setupOf (c .before .before .before .before .before .before .before .before .before .before .args .setup)) (c .before .before .before .before .before .before .before .before .before .before .args .clock) (queue (c .before .before .before .before .before .before .before .before .before .before)) (c .before .before .before .before .before .before .before .before .before .before .args .s .now) (passed (c .before .before .before .before)) (timely (c .before .before)) (sym (repeated (c .before)) ∙ c .if3 .taken), refused-located)
@@ -100,14 +100,15 @@ returns-4 c = (room-no (setupOf (c .before .before .before .before .before .befo
 room : (c : tie.Else4) → length (queue (c .before .before .before .before .before .before .before .before .before .before .before .before .before .before .before .before)) < depth (c .before .before .before .before .before .before .before .before .before .before .before .before .before .before .before .before .args .setup .n) (c .before .before .before .before .before .before .before .before .before .before .before .before .before .before .before .before .args .setup .epsilon) (c .before .before .before .before .before .before .before .before .before .before .before .before .before .before .before .before .args .setup .delta)
 room c = omega (arith, c .before .depth .ensures, long (c .before .before .before .before .before))
 
-passes-all : (c : tie.Else1) → passes (setupOf (c .before .before .before .before .before .before .args .setup)) (c .before .before .before .before .before .before .args .s .now) ≡ true
-unfolding passes
-passes-all c = eq-eqb (firstNo (frameQuestions (setupOf (c .before .before .before .before .before .before .args .setup)) (c .before .before .before .before .before .before .args .s .now))) 0 (passed c)
+fit : (c : tie.Else2) → fits (setupOf (c .before .before .before .before .before .before .before .before .args .setup)) (c .before .before .before .before .before .before .before .before .args .clock) (c .before .before .before .before .before .before .before .before .args .s .now) ≡ true
+fit c =
+    let start = c .before .before .before .before .before .before .before .before in
+    fits-when (setupOf (start .args .setup)) (start .args .clock) (start .args .s .now) (passed (c .before .before)) (time-late (setupOf (start .args .setup)) (start .args .clock) (frame start) (timely c)) (time-early (setupOf (start .args .setup)) (start .args .clock) (frame start) (timely c))
 
 place-for-requires : tie.Need-place-for-requires
 place-for-requires c κs = (
   (c .before .before .before .before .before .before .before .before .before .before .before .before .before .before .before .before .pre .0 .limits, c .before .before .before .before .before .before .before .before .before .before .before .before .before .before .before .before .pre .0 .below),
-  ((c .before .before .before .before .before .before .before .before .before .before .before .before .before .before .before .before .pre .1 .sound, (size-two (setupOf (c .before .before .before .before .before .before .before .before .before .before .before .before .before .before .before .before .args .setup)) (length (c .before .before .before .before .before .before .before .before .before .before .before .before .before .before .before .before .args .holdback .now)) (c .before .before .before .before .before .before .before .before .before .before .before .before .before .before .before .before .pre .1 .size), c .before .before .before .before .before .two-at .ensures)), (rw (c .before .before .before .before .before .two-at .ensures) (c .before .before .before .before .before .before .before .before .before .before .before .before .before .before .before .before .pre .1 .marked), passes-all (c .before .before .before .before .before .before .before .before .before .before))),
+  ((c .before .before .before .before .before .before .before .before .before .before .before .before .before .before .before .before .pre .1 .sound, (size-two (setupOf (c .before .before .before .before .before .before .before .before .before .before .before .before .before .before .before .before .args .setup)) (length (c .before .before .before .before .before .before .before .before .before .before .before .before .before .before .before .before .args .holdback .now)) (c .before .before .before .before .before .before .before .before .before .before .before .before .before .before .before .before .pre .1 .size), c .before .before .before .before .before .two-at .ensures)), (rw (c .before .before .before .before .before .two-at .ensures) (c .before .before .before .before .before .before .before .before .before .before .before .before .before .before .before .before .pre .1 .started), fit (c .before .before .before .before .before .before .before .before))),
 )
 
 returns-5 : tie.Need-returns-5

@@ -36,7 +36,7 @@ slice-aggregate-hear c =
     sym (ap length (c .before .before .before .before .before .before .before .open-queue .ensures .queued .table-is) ∙ table-long (setupOf (start .args .setup)) (start .args .clock) _)
 
 slice-aggregate-hear-2 : tie.Need-slice-aggregate-hear-2
-slice-aggregate-hear-2 c = sym (c .before .before .before .before .before .before .before .before .open-queue .ensures .queued .marked .long)
+slice-aggregate-hear-2 c = sym (c .before .before .before .before .before .before .before .before .open-queue .ensures .queued .started .long)
 
 hear-requires : tie.Need-hear-requires
 hear-requires c κs =
