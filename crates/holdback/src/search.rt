@@ -1,6 +1,6 @@
 // The place of a frame in a sound queue: from the last marked frame that comes before it, one by one.
 use crate::change::Place;
-use crate::compare::comes_before;
+use crate::compare::frame_before;
 use timestamp::Setup;
 ghost use mathlib.Core.Path.{_≡_};
 ghost use mathlib.Core.Bool.{true};
@@ -29,7 +29,7 @@ fn mark_before(s: Setup, v: usize, buf: &[u8], m: usize, frame: &[u8]) -> bool
     }
     let at = m % 131072;
     let next = at + frame::frame_end(s.epsilon as usize, &buf[at..]);
-    comes_before(s, v, &buf[at..next], frame)
+    frame_before(s, v, &buf[at..next], frame)
 }
 
 // Where the search may start: at a marked frame that comes before the frame, or at the front. The marks are looked at as if
@@ -74,7 +74,7 @@ pub fn place_for(s: Setup, v: usize, buf: &[u8], count: usize, marks: &[u32], fr
     let mut at = start.at;
     while i < count {
         let next = at + frame::frame_end(epsilon, &buf[at..]);
-        if !comes_before(s, v, &buf[at..next], frame) {
+        if !frame_before(s, v, &buf[at..next], frame) {
             return Place { index: i, at };
         }
         at = next;

@@ -1,16 +1,17 @@
 // The tests of one frame.
+use timestamp::Rank;
 use timestamp::Setup;
 use timestamp::near;
 ghost use mathlib.Core.Path.{_≡_};
 ghost use mathlib.Core.Bool.{true};
-ghost use Prim.Native.Nat.{_<_};
+ghost use Prim.Native.Nat.{_≤_, _<_, _^_};
 ghost use Rattle.model.specs.Setup.{inLimits};
 ghost use Rattle.model.specs.Frame.{decode};
 ghost use Rattle.model.specs.Judge.{readingOf};
 ghost use Rattle.model.specs.Holdback.{passes};
 ghost use Rattle.model.specs.Tick.{dueNow};
 ghost use Rattle.timestamp.specs.Views.{setupOf};
-ghost use Rattle.holdback.specs.Sound.{fits, Summed};
+ghost use Rattle.holdback.specs.Sound.{timely, Summed};
 
 // The reading of a frame's r near v.
 pub fn reading_of(s: Setup, v: usize, frame: &[u8]) -> usize
@@ -35,15 +36,13 @@ fn sum_of(s: Setup, v: usize, frame: &[u8]) -> usize
     reading_of(s, v, frame) + frame::c_of(frame)
 }
 
-// What is asked of a frame alone: 10 to 12, not early, not overdue.
-pub fn fits(s: Setup, v: usize, frame: &[u8]) -> bool
-    requires { ⌜ (inLimits (setupOf s) ≡ true) × (v < s .modulus) ⌝ }
-    ensures { λ b. ⌜ b ≡ fits (setupOf s) v (now (frame .entry)) ⌝ }
+// 01: "each sum at most ε − 1 past v and each sum + δ + ε not before v", of one frame.
+pub fn timely(s: Setup, rank: Rank) -> bool
+    requires { ⌜ inLimits (setupOf s) ≡ true ⌝ }
+    requires { ⌜ (rank .reading ≤ 2 ^ 17) × (rank .c < s .epsilon) ⌝ }
+    ensures { λ b. ⌜ b ≡ timely (setupOf s) rank ⌝ }
 {
-    if frame::check(s, frame) != 0 {
-        return false;
-    }
-    let sum = sum_of(s, v, frame);
+    let sum = rank.reading + rank.c;
     let modulus = s.modulus as usize;
     let epsilon = s.epsilon as usize;
     if modulus + (epsilon - 1) < sum {

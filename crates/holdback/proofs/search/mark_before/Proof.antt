@@ -45,17 +45,17 @@ frame-end-requires c κs = limits-from (setupOf (c .before .before .before .befo
 add-next : tie.Need-add-next
 add-next c = omega (arith, led-next (stands (c .before .before .before)) (mark (c .before .before .before) .inside) (c .frame-end .ensures))
 
-sub-comes-before : tie.Need-sub-comes-before
-sub-comes-before c = search needs
+sub-frame-before : tie.Need-sub-frame-before
+sub-frame-before c = search needs
 
-part-comes-before-start : tie.Need-part-comes-before-start
-part-comes-before-start c = search needs
+part-frame-before-start : tie.Need-part-frame-before-start
+part-frame-before-start c = search needs
 
-part-comes-before-end : tie.Need-part-comes-before-end
-part-comes-before-end c = omega (arith, led-next (stands (c .before .before .before)) (mark (c .before .before .before) .inside) (c .frame-end .ensures))
+part-frame-before-end : tie.Need-part-frame-before-end
+part-frame-before-end c = omega (arith, led-next (stands (c .before .before .before)) (mark (c .before .before .before) .inside) (c .frame-end .ensures))
 
-comes-before-requires : tie.Need-comes-before-requires
-comes-before-requires c κs =
+frame-before-requires : tie.Need-frame-before-requires
+frame-before-requires c κs =
     let start = c .before .before .before .before .before .before .before in
     (start .pre .0, (led-passes (stands (c .before .before .before .before)) (mark (c .before .before .before .before) .inside) (c .before .frame-end .ensures), start .pre .1 .1 .1))
 
@@ -63,7 +63,7 @@ returns-2 : tie.Need-returns-2
 returns-2 c =
     let start = c .before .before .before .before .before .before .before .before in
     mark-some (setupOf (start .args .s)) (start .args .v) (start .args .buf .now) (decode (start .args .s .epsilon) (start .args .frame .now)) (start .args .m) (c .before .before .before .before .before .if1 .left)
-    (led-test (stands (c .before .before .before .before .before)) (mark (c .before .before .before .before .before) .inside) (c .before .before .frame-end .ensures) (λ g. before (start .args .s .epsilon) (start .args .s .modulus) (start .args .v) g (decode (start .args .s .epsilon) (start .args .frame .now))) (c .comes-before .ensures))
+    (led-test (stands (c .before .before .before .before .before)) (mark (c .before .before .before .before .before) .inside) (c .before .before .frame-end .ensures) (λ g. before (start .args .s .epsilon) (start .args .s .modulus) (start .args .v) g (decode (start .args .s .epsilon) (start .args .frame .now))) (c .frame-before .ensures))
 
 pub mark-before-spec : {M : Type 1} → statement M
 mark-before-spec =
@@ -76,8 +76,8 @@ mark-before-spec =
     part-frame-end-end
     frame-end-requires
     add-next
-    sub-comes-before
-    part-comes-before-start
-    part-comes-before-end
-    comes-before-requires
+    sub-frame-before
+    part-frame-before-start
+    part-frame-before-end
+    frame-before-requires
     returns-2)

@@ -2,31 +2,30 @@
 use native.Mathlib.Omega.{arith}
 use Rattle.timestamp.specs.Views.{setupOf}
 use mathlib.Core.Path.{_≡_, ap, sym, _∙_}
-use Prim.Native.Nat.{ℕ, suc, _-_, _≤_, _<_}
-use mathlib.Core.Bool.{true}
+use Prim.Native.Nat.{ℕ, _-_, _≤_, _<_}
 use mathlib.Core.List.{List}
 use lib.ListN.{length, length-replicate}
 use Rattle.model.specs.Setup.{Setup}
 use Rattle.model.specs.Frame.{twoAt}
 use Rattle.lemmas.proofs.Questions.{limits-from}
-use Rattle.holdback.specs.Queue.{frameStart}
-use Rattle.holdback.specs.Sound.{frameSound, Walking}
+use Rattle.holdback.specs.declared.soundness.Judged.{Judged}
+use Rattle.holdback.specs.Sound.{Walking}
 use Rattle.holdback.specs.Marks.{unset, markUnit, markPlaces, Marking}
 use Rattle.holdback.proofs.Seen.{seen-cleared}
 use Rattle.holdback.proofs.Marked.{unmarked, noted-marking}
-use Rattle.holdback.proofs.Walks.{walk-starts, starting-long, table-long, at-low-enough, verdict-no, verdict-yes, walk-fails, opened-no, opened-yes, judged-inside, judged-window, walk-turns}
+use Rattle.holdback.proofs.Walks.{walk-starts, starting-long, table-long, at-low-enough, Right, judged-bad, judged-good, walk-fails, opened-no, opened-yes, judged-within, walk-turns}
 use Rattle.holdback.proofs.soundness.walk_frames.Statement.{statement}
 use Rattle.holdback.proofs.soundness.walk_frames.Tie as tie
 
 abbrev Inv-loop : tie.InvT-loop
-Inv-loop s v buf count seen₀ marks₀ slots i₀ prev₀ at₀ seen marks i prev at =
-    Walking (setupOf s) v buf seen i prev at × (Marking (s .epsilon) buf i marks × (i ≤ count))
+Inv-loop s v buf count seen₀ marks₀ slots i₀ prev₀ at₀ last₀ seen marks i prev at last =
+    Walking (setupOf s) v buf seen i prev last at × (Marking (s .epsilon) buf i marks × (i ≤ count))
 
 abbrev μ-loop : tie.MeasureT-loop
-μ-loop s v buf count seen₀ marks₀ slots i₀ prev₀ at₀ seen marks i prev at = count - i
+μ-loop s v buf count seen₀ marks₀ slots i₀ prev₀ at₀ last₀ seen marks i prev at last = count - i
 
 loop-holds : tie.Need-loop-holds Inv-loop μ-loop
-loop-holds c = let start = c .before .before .before in (walk-starts (start .pre .1), (unmarked (start .pre .1 .unmarked), omega arith))
+loop-holds c = let start = c .before .before .before in (walk-starts _ (start .pre .1), (unmarked (start .pre .1 .unmarked), omega arith))
 
 judge-at-requires : tie.Need-judge-at-requires Inv-loop μ-loop
 judge-at-requires c κs = (c .before .before .before .before .before .before .pre .0, c .before .before .loop .inv .0)
@@ -60,7 +59,7 @@ returns c =
     let l : loop .i < twoAt b 0 = omega (arith, c .before .before .before .before .before .before .before .before .before .before .before .loop-test .taken, start .pre .1 .counted) in
     opened-no
     (walk-fails (setupOf (start .args .s)) (start .args .v) b (loop .i) l
-    (verdict-no (setupOf (start .args .s)) (start .args .v) b (loop .i) (judged .result) (judged .ensures) (c .before .before .before .before .before .before .before .before .if1 .taken)))
+    (judged-bad (setupOf (start .args .s)) (start .args .v) b (loop .i) (judged .result) (judged .ensures) (c .before .before .before .before .before .before .before .before .if1 .taken)))
     (seen-cleared (setupOf (start .args .s)) (start .args .v) (loop .seen) _ (length (start .args .seen .now)) (table-long (loop .inv .0)) (sym (seen-same (c .before .before .before .before .before .before .before .before .before .before .before .before))) (c .before .before .before .before .before .before .clear .ensures))
     (c .before .before .forget .ensures)
 
@@ -75,34 +74,22 @@ module _ (c : tie.Else1 Inv-loop μ-loop) where
   abbrev setup : Setup
   setup = setupOf (start .args .s)
 
-  abbrev walk : Walking setup (start .args .v) buffer (c .before .before .before .before .loop .seen) (c .before .before .before .before .loop .i) (c .before .before .before .before .loop .prev) (c .before .before .before .before .loop .at)
+  abbrev walk : Walking setup (start .args .v) buffer (c .before .before .before .before .loop .seen) (c .before .before .before .before .loop .i) (c .before .before .before .before .loop .prev) (c .before .before .before .before .loop .last) (c .before .before .before .before .loop .at)
   walk = c .before .before .before .before .loop .inv .0
 
-  abbrev next : ℕ
-  next = c .before .judge-at .result
+  abbrev judged : Judged
+  judged = c .before .judge-at .result
 
-  right : (frameSound setup (start .args .v) buffer (c .before .before .before .before .loop .i) ≡ true) × (next ≡ frameStart (setup .epsilon) buffer (suc (c .before .before .before .before .loop .i)))
-  right = verdict-yes setup (start .args .v) buffer (c .before .before .before .before .loop .i) next (c .before .judge-at .ensures) (c .if1 .left)
-
-  inside : (c .before .before .before .before .loop .at ≤ next) × (next ≤ length buffer)
-  inside = judged-inside walk next right
+  right : Right setup (start .args .v) buffer (c .before .before .before .before .loop .i) (judged .end) (judged .rank)
+  right = judged-good setup (start .args .v) buffer (c .before .before .before .before .loop .i) judged (c .before .judge-at .ensures) (c .if1 .left)
 
   low : (c .before .before .before .before .loop .i < 2048) × (c .before .before .before .before .loop .at < markUnit)
   low = at-low-enough walk (limits-from setup (start .pre .0 .0)) (omega (arith, c .before .before .before .loop-test .taken, start .pre .1 .few))
 
-sub-mark : tie.Need-sub-mark Inv-loop μ-loop
-sub-mark c = inside c .0
-
-part-mark-start : tie.Need-part-mark-start Inv-loop μ-loop
-part-mark-start c = omega (arith, inside c)
-
-part-mark-end : tie.Need-part-mark-end Inv-loop μ-loop
-part-mark-end c = omega (arith, inside c)
-
-mark-requires : tie.Need-mark-requires Inv-loop μ-loop
-mark-requires c κs =
+set-mark-requires : tie.Need-set-mark-requires Inv-loop μ-loop
+set-mark-requires c κs =
     let at = c .before .before in
-    (start at .pre .0, (judged-window (walk at) (next at) (right at), table-long (walk at)))
+    ((start at .pre .0 .0, judged-within (walk at) (right at) (limits-from (setup at) (start at .pre .0 .0)) (start at .pre .0 .1)), table-long (walk at))
 
 note-requires : tie.Need-note-requires Inv-loop μ-loop
 note-requires c κs = (c .before .before .before .before .before .before .before .before .before .before .loop .inv .1 .0 .long, low (c .before .before .before .before .before .before))
@@ -116,7 +103,7 @@ loop-less c = omega (arith, c .before .before .before .before .before .before .b
 loop-again : tie.Need-loop-again Inv-loop μ-loop
 loop-again c =
     let at = c .before .before .before .before .before .before .before .before .before in (
-      walk-turns (walk at) (next at) (right at) _ (c .before .before .before .before .before .before .mark .ensures),
+      walk-turns (walk at) (right at) _ (c .before .before .before .before .before .before .set-mark .ensures),
       (noted-marking (c .before .before .before .before .before .before .before .before .before .before .before .before .before .loop .inv .1 .0) (walk at .starts) (low at .1) (low at .0) (c .before .before .note .ensures), omega (arith, c .before .before .before .before .before .before .before .before .before .before .before .before .loop-test .taken)),
     )
 
@@ -144,10 +131,7 @@ walk-frames-spec =
     same-length
     same-length-2
     returns
-    sub-mark
-    part-mark-start
-    part-mark-end
-    mark-requires
+    set-mark-requires
     note-requires
     add-i
     loop-less
