@@ -1,6 +1,6 @@
 -- The frames of a queue by their index.
 -- Assumes nothing.
-use Prim.Native.Nat.{ℕ, zero, suc, _+_, _*_, _≤_, _<_}
+use Prim.Native.Nat.{ℕ, zero, suc, _+_, _*_, _-_, _≤_, _<_}
 use native.Mathlib.Nat.{add-zero, zero-add, suc-mul}
 use native.Mathlib.Omega.{arith}
 use mathlib.Core.Path.{_≡_, refl, sym, ap, ap₂, _∙_}
@@ -8,14 +8,15 @@ use mathlib.Core.Bool.{true}
 use mathlib.Core.Logic.{inl, inr}
 use mathlib.Core.List.{List, [], _∷_, _++_, map, append-assoc, append-nil}
 use lib.ListN.{length, take, drop, getD, length-take, length-drop, List·getD-eq-default}
-use lib.Seq.{drop-drop, getD-drop, getD-take, take-add}
+use lib.Seq.{drop-drop, getD-drop, getD-take, take-add, take-take}
 use Rattle.laws.specs.Lists.{tab, joined}
 use Rattle.laws.proofs.Numbers.{lt-or-ge}
 use Rattle.laws.proofs.Lists.{tab-ext, tab-suc, map-tab, joined-append}
 use Rattle.model.specs.Setup.{width}
 use Rattle.model.specs.Frame.{twoAt, twoBytes, encode, wellFormed, payloadCountAt, frameEnd, decode}
 use Rattle.model.specs.Holdback.{cutFrames, heldBytes, held}
-use Rattle.holdback.specs.Queue.{frameStart, bytesAt, frameAt}
+use Rattle.frame.proofs.Asking.{counts-part}
+use Rattle.holdback.specs.Queue.{frameStart, bytesAt, frameAt, countsAt}
 use Rattle.holdback.proofs.Shapes.{formed}
 use Rattle.holdback.proofs.RoundTrip.{Bytes, encode-decode, front-two}
 
@@ -79,6 +80,13 @@ pub formed-inside : (epsilon : ℕ) (t : List ℕ) → wellFormed epsilon (take 
 formed-inside epsilon t h =
     omega (arith, formed-size epsilon (take (frameEnd epsilon t) t) h, end-of-bytes epsilon t, length-take (frameEnd epsilon t) t)
 
+-- a part of a front
+inner-part : (k m n : ℕ) (l : List ℕ) → k + m ≤ n → take m (drop k (take n l)) ≡ take m (drop k l)
+inner-part zero m n l h = take-take m n l (omega arith)
+inner-part (suc k) m zero l h = absurd (omega arith)
+inner-part (suc k) m (suc n) [] h = refl
+inner-part (suc k) m (suc n) (x ∷ l) h = inner-part k m n l (omega arith)
+
 -- frame k of s
 module _ (epsilon : ℕ) (s : List ℕ) (k : ℕ) (ok : wellFormed epsilon (bytesAt epsilon s k) ≡ true) where
   -- it ends within s
@@ -89,6 +97,19 @@ module _ (epsilon : ℕ) (s : List ℕ) (k : ℕ) (ok : wellFormed epsilon (byte
       let i : frameEnd epsilon rest ≤ length rest = formed-inside epsilon rest ok in
       let p : payloadCountAt epsilon < frameEnd epsilon rest = end-past epsilon rest in
       omega (arith, start-suc epsilon s k, length-drop (frameStart epsilon s k) s)
+
+-- the counts of frame k, from where it starts
+pub counts-at : (epsilon : ℕ) (s : List ℕ) (k at : ℕ) → at ≡ frameStart epsilon s k → countsAt epsilon s at ≡ frameAt epsilon s k .stamp .kn
+unfolding frameAt bytesAt frameEnd payloadCountAt width
+counts-at epsilon s k at e =
+    let from : ℕ = frameStart epsilon s k in
+    let n : ℕ = frameEnd epsilon (drop from s) in
+    let size : 6 + 2 * epsilon - 6 ≡ 2 * epsilon = omega arith in
+    ap (countsAt epsilon s) e
+    ∙ ap (take (2 * epsilon)) (sym (drop-drop 6 from s))
+    ∙ sym (inner-part 6 (2 * epsilon) n (drop from s) (omega arith))
+    ∙ ap (λ (m : ℕ). take m (drop 6 (take n (drop from s)))) (sym size)
+    ∙ counts-part epsilon (take n (drop from s))
 
 -- each of the first k frames is well-formed
 abbrev pub FormedUpTo : ℕ → List ℕ → ℕ → Type 0

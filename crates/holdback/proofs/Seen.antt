@@ -16,7 +16,9 @@ use Rattle.model.specs.Timestamp.{near}
 use Rattle.model.specs.Frame.{Frame, decode}
 use Rattle.model.specs.Judge.{readingOf}
 use Rattle.model.specs.Holdback.{sameOrigin}
-use Rattle.holdback.specs.Seen.{InWindow, tableLength, slotOf, seenTable, marked}
+use Rattle.timestamp.specs.declared.ordering.Rank.{Rank}
+use Rattle.holdback.specs.Queue.{rankOf}
+use Rattle.holdback.specs.Seen.{InWindow, Within, tableLength, rankSlot, slotOf, seenTable, marked}
 use Rattle.lemmas.proofs.Bounds.{Limits}
 use Rattle.holdback.proofs.RoundTrip.{passing}
 use Rattle.lemmas.proofs.Queue.{overdue-from}
@@ -32,14 +34,30 @@ fitting-window s v bytes fit =
     let o = overdue-from s v (decode (s .epsilon) bytes) (fit .overdue) in
     record { station-below = p .station-below; r-below = p .r-below; not-before = omega arith }
 
+pub rank-below : (s : Setup) → Limits s → (rank : Rank) → Within s rank → rankSlot s rank < tableLength
+rank-below s limits rank w = omega arith
+
+-- the place of a frame's rank is the frame's
+pub rank-slot : (s : Setup) (v : ℕ) (f : Frame) (rank : Rank) → rank ≡ rankOf s v f → rankSlot s rank ≡ slotOf s v f
+unfolding slotOf
+rank-slot s v f rank e = ap (rankSlot s) e
+
 module _ (s : Setup) (v : ℕ) (limits : Limits s) (below : v < s .modulus) where
   reading-high : (f : Frame) → readingOf s v f < s .modulus + s .epsilon
   unfolding readingOf
   reading-high f = near-high (s .epsilon) (s .modulus) v (f .stamp .r) (limits .epsilon-pos) (omega arith)
 
-  pub slot-below : (f : Frame) → InWindow s v f → slotOf s v f < tableLength
+  -- a frame's rank has a place if the frame has one
+  pub within : (f : Frame) (rank : Rank) → InWindow s v f → rank ≡ rankOf s v f → Within s rank
+  within f rank w e =
+      let er : rank .reading ≡ readingOf s v f = ap (λ (q : Rank). q .reading) e in
+      let es : rank .station ≡ f .station = ap (λ (q : Rank). q .station) e in
+      let h = reading-high f in
+      record { station-below = omega (arith, w .station-below); not-before = omega (arith, w .not-before); not-past = omega arith }
+
+  slot-below : (f : Frame) → InWindow s v f → slotOf s v f < tableLength
   unfolding slotOf
-  slot-below f w = let h = reading-high f in omega arith
+  slot-below f w = rank-below s limits (rankOf s v f) (within f (rankOf s v f) w refl)
 
   same-reading : (f g : Frame) → InWindow s v f → InWindow s v g → readingOf s v f ≡ readingOf s v g → f .stamp .r ≡ g .stamp .r
   unfolding readingOf
@@ -109,8 +127,3 @@ seen-cleared s v table l n size e h =
 pub length-seen : (s : Setup) (v : ℕ) (queue : List Frame) → length (seenTable s v queue) ≡ tableLength
 unfolding seenTable
 length-seen s v queue = length-tab tableLength (λ i. cond (any (λ f. eqb (slotOf s v f) i) queue) 1 0)
-
-pub slot-by : (s : Setup) (v : ℕ) (f : Frame) (station reading : ℕ) → station ≡ f .station → reading ≡ readingOf s v f
-    → station * 128 + (reading + (s .delta + 2 * s .epsilon) - s .modulus) ≡ slotOf s v f
-unfolding slotOf
-slot-by s v f station reading es er = rw (es, er)

@@ -10,6 +10,7 @@ use lib.Dec.{leb, eqb}
 use lib.ListN.{length, take, drop, length-take, length-drop}
 use borrow.Author.Tests.{le-leb, lt-leb, leb-true, eq-eqb, ne-eqb}
 use Rattle.laws.specs.Lex.{lexCompare, isLess}
+use Rattle.laws.proofs.Numbers.{and-left, and-right}
 use Rattle.model.specs.Setup.{Setup}
 use Rattle.model.specs.Timestamp.{sum, near}
 use Rattle.model.specs.Frame.{Frame, decode}
@@ -24,11 +25,11 @@ use Rattle.timestamp.specs.declared.ordering.Rank.{Rank}
 use Rattle.timestamp.specs.Ranks.{orderOf, rankedFrame, Ranked}
 use Rattle.lemmas.proofs.Bounds.{Limits}
 use Rattle.timestamp.proofs.Ordered.{Tags}
-use Rattle.frame.proofs.Asking.{counts-part}
+use Rattle.frame.proofs.Asking.{counts-part, counts-long}
 use Rattle.holdback.proofs.Shapes.{Formed, formed}
-use Rattle.holdback.specs.Queue.{rankOf}
-use Rattle.holdback.specs.Sound.{fits, Summed}
-use Rattle.holdback.specs.Starts.{sumPlace}
+use Rattle.holdback.specs.Queue.{rankOf, rankBefore}
+use Rattle.holdback.specs.Sound.{fits, timely, Summed}
+use Rattle.holdback.specs.Starts.{rankPlace, sumPlace}
 use Rattle.lemmas.proofs.Reading.{near-high}
 use Rattle.holdback.proofs.RoundTrip.{Passing, passing}
 
@@ -42,7 +43,7 @@ check-no : (s : Setup) (bytes : List ℕ) (r : ℕ) → r ≡ firstNo (frameQues
 unfolding passes
 check-no s bytes r e z = ne-eqb (firstNo (frameQuestions s bytes)) 0 (λ q. z (e ∙ q))
 
-pub unfit-passes : (s : Setup) (v : ℕ) (bytes : List ℕ) (r : ℕ) → r ≡ firstNo (frameQuestions s bytes) → (r ≡ 0 → ⊥) → false ≡ fits s v bytes
+pub unfit-passes : (s : Setup) (v : ℕ) (bytes : List ℕ) (r : ℕ) → r ≡ firstNo (frameQuestions s bytes) → (r ≡ 0 → ⊥) → fits s v bytes ≡ false
 unfolding fits
 unfit-passes s v bytes r e z = rw (check-no s bytes r e z)
 
@@ -60,31 +61,37 @@ summed s v bytes reading c limits ok er ec =
     let h = reading-small s v (decode (s .epsilon) bytes) limits in
     record { is-sum = ap₂ _+_ er ec; small = omega arith }
 
-module _ (s : Setup) (v : ℕ) (bytes : List ℕ) (r : ℕ) (ok : passes s bytes ≡ true) (total : Summed s v (decode (s .epsilon) bytes) r) where
-  pub unfit-early : s .modulus + (s .epsilon - 1) < r → false ≡ fits s v bytes
-  unfolding fits notEarly readingOf sum
-  unfit-early h =
-      let k : s .modulus + (s .epsilon - 1) < near (s .epsilon) (s .modulus) v (decode (s .epsilon) bytes .stamp .r) + decode (s .epsilon) bytes .stamp .c = rw (total .is-sum) at h in
-      rw (ok, lt-leb (near (s .epsilon) (s .modulus) v (decode (s .epsilon) bytes .stamp .r) + decode (s .epsilon) bytes .stamp .c) (s .modulus + (s .epsilon - 1)) k)
+-- early or overdue, by the rank
+module _ (s : Setup) (rank : Rank) where
+  pub untimely : s .modulus + (s .epsilon - 1) < rank .reading + rank .c → false ≡ timely s rank
+  unfolding timely sum
+  untimely h = rw (lt-leb (rank .reading + rank .c) (s .modulus + (s .epsilon - 1)) h)
 
-  pub fit-rest : r ≤ s .modulus + (s .epsilon - 1) → leb (s .modulus) (r + s .delta + s .epsilon) ≡ fits s v bytes
-  unfolding fits notEarly notOverdue dueNear due readingOf sum
-  fit-rest h =
-      let k : near (s .epsilon) (s .modulus) v (decode (s .epsilon) bytes .stamp .r) + decode (s .epsilon) bytes .stamp .c ≤ s .modulus + (s .epsilon - 1) = rw (total .is-sum) at h in
-      rw (ok, le-leb (near (s .epsilon) (s .modulus) v (decode (s .epsilon) bytes .stamp .r) + decode (s .epsilon) bytes .stamp .c) (s .modulus + (s .epsilon - 1)) k, total .is-sum)
+  pub timely-rest : rank .reading + rank .c ≤ s .modulus + (s .epsilon - 1) → leb (s .modulus) (rank .reading + rank .c + s .delta + s .epsilon) ≡ timely s rank
+  unfolding timely due sum
+  timely-rest h = rw (le-leb (rank .reading + rank .c) (s .modulus + (s .epsilon - 1)) h)
+
+pub fits-passes : (s : Setup) (v : ℕ) (bytes : List ℕ) → fits s v bytes ≡ true → passes s bytes ≡ true
+unfolding fits
+fits-passes s v bytes h = and-left (passes s bytes) _ h
+
+-- a frame that passes 10 to 12 fits if its rank is timely
+pub fits-by : (s : Setup) (v : ℕ) (bytes : List ℕ) (rank : Rank) → passes s bytes ≡ true → rank ≡ rankOf s v (decode (s .epsilon) bytes) → timely s rank ≡ fits s v bytes
+unfolding fits timely notEarly notOverdue dueNear readingOf
+fits-by s v bytes rank ok e = ap (timely s) e ∙ rw ok
 
 pub due-tested : (s : Setup) (v : ℕ) (f : Frame) (r : ℕ) → Summed s v f r → eqb (r + s .delta + s .epsilon) (s .modulus) ≡ dueNow s v f
 unfolding dueNow dueNear due readingOf sum
 due-tested s v f r total = rw (total .is-sum)
 
 -- the place of a sum
-pub sum-placed : (s : Setup) (v : ℕ) (f : Frame) (r : ℕ) → Summed s v f r → r + s .delta + s .epsilon - s .modulus ≡ sumPlace s v f
-unfolding sumPlace dueNear due readingOf sum
-sum-placed s v f r total = rw (total .is-sum)
+pub rank-past : (s : Setup) (rank : Rank) → timely s rank ≡ true → s .modulus ≤ rank .reading + rank .c + s .delta + s .epsilon
+unfolding timely due sum
+rank-past s rank h = leb-true _ _ (and-right (leb (rank .reading + rank .c) (s .modulus + (s .epsilon - 1))) _ h)
 
-pub sum-past : (s : Setup) (v : ℕ) (f : Frame) (r : ℕ) → Summed s v f r → notOverdue s v f ≡ true → s .modulus ≤ r + s .delta + s .epsilon
-unfolding notOverdue dueNear due readingOf sum
-sum-past s v f r total h = rw (total .is-sum) (leb-true _ _ h)
+pub rank-placed : (s : Setup) (v : ℕ) (f : Frame) (rank : Rank) → rank ≡ rankOf s v f → rankPlace s rank ≡ sumPlace s v f
+unfolding rankPlace sumPlace dueNear readingOf
+rank-placed s v f rank e = ap (rankPlace s) e
 
 -- ---- the order of two
 
@@ -106,38 +113,44 @@ less-not tags o Ordering·lt e t =
 less-not tags o Ordering·eq e t = refl
 less-not tags o Ordering·gt e t = refl
 
+module _ (tags : Tags) (epsilon : ℕ) (f g : Rank) (kf kg : List ℕ) (o : Order)
+    (e : o ≡ orderOf (lexCompare (key epsilon (f .reading) (rankedFrame f kf)) (key epsilon (g .reading) (rankedFrame g kg)))) where
+  pub is-before : tags .tag o ≡ 0 → true ≡ rankBefore epsilon f kf g kg
+  unfolding rankBefore
+  is-before t = less-first tags o (lexCompare (key epsilon (f .reading) (rankedFrame f kf)) (key epsilon (g .reading) (rankedFrame g kg))) e t
+
+  pub not-before : (tags .tag o ≡ 1) ⊎ (tags .tag o ≡ 2) → false ≡ rankBefore epsilon f kf g kg
+  unfolding rankBefore
+  not-before t = less-not tags o (lexCompare (key epsilon (f .reading) (rankedFrame f kf)) (key epsilon (g .reading) (rankedFrame g kg))) e t
+
 pub counts-end : (s : Setup) (bytes : List ℕ) → passes s bytes ≡ true → 6 + 2 * s .epsilon ≤ length bytes
 counts-end s bytes ok = let o = formed (s .epsilon) bytes (passing s bytes ok .well) in omega arith
 
-pub ranked : (s : Setup) (v : ℕ) (bytes : List ℕ) (rank : Rank) → Limits s → passes s bytes ≡ true → rank ≡ rankOf s v (decode (s .epsilon) bytes)
-    → Ranked (s .epsilon) rank (take (6 + 2 * s .epsilon - 6) (drop 6 bytes))
-ranked s v bytes rank limits ok e =
+pub ranked : (s : Setup) (v : ℕ) (bytes kn : List ℕ) (rank : Rank) → Limits s → passes s bytes ≡ true → kn ≡ decode (s .epsilon) bytes .stamp .kn → rank ≡ rankOf s v (decode (s .epsilon) bytes)
+    → Ranked (s .epsilon) rank kn
+ranked s v bytes kn rank limits ok ek e =
     let p = passing s bytes ok in
     let h = reading-small s v (decode (s .epsilon) bytes) limits in
     let ec : rank .c ≡ decode (s .epsilon) bytes .stamp .c = ap (λ (q : Rank). q .c) e in
     let er : rank .reading ≡ readingOf s v (decode (s .epsilon) bytes) = ap (λ (q : Rank). q .reading) e in
-    let long = counts-end s bytes ok in
+    let wide : length kn ≡ 2 * s .epsilon = ap length (ek ∙ sym (counts-part (s .epsilon) bytes)) ∙ counts-long (s .epsilon) bytes (p .well) in
     record {
       lead = omega arith;
       small = omega arith;
-      long = omega (arith, length-take (6 + 2 * s .epsilon - 6) (drop 6 bytes), length-drop 6 bytes);
+      long = omega arith;
     }
 
-module _ (tags : Tags) (s : Setup) (v : ℕ) (a b : List ℕ) (ra rb : Rank) (o : Order)
-    (ea : ra ≡ rankOf s v (decode (s .epsilon) a)) (eb : rb ≡ rankOf s v (decode (s .epsilon) b))
-    (e : o ≡ orderOf (lexCompare (key (s .epsilon) (ra .reading) (rankedFrame ra (take (6 + 2 * s .epsilon - 6) (drop 6 a)))) (key (s .epsilon) (rb .reading) (rankedFrame rb (take (6 + 2 * s .epsilon - 6) (drop 6 b)))))) where
-  compared : o ≡ orderOf (compareFrames (s .epsilon) (s .modulus) v (decode (s .epsilon) a) (decode (s .epsilon) b))
-  unfolding compareFrames
-  compared =
-      e
-      ∙ ap₂ (λ (k l : List ℕ). orderOf (lexCompare k l))
-      (key-ranked s v (decode (s .epsilon) a) ra (take (6 + 2 * s .epsilon - 6) (drop 6 a)) ea (counts-part (s .epsilon) a))
-      (key-ranked s v (decode (s .epsilon) b) rb (take (6 + 2 * s .epsilon - 6) (drop 6 b)) eb (counts-part (s .epsilon) b))
+-- what a frame that fits says of its rank
+pub rank-fits : (s : Setup) (v : ℕ) (bytes : List ℕ) (rank : Rank) → Limits s → fits s v bytes ≡ true → rank ≡ rankOf s v (decode (s .epsilon) bytes)
+    → (rank .reading ≤ 2 ^ 17) × ((rank .c < s .epsilon) × (timely s rank ≡ true))
+rank-fits s v bytes rank limits h e =
+    let ok = fits-passes s v bytes h in
+    let o = ranked s v bytes (decode (s .epsilon) bytes .stamp .kn) rank limits ok refl e in
+    (o .small, (o .lead, fits-by s v bytes rank ok e ∙ h))
 
-  pub is-before : tags .tag o ≡ 0 → true ≡ before (s .epsilon) (s .modulus) v (decode (s .epsilon) a) (decode (s .epsilon) b)
-  unfolding before
-  is-before t = less-first tags o (compareFrames (s .epsilon) (s .modulus) v (decode (s .epsilon) a) (decode (s .epsilon) b)) compared t
-
-  pub not-before : (tags .tag o ≡ 1) ⊎ (tags .tag o ≡ 2) → false ≡ before (s .epsilon) (s .modulus) v (decode (s .epsilon) a) (decode (s .epsilon) b)
-  unfolding before
-  not-before t = less-not tags o (compareFrames (s .epsilon) (s .modulus) v (decode (s .epsilon) a) (decode (s .epsilon) b)) compared t
+-- by ranks and counts as by the frames themselves
+pub before-by : (s : Setup) (v : ℕ) (f g : Frame) (rf rg : Rank) (kf kg : List ℕ) → rf ≡ rankOf s v f → kf ≡ f .stamp .kn → rg ≡ rankOf s v g → kg ≡ g .stamp .kn
+    → rankBefore (s .epsilon) rf kf rg kg ≡ before (s .epsilon) (s .modulus) v f g
+unfolding rankBefore before compareFrames
+before-by s v f g rf rg kf kg ef ek eg el =
+    ap₂ (λ (k l : List ℕ). isLess (lexCompare k l)) (key-ranked s v f rf kf ef ek) (key-ranked s v g rg kg eg el)

@@ -1,6 +1,6 @@
 -- The walk over the frames of a queue: one frame judged, one turn, the end.
 -- Assumes nothing.
-use Prim.Native.Nat.{ℕ, zero, suc, _+_, _*_, _-_, _≤_, _<_}
+use Prim.Native.Nat.{ℕ, zero, suc, _+_, _*_, _-_, _≤_, _<_, _^_}
 use native.Mathlib.Numerals.{add-one}
 use native.Mathlib.Nat.{not-suc-le-zero, mul-le-mul}
 use native.Mathlib.Omega.{arith}
@@ -9,26 +9,31 @@ use mathlib.Core.Bool.{Bool, true, false, _||_, not, cond}
 use mathlib.Core.Logic.{_⊎_, inl, inr}
 use mathlib.Core.List.{List, [], _∷_, List·Memᴰ}
 use lib.Dec.{eqb}
-use lib.ListN.{length, take, drop, getD, length-drop}
+use lib.ListN.{length, take, drop, getD, length-take, length-drop}
 use lib.Seq.{take-all}
+use borrow.Author.Tests.{eq-eqb, ne-eqb}
 use Rattle.laws.specs.Lists.{tab, any, leading}
 use Rattle.laws.proofs.Numbers.{clash, lt-or-ge, false-of-no, false-of-not, true-of-not, not-of-true, not-of-false, and-intro}
 use Rattle.laws.proofs.Lists.{length-tab, getD-tab, tab-suc, any-append, index-of-mem, take-tab, every-tab, leading-unique}
 use Rattle.model.specs.Setup.{Setup, depth}
 use Rattle.model.specs.Frame.{Frame, twoAt, decode, frameEnd, wellFormed}
-use Rattle.model.specs.Order.{before}
+use Rattle.model.specs.Question.{firstNo, frameQuestions}
 use Rattle.model.specs.Holdback.{held, passes, sameOrigin, soundHoldback}
 use Rattle.lemmas.proofs.Bounds.{Limits}
 use Rattle.timestamp.proofs.InLimits.{depth-most}
-use Rattle.holdback.specs.Queue.{frameStart, bytesAt, frameAt, Stands}
-use Rattle.holdback.specs.Sound.{fits, follows, isNew, frameSound, Walking, Between, Starting, Opened, openedQueue, Led}
-use Rattle.holdback.specs.Seen.{InWindow, isMarked, marked, slotOf, seenTable, tableLength}
-use Rattle.holdback.specs.Starts.{startUnit, startPlaces, allFront, sumPlace, StartTable, filled}
+use Rattle.timestamp.specs.declared.ordering.Rank.{Rank}
+use Rattle.timestamp.specs.Ranks.{Ranked}
+use Rattle.holdback.specs.declared.soundness.Judged.{Judged}
+use Rattle.holdback.specs.Queue.{frameStart, bytesAt, frameAt, rankOf, rankBefore, countsAt, Stands}
+use Rattle.holdback.specs.Sound.{fits, follows, isNew, frameSound, timely, rankFollows, Compared, unsound, judgedAt, Walking, Starting, Opened, openedQueue, Led}
+use Rattle.holdback.specs.Seen.{InWindow, Within, rankSlot, hasMark, withMark, marked, seenTable, tableLength}
+use Rattle.holdback.specs.Starts.{startUnit, startPlaces, allFront, rankPlace, sumPlace, StartTable, filled}
 use Rattle.holdback.proofs.RoundTrip.{passing}
-use Rattle.holdback.proofs.Frames.{start-zero, start-suc, start-inside, start-within, start-most, held-tab, FormedUpTo}
+use Rattle.holdback.proofs.Frames.{start-zero, start-suc, start-inside, start-within, start-most, counts-at, held-tab, FormedUpTo}
 use Rattle.holdback.proofs.Judging.{fitting, frame-fits, frame-follows, frame-new, sound-by, sound-few, sound-frames, sound-formed}
 use Rattle.holdback.proofs.Started.{front-table, filled-table, start-at, place-inside, sums-rise}
-use Rattle.holdback.proofs.Seen.{fitting-window, seen-at, seen-more, length-seen}
+use Rattle.holdback.proofs.Seen.{fitting-window, within, rank-slot, seen-at, seen-more, length-seen}
+use Rattle.holdback.proofs.Testing.{check-yes, unfit-passes, fits-by, ranked, rank-fits, rank-placed, before-by}
 
 -- ---- where a frame stands, by the code's numbers
 
@@ -48,10 +53,47 @@ bytes-part epsilon b k at next ea en =
     let size : next - at ≡ frameEnd epsilon (drop (frameStart epsilon b k) b) = omega (arith, start-suc epsilon b k) in
     ap₂ (λ (n m : ℕ). take n (drop m b)) size ea
 
--- ---- one frame judged
+-- ---- two frames compared, by the code's numbers
 
-abbrev pub verdictAt : Setup → ℕ → List ℕ → ℕ → ℕ
-verdictAt s v b i = cond (frameSound s v b i) (frameStart (s .epsilon) b (suc i)) 0
+-- the counts end within the queue
+counts-inside : (epsilon : ℕ) (b : List ℕ) (at : ℕ) (rank : Rank) → Ranked epsilon rank (countsAt epsilon b at) → at + (6 + 2 * epsilon) ≤ length b
+counts-inside epsilon b at rank r =
+    omega (arith, r .long, r .lead, length-take (2 * epsilon) (drop (at + 6) b), length-drop (at + 6) b)
+
+-- as they are lent
+counts-lent : (epsilon : ℕ) (b : List ℕ) (at : ℕ) (rank : Rank) → Ranked epsilon rank (countsAt epsilon b at)
+    → Ranked epsilon rank (take (at + (6 + 2 * epsilon) - (at + 6)) (drop (at + 6) b))
+counts-lent epsilon b at rank r =
+    let size : at + (6 + 2 * epsilon) - (at + 6) ≡ 2 * epsilon = omega arith in
+    rw size r
+
+module _ {epsilon : ℕ} {b : List ℕ} {i prev : ℕ} {last : Rank} {at : ℕ} {rank : Rank} (two : Compared epsilon b i prev last at rank) where
+  pub own-inside : at + (6 + 2 * epsilon) ≤ length b
+  own-inside = counts-inside epsilon b at rank (two .own)
+
+  pub previous-inside : (i ≡ 0 → ⊥) → prev + (6 + 2 * epsilon) ≤ length b
+  previous-inside n = counts-inside epsilon b prev last (two .previous n)
+
+  pub both-lent : (i ≡ 0 → ⊥)
+      → Ranked epsilon last (take (prev + (6 + 2 * epsilon) - (prev + 6)) (drop (prev + 6) b)) × Ranked epsilon rank (take (at + (6 + 2 * epsilon) - (at + 6)) (drop (at + 6) b))
+  both-lent n = (counts-lent epsilon b prev last (two .previous n), counts-lent epsilon b at rank (two .own))
+
+module _ (epsilon : ℕ) (b : List ℕ) (i prev : ℕ) (last : Rank) (at : ℕ) (rank : Rank) where
+  pub follows-none : i ≡ 0 → true ≡ rankFollows epsilon b i prev last at rank
+  unfolding rankFollows
+  follows-none e = rw (eq-eqb i 0 e)
+
+  pub follows-some : (i ≡ 0 → ⊥) → {t : Bool}
+      → t ≡ rankBefore epsilon last (take (prev + (6 + 2 * epsilon) - (prev + 6)) (drop (prev + 6) b)) rank (take (at + (6 + 2 * epsilon) - (at + 6)) (drop (at + 6) b))
+      → t ≡ rankFollows epsilon b i prev last at rank
+  unfolding rankFollows
+  follows-some n h =
+      let size : prev + (6 + 2 * epsilon) - (prev + 6) ≡ 2 * epsilon = omega arith in
+      let size′ : at + (6 + 2 * epsilon) - (at + 6) ≡ 2 * epsilon = omega arith in
+      rw (ne-eqb i 0 n)
+      (h ∙ ap₂ (λ (x y : ℕ). rankBefore epsilon last (take x (drop (prev + 6) b)) rank (take y (drop (at + 6) b))) size size′)
+
+-- ---- one frame judged
 
 -- a mark is 1
 pub one-is : (t : Bool) → eqb (cond t 1 0) 1 ≡ t
@@ -66,10 +108,11 @@ start-low : (epsilon : ℕ) (b : List ℕ) (k : ℕ) → 2 ≤ frameStart epsilo
 start-low epsilon b zero = omega (arith, start-zero epsilon b)
 start-low epsilon b (suc k) = omega (arith, start-suc epsilon b k, start-low epsilon b k)
 
-judged-no : (s : Setup) (v : ℕ) (b : List ℕ) (i : ℕ) → frameSound s v b i ≡ false → _≡_ {A = ℕ} 0 (verdictAt s v b i)
+judged-no : (s : Setup) (v : ℕ) (b : List ℕ) (i : ℕ) → frameSound s v b i ≡ false → unsound ≡ judgedAt s v b i
+unfolding judgedAt
 judged-no s v b i e = rw e
 
-module _ {s : Setup} {v : ℕ} {b table : List ℕ} {i prev at : ℕ} (walk : Walking s v b table i prev at) where
+module _ {s : Setup} {v : ℕ} {b table : List ℕ} {i prev : ℕ} {last : Rank} {at : ℕ} (walk : Walking s v b table i prev last at) where
   formed-so-far : FormedUpTo (s .epsilon) b i
   formed-so-far = sound-formed s v b i (walk .each)
 
@@ -88,6 +131,26 @@ module _ {s : Setup} {v : ℕ} {b table : List ℕ} {i prev at : ℕ} (walk : Wa
   pub table-long : length table ≡ tableLength
   table-long = ap length (walk .table-is) ∙ length-seen s v (tab i (frameAt (s .epsilon) b))
 
+  -- the frame before it passes 10 to 12
+  passed-before : (k : ℕ) → k < i → passes s (bytesAt (s .epsilon) b k) ≡ true
+  passed-before k h = fitting s v (bytesAt (s .epsilon) b k) (frame-fits s v b k (walk .each k h)) .passed
+
+  counts-before : (k : ℕ) → i ≡ suc k → countsAt (s .epsilon) b prev ≡ frameAt (s .epsilon) b k .stamp .kn
+  counts-before k e =
+      let f : i - 1 ≡ k = omega arith in
+      counts-at (s .epsilon) b k prev (walk .previous ∙ ap (frameStart (s .epsilon) b) f)
+
+  rank-before : (k : ℕ) → i ≡ suc k → last ≡ rankOf s v (frameAt (s .epsilon) b k)
+  rank-before k e =
+      let f : i - 1 ≡ k = omega arith in
+      walk .ranked (λ z. omega arith) ∙ ap (λ (n : ℕ). rankOf s v (frameAt (s .epsilon) b n)) f
+
+  ranked-before : Limits s → (k : ℕ) → i ≡ k → (i ≡ 0 → ⊥) → Ranked (s .epsilon) last (countsAt (s .epsilon) b prev)
+  unfolding frameAt
+  ranked-before limits zero e n = absurd (n e)
+  ranked-before limits (suc k) e n =
+      ranked s v (bytesAt (s .epsilon) b k) (countsAt (s .epsilon) b prev) last limits (passed-before k (omega arith)) (counts-before k e) (rank-before k e)
+
   module _ (size : ℕ) (es : size ≡ frameEnd (s .epsilon) (take (length b - at) (drop at b))) where
     pub next-is : at + size ≡ frameStart (s .epsilon) b (suc i)
     next-is = next-start (s .epsilon) b i at size (walk .starts) es
@@ -96,7 +159,7 @@ module _ {s : Setup} {v : ℕ} {b table : List ℕ} {i prev at : ℕ} (walk : Wa
     part-is = bytes-part (s .epsilon) b i at (at + size) (walk .starts) next-is
 
     -- it does not end within the queue
-    pub judged-cut : length b < at + size → _≡_ {A = ℕ} 0 (verdictAt s v b i)
+    pub judged-cut : length b < at + size → unsound ≡ judgedAt s v b i
     judged-cut h =
         judged-no s v b i
         (false-of-no (frameSound s v b i)
@@ -104,38 +167,74 @@ module _ {s : Setup} {v : ℕ} {b table : List ℕ} {i prev at : ℕ} (walk : Wa
         let well : wellFormed (s .epsilon) (bytesAt (s .epsilon) b i) ≡ true = passing s (bytesAt (s .epsilon) b i) (fitting s v (bytesAt (s .epsilon) b i) (frame-fits s v b i e) .passed) .well in
         omega (arith, start-inside (s .epsilon) b i well, next-is)))
 
-    -- it does not fit
-    pub judged-unfit : (t : Bool) → t ≡ fits s v (take (at + size - at) (drop at b)) → not t ≡ true → _≡_ {A = ℕ} 0 (verdictAt s v b i)
-    judged-unfit t e n =
-        judged-no s v b i
-        (false-of-no (frameSound s v b i)
-        (λ h. clash (e ∙ ap (fits s v) part-is ∙ frame-fits s v b i h) (false-of-not t n)))
+    judged-unfit : fits s v (bytesAt (s .epsilon) b i) ≡ false → unsound ≡ judgedAt s v b i
+    judged-unfit e = judged-no s v b i (false-of-no (frameSound s v b i) (λ h. clash (frame-fits s v b i h) e))
 
-    pub fit-of : (t : Bool) → t ≡ fits s v (take (at + size - at) (drop at b)) → not t ≡ false → fits s v (bytesAt (s .epsilon) b i) ≡ true
-    fit-of t e n = sym (e ∙ ap (fits s v) part-is) ∙ true-of-not t n
+    -- 10 to 12
+    module _ (r : ℕ) (e : r ≡ firstNo (frameQuestions s (take (at + size - at) (drop at b)))) where
+      pub judged-failed : (r ≡ 0 → ⊥) → unsound ≡ judgedAt s v b i
+      judged-failed n = judged-unfit (ap (fits s v) (sym part-is) ∙ unfit-passes s v (take (at + size - at) (drop at b)) r e n)
 
-    module _ (fit : fits s v (bytesAt (s .epsilon) b i) ≡ true) where
-      pub fit-window : InWindow s v (decode (s .epsilon) (take (at + size - at) (drop at b)))
-      fit-window =
-          rw part-is (fitting-window s v (bytesAt (s .epsilon) b i) (fitting s v (bytesAt (s .epsilon) b i) fit))
+      pub passed-part : r ≡ 0 → passes s (take (at + size - at) (drop at b)) ≡ true
+      passed-part z = check-yes s (take (at + size - at) (drop at b)) r e z
 
-      pub neighbours : Between s v b i prev at (at + size)
-      neighbours =
-          record {
-            previous = walk .previous;
-            starts = walk .starts;
-            ends = next-is;
-            passed-before = λ k h. fitting s v (bytesAt (s .epsilon) b k) (frame-fits s v b k (walk .each k h)) .passed;
-            passed = fitting s v (bytesAt (s .epsilon) b i) fit .passed;
-          }
+    -- it passes 10 to 12, and its rank is read
+    module _ (passed : passes s (take (at + size - at) (drop at b)) ≡ true) (rank : Rank) (er : rank ≡ rankOf s v (decode (s .epsilon) (take (at + size - at) (drop at b)))) where
+      own-passes : passes s (bytesAt (s .epsilon) b i) ≡ true
+      own-passes = ap (passes s) (sym part-is) ∙ passed
+
+      own-rank : rank ≡ rankOf s v (frameAt (s .epsilon) b i)
+      unfolding frameAt
+      own-rank = er ∙ ap (λ (l : List ℕ). rankOf s v (decode (s .epsilon) l)) part-is
+
+      own-counts : countsAt (s .epsilon) b at ≡ frameAt (s .epsilon) b i .stamp .kn
+      own-counts = counts-at (s .epsilon) b i at (walk .starts)
+
+      own-ranked : Limits s → Ranked (s .epsilon) rank (countsAt (s .epsilon) b at)
+      unfolding frameAt
+      own-ranked limits =
+          ranked s v (bytesAt (s .epsilon) b i) (countsAt (s .epsilon) b at) rank limits own-passes own-counts own-rank
+
+      pub rank-small : Limits s → (rank .reading ≤ 2 ^ 17) × (rank .c < s .epsilon)
+      rank-small limits = let o = own-ranked limits in (o .small, o .lead)
+
+      pub compared : Limits s → Compared (s .epsilon) b i prev last at rank
+      compared limits = record { own = own-ranked limits; previous = λ n. ranked-before limits i refl n }
+
+      timely-is : timely s rank ≡ fits s v (bytesAt (s .epsilon) b i)
+      unfolding frameAt
+      timely-is = fits-by s v (bytesAt (s .epsilon) b i) rank own-passes own-rank
+
+      -- it is early or overdue
+      pub judged-untimely : (t : Bool) → t ≡ timely s rank → not t ≡ true → unsound ≡ judgedAt s v b i
+      judged-untimely t e n = judged-unfit (sym (e ∙ timely-is) ∙ false-of-not t n)
+
+      pub fit-of : (t : Bool) → t ≡ timely s rank → not t ≡ false → fits s v (bytesAt (s .epsilon) b i) ≡ true
+      fit-of t e n = sym (e ∙ timely-is) ∙ true-of-not t n
+
+      follows-by : (k : ℕ) → i ≡ k → rankFollows (s .epsilon) b k prev last at rank ≡ follows s v b k
+      unfolding rankFollows follows
+      follows-by zero e = refl
+      follows-by (suc k) e =
+          rw (ne-eqb (suc k) 0 (λ z. omega arith))
+          (before-by s v (frameAt (s .epsilon) b k) (frameAt (s .epsilon) b (suc k)) last rank (countsAt (s .epsilon) b prev) (countsAt (s .epsilon) b at) (rank-before k e) (counts-before k e)
+          (own-rank ∙ ap (λ (n : ℕ). rankOf s v (frameAt (s .epsilon) b n)) e) (own-counts ∙ ap (λ (n : ℕ). frameAt (s .epsilon) b n .stamp .kn) e))
 
       -- it does not follow
-      pub judged-unordered : (t : Bool) → t ≡ follows s v b i → not t ≡ true → _≡_ {A = ℕ} 0 (verdictAt s v b i)
+      pub judged-unordered : (t : Bool) → t ≡ rankFollows (s .epsilon) b i prev last at rank → not t ≡ true → unsound ≡ judgedAt s v b i
       judged-unordered t e n =
-          judged-no s v b i (false-of-no (frameSound s v b i) (λ h. clash (e ∙ frame-follows s v b i h) (false-of-not t n)))
+          judged-no s v b i
+          (false-of-no (frameSound s v b i) (λ h. clash (e ∙ follows-by i refl ∙ frame-follows s v b i h) (false-of-not t n)))
 
       -- the look-up
-      module _ (limits : Limits s) (below : v < s .modulus) where
+      module _ (fit : fits s v (bytesAt (s .epsilon) b i) ≡ true) (limits : Limits s) (below : v < s .modulus) where
+        own-window : InWindow s v (frameAt (s .epsilon) b i)
+        unfolding frameAt
+        own-window = fitting-window s v (bytesAt (s .epsilon) b i) (fitting s v (bytesAt (s .epsilon) b i) fit)
+
+        pub own-within : Within s rank
+        own-within = within s v limits below (frameAt (s .epsilon) b i) rank own-window own-rank
+
         windows : (g : Frame) → List·Memᴰ g (tab i (frameAt (s .epsilon) b)) → InWindow s v g
         unfolding frameAt
         windows g m =
@@ -145,82 +244,27 @@ module _ {s : Setup} {v : ℕ} {b table : List ℕ} {i prev at : ℕ} (walk : Wa
             let e : frame (r .0) ≡ g = sym (getD-tab i frame (r .0) (frame 0) l) ∙ r .2 in
             rw (← e) (fitting-window s v (bytesAt (s .epsilon) b (r .0)) (fitting s v (bytesAt (s .epsilon) b (r .0)) (frame-fits s v b (r .0) (walk .each (r .0) l))))
 
-        looked-up : (t : Bool) → t ≡ isMarked s v (decode (s .epsilon) (take (at + size - at) (drop at b))) table → isNew s b i ≡ not t
-        unfolding isMarked isNew frameAt
+        looked-up : (t : Bool) → t ≡ hasMark table (rankSlot s rank) → isNew s b i ≡ not t
+        unfolding isNew
         looked-up t e =
-            let f : Frame = decode (s .epsilon) (bytesAt (s .epsilon) b i) in
+            let f : Frame = frameAt (s .epsilon) b i in
             let queue : List Frame = tab i (frameAt (s .epsilon) b) in
-            let w : InWindow s v f = fitting-window s v (bytesAt (s .epsilon) b i) (fitting s v (bytesAt (s .epsilon) b i) fit) in
             let same : t ≡ any (sameOrigin f) queue =
-            e ∙ ap₂ (λ (l tab′ : List ℕ). eqb (getD tab′ (slotOf s v (decode (s .epsilon) l)) 0) 1) part-is (walk .table-is)
-            ∙ ap (λ (n : ℕ). eqb n 1) (seen-at s v limits below queue f windows w) ∙ one-is (any (sameOrigin f) queue) in
+            e ∙ ap₂ hasMark (walk .table-is) (rank-slot s v f rank own-rank)
+            ∙ ap (λ (n : ℕ). eqb n 1) (seen-at s v limits below queue f windows own-window) ∙ one-is (any (sameOrigin f) queue) in
             ap not (sym same)
 
-        pub judged-repeated : (t : Bool) → t ≡ isMarked s v (decode (s .epsilon) (take (at + size - at) (drop at b))) table → t ≡ true → _≡_ {A = ℕ} 0 (verdictAt s v b i)
+        pub judged-repeated : (t : Bool) → t ≡ hasMark table (rankSlot s rank) → t ≡ true → unsound ≡ judgedAt s v b i
         judged-repeated t e y =
             judged-no s v b i
             (false-of-no (frameSound s v b i) (λ h. clash (frame-new s v b i h) (looked-up t e ∙ not-of-true y)))
 
-        pub judged-sound : (o t : Bool) → o ≡ follows s v b i → not o ≡ false → t ≡ isMarked s v (decode (s .epsilon) (take (at + size - at) (drop at b))) table → t ≡ false
-            → at + size ≡ verdictAt s v b i
+        pub judged-sound : (o t : Bool) → o ≡ rankFollows (s .epsilon) b i prev last at rank → not o ≡ false → t ≡ hasMark table (rankSlot s rank) → t ≡ false
+            → _≡_ {A = Judged} (record { end = at + size; rank = rank }) (judgedAt s v b i)
+        unfolding judgedAt
         judged-sound o t eo mo et nt =
-            next-is
-            ∙ sym
-            (ap (λ (x : Bool). cond x (frameStart (s .epsilon) b (suc i)) 0)
-            (sound-of-parts s v b i fit (sym eo ∙ true-of-not o mo) (looked-up t et ∙ not-of-false nt)))
-
--- ---- the frame before
-
-module _ {s : Setup} {v : ℕ} {b : List ℕ} {i prev at next : ℕ} (near : Between s v b i prev at next) where
-  previous-start : (k : ℕ) → i ≡ suc k → prev ≡ frameStart (s .epsilon) b k
-  previous-start k e = let f : i - 1 ≡ k = omega arith in near .previous ∙ ap (frameStart (s .epsilon) b) f
-
-  prev-le : (k : ℕ) → i ≡ k → prev ≤ at
-  prev-le zero e =
-      let f : i - 1 ≡ i = omega arith in
-      omega (arith, near .previous, near .starts, ap (frameStart (s .epsilon) b) f)
-  prev-le (suc k) e =
-      omega (arith, previous-start k e, near .starts, ap (frameStart (s .epsilon) b) e, start-suc (s .epsilon) b k)
-
-  pub between-order : (prev ≤ at) × ((at ≤ next) × (next ≤ length b))
-  between-order =
-      let well : wellFormed (s .epsilon) (bytesAt (s .epsilon) b i) ≡ true = passing s (bytesAt (s .epsilon) b i) (near .passed) .well in (
-        prev-le i refl,
-        (omega (arith, near .starts, near .ends, start-suc (s .epsilon) b i), omega (arith, start-inside (s .epsilon) b i well, near .ends)),
-      )
-
-  pub own-part : take (next - at) (drop at b) ≡ bytesAt (s .epsilon) b i
-  own-part = bytes-part (s .epsilon) b i at next (near .starts) (near .ends)
-
-  pub own-passes : passes s (take (next - at) (drop at b)) ≡ true
-  own-passes = ap (passes s) own-part ∙ near .passed
-
-  pub previous-part : (k : ℕ) → i ≡ suc k → take (at - prev) (drop prev b) ≡ bytesAt (s .epsilon) b k
-  previous-part k e = bytes-part (s .epsilon) b k prev at (previous-start k e) (near .starts ∙ ap (frameStart (s .epsilon) b) e)
-
-  previous-by : (k : ℕ) → i ≡ k → (i ≡ 0 → ⊥) → passes s (take (at - prev) (drop prev b)) ≡ true
-  previous-by zero e n = absurd (n e)
-  previous-by (suc k) e n = ap (passes s) (previous-part k e) ∙ near .passed-before k (omega arith)
-
-  pub previous-passes : (i ≡ 0 → ⊥) → passes s (take (at - prev) (drop prev b)) ≡ true
-  previous-passes n = previous-by i refl n
-
-  follows-suc : (t : Bool) (k : ℕ) → i ≡ k → (i ≡ 0 → ⊥)
-      → t ≡ before (s .epsilon) (s .modulus) v (decode (s .epsilon) (take (at - prev) (drop prev b))) (decode (s .epsilon) (take (next - at) (drop at b)))
-      → t ≡ follows s v b k
-  unfolding follows frameAt
-  follows-suc t zero e n h = absurd (n e)
-  follows-suc t (suc k) e n h =
-      h ∙ ap₂ (λ (x y : List ℕ). before (s .epsilon) (s .modulus) v (decode (s .epsilon) x) (decode (s .epsilon) y)) (previous-part k e) (own-part ∙ ap (bytesAt (s .epsilon) b) e)
-
-  pub follows-by : (t : Bool) → (i ≡ 0 → ⊥)
-      → t ≡ before (s .epsilon) (s .modulus) v (decode (s .epsilon) (take (at - prev) (drop prev b))) (decode (s .epsilon) (take (next - at) (drop at b)))
-      → t ≡ follows s v b i
-  follows-by t n h = follows-suc t i refl n h
-
-pub follows-none : (s : Setup) (v : ℕ) (b : List ℕ) (i : ℕ) → i ≡ 0 → true ≡ follows s v b i
-unfolding follows
-follows-none s v b i e = ap (follows s v b) (sym e)
+            let sound : frameSound s v b i ≡ true = sound-of-parts s v b i fit (sym (eo ∙ follows-by i refl) ∙ true-of-not o mo) (looked-up t et ∙ not-of-false nt) in
+            rw sound (ap₂ (λ (n : ℕ) (q : Rank). record { end = n; rank = q }) next-is own-rank)
 
 -- ---- the whole walk
 
@@ -232,13 +276,14 @@ pub record Filling (s : Setup) (v : ℕ) (b : List ℕ) (i from : ℕ) (starts :
 pub filling-starts : {s : Setup} {v : ℕ} {b starts : List ℕ} → starts ≡ allFront → Filling s v b 0 0 starts
 filling-starts e = record { table = front-table e; below = λ j h. absurd (not-suc-le-zero h) }
 
-pub walk-starts : {s : Setup} {v : ℕ} {b table starts : List ℕ} {count : ℕ} → Starting s v b table starts count → Walking s v b table 0 2 2
+pub walk-starts : {s : Setup} {v : ℕ} {b table starts : List ℕ} {count : ℕ} → (last : Rank) → Starting s v b table starts count → Walking s v b table 0 2 last 2
 unfolding tab
-walk-starts {s} {v} {b} begin =
+walk-starts {s} {v} {b} last begin =
     record {
       two = begin .two;
       starts = sym (start-zero (s .epsilon) b);
       previous = sym (start-zero (s .epsilon) b);
+      ranked = λ n. absurd (n refl);
       each = λ k h. absurd (not-suc-le-zero h);
       table-is = begin .empty;
     }
@@ -246,19 +291,27 @@ walk-starts {s} {v} {b} begin =
 pub starting-long : {s : Setup} {v : ℕ} {b table starts : List ℕ} {count : ℕ} → Starting s v b table starts count → length table ≡ tableLength
 starting-long {s} {v} begin = ap length (begin .empty) ∙ length-seen s v []
 
-pub verdict-no : (s : Setup) (v : ℕ) (b : List ℕ) (i next : ℕ) → next ≡ verdictAt s v b i → next ≡ 0 → frameSound s v b i ≡ false
-verdict-no s v b i next e z = go (frameSound s v b i) (sym e ∙ z)
+-- what a judged frame's answer says
+pub judged-bad : (s : Setup) (v : ℕ) (b : List ℕ) (i : ℕ) (judged : Judged) → judged ≡ judgedAt s v b i → judged .end ≡ 0 → frameSound s v b i ≡ false
+unfolding judgedAt
+judged-bad s v b i judged e z = go (frameSound s v b i) e
   where
-    go : (t : Bool) → cond t (frameStart (s .epsilon) b (suc i)) 0 ≡ 0 → t ≡ false
-    go true h = absurd (omega (arith, start-low (s .epsilon) b (suc i)))
+    go : (t : Bool) → judged ≡ cond t (record { end = frameStart (s .epsilon) b (suc i); rank = rankOf s v (frameAt (s .epsilon) b i) }) unsound → t ≡ false
+    go true h = let k : judged .end ≡ frameStart (s .epsilon) b (suc i) = ap (λ (q : Judged). q .end) h in absurd (omega (arith, start-low (s .epsilon) b (suc i)))
     go false h = refl
 
-pub verdict-yes : (s : Setup) (v : ℕ) (b : List ℕ) (i next : ℕ) → next ≡ verdictAt s v b i → (next ≡ 0 → ⊥) → (frameSound s v b i ≡ true) × (next ≡ frameStart (s .epsilon) b (suc i))
-verdict-yes s v b i next e z = go (frameSound s v b i) e
+pub record Right (s : Setup) (v : ℕ) (b : List ℕ) (i next : ℕ) (rank : Rank) : Type 0 where
+  pub sound : frameSound s v b i ≡ true
+  pub ends : next ≡ frameStart (s .epsilon) b (suc i)
+  pub rank-is : rank ≡ rankOf s v (frameAt (s .epsilon) b i)
+
+pub judged-good : (s : Setup) (v : ℕ) (b : List ℕ) (i : ℕ) (judged : Judged) → judged ≡ judgedAt s v b i → (judged .end ≡ 0 → ⊥) → Right s v b i (judged .end) (judged .rank)
+unfolding judgedAt
+judged-good s v b i judged e z = go (frameSound s v b i) refl e
   where
-    go : (t : Bool) → next ≡ cond t (frameStart (s .epsilon) b (suc i)) 0 → (t ≡ true) × (next ≡ frameStart (s .epsilon) b (suc i))
-    go true h = (refl, h)
-    go false h = absurd (z h)
+    go : (t : Bool) → frameSound s v b i ≡ t → judged ≡ cond t (record { end = frameStart (s .epsilon) b (suc i); rank = rankOf s v (frameAt (s .epsilon) b i) }) unsound → Right s v b i (judged .end) (judged .rank)
+    go true h k = record { sound = h; ends = ap (λ (q : Judged). q .end) k; rank-is = ap (λ (q : Judged). q .rank) k }
+    go false h k = absurd (z (ap (λ (q : Judged). q .end) k))
 
 or-swap : (a b : Bool) → (a || (b || false)) ≡ (b || a)
 or-swap true true = refl
@@ -270,58 +323,57 @@ any-last : (p : Frame → Bool) (k : ℕ) (f : ℕ → Frame) → any p (tab (su
 unfolding any
 any-last p k f = ap (any p) (tab-suc k f) ∙ any-append p (tab k f) (f k ∷ []) ∙ or-swap (any p (tab k f)) (p (f k))
 
-module _ {s : Setup} {v : ℕ} {b table : List ℕ} {i prev at : ℕ} (walk : Walking s v b table i prev at) (next : ℕ) (right : (frameSound s v b i ≡ true) × (next ≡ frameStart (s .epsilon) b (suc i))) where
-  pub judged-inside : (at ≤ next) × (next ≤ length b)
-  judged-inside =
-      let well : wellFormed (s .epsilon) (bytesAt (s .epsilon) b i) ≡ true = passing s (bytesAt (s .epsilon) b i) (fitting s v (bytesAt (s .epsilon) b i) (frame-fits s v b i (right .0)) .passed) .well in
-      (omega (arith, walk .starts, right .1, start-suc (s .epsilon) b i), omega (arith, right .1, start-inside (s .epsilon) b i well))
-
-  pub judged-part : take (next - at) (drop at b) ≡ bytesAt (s .epsilon) b i
-  judged-part = bytes-part (s .epsilon) b i at next (walk .starts) (right .1)
-
-  pub judged-window : InWindow s v (decode (s .epsilon) (take (next - at) (drop at b)))
-  judged-window =
-      rw judged-part (fitting-window s v (bytesAt (s .epsilon) b i) (fitting s v (bytesAt (s .epsilon) b i) (frame-fits s v b i (right .0))))
+module _ {s : Setup} {v : ℕ} {b table : List ℕ} {i prev : ℕ} {last : Rank} {at : ℕ} (walk : Walking s v b table i prev last at) {next : ℕ} {rank : Rank} (right : Right s v b i next rank) where
+  pub judged-within : Limits s → v < s .modulus → Within s rank
+  unfolding frameAt
+  judged-within limits below =
+      within s v limits below (frameAt (s .epsilon) b i) rank (fitting-window s v (bytesAt (s .epsilon) b i) (fitting s v (bytesAt (s .epsilon) b i) (frame-fits s v b i (right .sound)))) (right .rank-is)
 
   each-more : (k : ℕ) → k < i + 1 → frameSound s v b k ≡ true
   each-more k h = go (lt-or-ge k i)
     where
       go : (k < i) ⊎ (i ≤ k) → frameSound s v b k ≡ true
       go (inl l) = walk .each k l
-      go (inr l) = let e : i ≡ k = omega arith in rw (← e) (right .0)
+      go (inr l) = let e : i ≡ k = omega arith in rw (← e) (right .sound)
 
-  pub walk-turns : (l : List ℕ) → l ≡ marked s v (decode (s .epsilon) (take (next - at) (drop at b))) table → Walking s v b l (i + 1) at next
-  unfolding frameAt
+  pub walk-turns : (l : List ℕ) → l ≡ withMark table (rankSlot s rank) → Walking s v b l (i + 1) at rank next
+  unfolding marked
   walk-turns l e =
       let f : Frame = frameAt (s .epsilon) b i in
-      let back : i + 1 - 1 ≡ i = omega arith in
+      let back : i ≡ i + 1 - 1 = omega arith in
       record {
         two = walk .two;
-        starts = right .1 ∙ ap (frameStart (s .epsilon) b) (sym (add-one i));
-        previous = walk .starts ∙ ap (frameStart (s .epsilon) b) (sym back);
+        starts = right .ends ∙ ap (frameStart (s .epsilon) b) (sym (add-one i));
+        previous = walk .starts ∙ ap (frameStart (s .epsilon) b) back;
+        ranked = λ _. right .rank-is ∙ ap (λ (n : ℕ). rankOf s v (frameAt (s .epsilon) b n)) back;
         each = each-more;
         table-is =
-            e ∙ ap₂ (λ (x t : List ℕ). marked s v (decode (s .epsilon) x) t) judged-part (walk .table-is)
+            e ∙ ap₂ withMark (walk .table-is) (rank-slot s v f rank (right .rank-is))
             ∙ seen-more s v (tab i (frameAt (s .epsilon) b)) (tab (suc i) (frameAt (s .epsilon) b)) f (λ p. any-last p i (frameAt (s .epsilon) b))
             ∙ ap (λ (n : ℕ). seenTable s v (tab n (frameAt (s .epsilon) b))) (sym (add-one i));
       }
 
   -- the frame for the table of starts
-  pub judged-fits : fits s v (take (next - at) (drop at b)) ≡ true
-  judged-fits = ap (fits s v) judged-part ∙ frame-fits s v b i (right .0)
+  pub judged-timely : Limits s → (rank .reading ≤ 2 ^ 17) × ((rank .c < s .epsilon) × (timely s rank ≡ true))
+  unfolding frameAt
+  judged-timely limits = rank-fits s v (bytesAt (s .epsilon) b i) rank limits (frame-fits s v b i (right .sound)) (right .rank-is)
+
+  pub judged-place : Limits s → rankPlace s rank < startPlaces
+  unfolding frameAt
+  judged-place limits =
+      omega (arith, rank-placed s v (frameAt (s .epsilon) b i) rank (right .rank-is), place-inside s v limits (bytesAt (s .epsilon) b i) (frame-fits s v b i (right .sound)))
 
   pub filling-turns : {from k : ℕ} {starts l : List ℕ} → Filling s v b i from starts → at < startUnit → i < twoAt b 0
-      → k ≡ sumPlace s v (decode (s .epsilon) (take (next - at) (drop at b))) → l ≡ filled (i * startUnit + at) from (k + 1) starts → Filling s v b (i + 1) (k + 1) l
-  unfolding frameAt
+      → k ≡ rankPlace s rank → l ≡ filled (i * startUnit + at) from (k + 1) starts → Filling s v b (i + 1) (k + 1) l
   filling-turns {from} {k} old low few e h =
-      let own : k ≡ sumPlace s v (frameAt (s .epsilon) b i) = e ∙ ap (λ (l : List ℕ). sumPlace s v (decode (s .epsilon) l)) judged-part in
+      let own : k ≡ sumPlace s v (frameAt (s .epsilon) b i) = e ∙ rank-placed s v (frameAt (s .epsilon) b i) rank (right .rank-is) in
       record {
         table = filled-table (k + 1) (omega arith) (old .table) (λ j g. start-at (walk .starts) low (omega arith) (omega arith) (λ n l. omega (arith, old .below n l))) h;
         below = λ j l. omega (arith, own, sums-rise s v b i each-more j l);
       }
 
 -- the end fills the last places
-pub filling-ends : {s : Setup} {v : ℕ} {b table : List ℕ} {i prev at from count : ℕ} {starts l : List ℕ} → Walking s v b table i prev at → Filling s v b i from starts
+pub filling-ends : {s : Setup} {v : ℕ} {b table : List ℕ} {i prev : ℕ} {last : Rank} {at from count : ℕ} {starts l : List ℕ} → Walking s v b table i prev last at → Filling s v b i from starts
     → at < startUnit → count ≡ twoAt b 0 → i ≤ count → count ≤ i → l ≡ filled (count * startUnit + at) from startPlaces starts → StartTable s v b count l
 filling-ends {s} {b} {i} {count} walk old low counted le ge h =
     let e : i ≡ count = omega arith in
@@ -337,7 +389,7 @@ walk-fails s v b i l h = false-of-no (soundHoldback s v b) (λ e. clash (sound-f
 pub too-many : (s : Setup) (v : ℕ) (b : List ℕ) → depth (s .n) (s .epsilon) (s .delta) < twoAt b 0 → soundHoldback s v b ≡ false
 too-many s v b h = false-of-no (soundHoldback s v b) (λ e. omega (arith, sound-few s v b e))
 
-pub opened-yes : {s : Setup} {v : ℕ} {b t m table starts : List ℕ} {count i prev at : ℕ} → Starting s v b t m count → Walking s v b table i prev at → StartTable s v b count starts → i ≤ count → count ≤ i
+pub opened-yes : {s : Setup} {v : ℕ} {b t m table starts : List ℕ} {count i prev : ℕ} {last : Rank} {at : ℕ} → Starting s v b t m count → Walking s v b table i prev last at → StartTable s v b count starts → i ≤ count → count ≤ i
     → Opened s v b true count at table starts
 unfolding openedQueue
 opened-yes {s} {v} {b} {count} {i} begin walk started le ge =

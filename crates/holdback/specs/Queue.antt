@@ -1,16 +1,19 @@
 -- Where the frames of a hold-back queue (01: the shelf) stand in its bytes, one by one.
 -- Assumes nothing.
-use Prim.Native.Nat.{ℕ, zero, suc, _+_, _≤_}
+use Prim.Native.Nat.{ℕ, zero, suc, _+_, _*_, _≤_}
 use mathlib.Core.Path.{_≡_}
-use mathlib.Core.Bool.{true}
+use mathlib.Core.Bool.{Bool, true}
 use mathlib.Core.List.{List}
 use lib.ListN.{length, take, drop}
 use Rattle.laws.specs.Lists.{every}
+use Rattle.laws.specs.Lex.{lexCompare, isLess}
 use Rattle.model.specs.Frame.{Frame, twoAt, wellFormed, decode, frameEnd}
 use Rattle.model.specs.Holdback.{heldBytes}
 use Rattle.model.specs.Setup.{Setup}
+use Rattle.model.specs.Order.{key}
 use Rattle.model.specs.Judge.{readingOf}
 use Rattle.timestamp.specs.declared.ordering.Rank.{Rank}
+use Rattle.timestamp.specs.Ranks.{rankedFrame}
 
 -- where frame k starts: past the two-byte count and the k frames before it, "each ending where its counts say"
 unfoldable pub frameStart : ℕ → List ℕ → ℕ → ℕ
@@ -46,3 +49,12 @@ pub record Stands (epsilon : ℕ) (queue : List ℕ) (place index at : ℕ) : Ty
 -- what the order looks at beside the counts, of a frame with its r read near v
 abbrev pub rankOf : Setup → ℕ → Frame → Rank
 rankOf s v f = record { reading = readingOf s v f; c = f .stamp .c; station = f .station }
+
+-- the first of two frames comes before the second, by their ranks and counts
+unfoldable pub rankBefore : ℕ → Rank → List ℕ → Rank → List ℕ → Bool
+rankBefore epsilon f kf g kg =
+    isLess (lexCompare (key epsilon (f .reading) (rankedFrame f kf)) (key epsilon (g .reading) (rankedFrame g kg)))
+
+-- the 2ε counts of a frame of a queue that starts at `at`
+abbrev pub countsAt : ℕ → List ℕ → ℕ → List ℕ
+countsAt epsilon s at = take (2 * epsilon) (drop (at + 6) s)

@@ -4,14 +4,19 @@ use Prim.Native.Nat.{ℕ, zero, suc, _+_, _-_, _≤_, _<_}
 use mathlib.Core.Path.{_≡_}
 use mathlib.Core.Bool.{Bool, true, _&&_, not, cond}
 use mathlib.Core.List.{List, []}
+use lib.Dec.{leb, eqb}
 use lib.ListN.{length}
 use Rattle.laws.specs.Lists.{tab, any}
 use Rattle.model.specs.Setup.{Setup, depth}
+use Rattle.model.specs.Timestamp.{sum}
 use Rattle.model.specs.Frame.{Frame, twoAt, decode}
 use Rattle.model.specs.Judge.{readingOf}
-use Rattle.model.specs.Order.{before}
+use Rattle.model.specs.Order.{before, due}
 use Rattle.model.specs.Holdback.{held, passes, notEarly, notOverdue, sameOrigin, soundHoldback}
-use Rattle.holdback.specs.Queue.{frameStart, bytesAt, frameAt}
+use Rattle.timestamp.specs.declared.ordering.Rank.{Rank}
+use Rattle.timestamp.specs.Ranks.{Ranked}
+use Rattle.holdback.specs.declared.soundness.Judged.{Judged}
+use Rattle.holdback.specs.Queue.{frameStart, bytesAt, frameAt, rankOf, rankBefore, countsAt}
 use Rattle.holdback.specs.Seen.{seenTable}
 use Rattle.holdback.specs.Starts.{StartTable, allFront}
 
@@ -34,16 +39,41 @@ isNew s queue k = not (any (sameOrigin (frameAt (s .epsilon) queue k)) (tab k (f
 unfoldable pub frameSound : Setup → ℕ → List ℕ → ℕ → Bool
 frameSound s v queue k = fits s v (bytesAt (s .epsilon) queue k) && (follows s v queue k && isNew s queue k)
 
+-- "each sum at most ε − 1 past v and each sum + δ + ε not before v", of a frame with that rank
+unfoldable pub timely : Setup → Rank → Bool
+timely s rank =
+    leb (sum (rank .reading) (rank .c)) (s .modulus + (s .epsilon - 1)) && leb (s .modulus) (due (s .epsilon) (s .delta) (rank .reading) (rank .c))
+
+-- frame i, at `at`, comes after the one before it, at `prev`, by their ranks
+unfoldable pub rankFollows : ℕ → List ℕ → ℕ → ℕ → Rank → ℕ → Rank → Bool
+rankFollows epsilon queue i prev last at rank =
+    cond (eqb i 0) true (rankBefore epsilon last (countsAt epsilon queue prev) rank (countsAt epsilon queue at))
+
+-- what is asked of the two for that
+pub record Compared (epsilon : ℕ) (queue : List ℕ) (i prev : ℕ) (last : Rank) (at : ℕ) (rank : Rank) : Type 0 where
+  pub own : Ranked epsilon rank (countsAt epsilon queue at)
+  pub previous : (i ≡ 0 → ⊥) → Ranked epsilon last (countsAt epsilon queue prev)
+
+-- of a frame that is not sound
+abbrev pub unsound : Judged
+unsound = record { end = 0; rank = record { reading = 0; c = 0; station = 0 } }
+
+-- where frame i ends and its rank, if it is sound
+unfoldable pub judgedAt : Setup → ℕ → List ℕ → ℕ → Judged
+judgedAt s v queue i =
+    cond (frameSound s v queue i) (record { end = frameStart (s .epsilon) queue (suc i); rank = rankOf s v (frameAt (s .epsilon) queue i) }) unsound
+
 -- r + c of a frame, with r read near v
 pub record Summed (s : Setup) (v : ℕ) (f : Frame) (r : ℕ) : Type 0 where
   pub is-sum : r ≡ readingOf s v f + f .stamp .c
   pub small : r < 131072
 
--- a walk over a queue that has found its first i frames sound: frame i starts at `at`, the one before it at `prev`, and the table has the origins of the frames so far
-pub record Walking (s : Setup) (v : ℕ) (queue table : List ℕ) (i prev at : ℕ) : Type 0 where
+-- a walk over a queue that has found its first i frames sound: frame i starts at `at`, the one before it at `prev` and has the rank `last`, and the table has the origins of the frames so far
+pub record Walking (s : Setup) (v : ℕ) (queue table : List ℕ) (i prev : ℕ) (last : Rank) (at : ℕ) : Type 0 where
   pub two : 2 ≤ length queue
   pub starts : at ≡ frameStart (s .epsilon) queue i
   pub previous : prev ≡ frameStart (s .epsilon) queue (i - 1)
+  pub ranked : (i ≡ 0 → ⊥) → last ≡ rankOf s v (frameAt (s .epsilon) queue (i - 1))
   pub each : (k : ℕ) → k < i → frameSound s v queue k ≡ true
   pub table-is : table ≡ seenTable s v (tab i (frameAt (s .epsilon) queue))
 
@@ -54,14 +84,6 @@ pub record Starting (s : Setup) (v : ℕ) (queue table starts : List ℕ) (count
   pub few : count ≤ depth (s .n) (s .epsilon) (s .delta)
   pub empty : table ≡ seenTable s v []
   pub all-front : starts ≡ allFront
-
--- frame i, at `at`, and the one before it, at `prev`, pass 10 to 12
-pub record Between (s : Setup) (v : ℕ) (queue : List ℕ) (i prev at next : ℕ) : Type 0 where
-  pub previous : prev ≡ frameStart (s .epsilon) queue (i - 1)
-  pub starts : at ≡ frameStart (s .epsilon) queue i
-  pub ends : next ≡ frameStart (s .epsilon) queue (suc i)
-  pub passed-before : (k : ℕ) → k < i → passes s (bytesAt (s .epsilon) queue k) ≡ true
-  pub passed : passes s (bytesAt (s .epsilon) queue i) ≡ true
 
 -- 01, tick 1: the frames with which a tick starts: "An unsound shelf is emptied"
 unfoldable pub openedQueue : Setup → ℕ → List ℕ → List Frame

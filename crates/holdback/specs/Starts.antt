@@ -9,8 +9,9 @@ use lib.ListN.{length, take, getD, replicate}
 use Rattle.laws.specs.Lists.{tab, every}
 use Rattle.model.specs.Setup.{Setup}
 use Rattle.model.specs.Frame.{Frame}
-use Rattle.model.specs.Order.{dueNear}
+use Rattle.model.specs.Order.{due, dueNear}
 use Rattle.model.specs.Holdback.{held}
+use Rattle.timestamp.specs.declared.ordering.Rank.{Rank}
 use Rattle.holdback.specs.Queue.{frameStart}
 
 -- an entry is so many times a number of frames, and where the next one starts, which is less
@@ -33,7 +34,11 @@ front = 2
 abbrev pub allFront : List ℕ
 allFront = replicate startPlaces front
 
--- the place for a frame's sum: how far its due clock, sum + δ + ε, lies past v, which reads B
+-- the place for a sum: how far its due clock, sum + δ + ε, lies past v, which reads B
+unfoldable pub rankPlace : Setup → Rank → ℕ
+rankPlace s rank = due (s .epsilon) (s .delta) (rank .reading) (rank .c) - s .modulus
+
+-- the same, of a frame
 unfoldable pub sumPlace : Setup → ℕ → Frame → ℕ
 sumPlace s v f = dueNear (s .epsilon) (s .delta) (s .modulus) v f - s .modulus
 

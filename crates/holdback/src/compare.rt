@@ -12,10 +12,11 @@ ghost use Rattle.model.specs.Frame.{decode};
 ghost use Rattle.model.specs.Order.{before};
 ghost use Rattle.model.specs.Holdback.{passes};
 ghost use Rattle.timestamp.specs.Views.{setupOf};
-ghost use Rattle.holdback.specs.Queue.{rankOf};
+ghost use Rattle.timestamp.specs.Ranks.{Ranked};
+ghost use Rattle.holdback.specs.Queue.{rankOf, rankBefore};
 
 // What the order looks at beside the counts.
-fn rank_of(s: Setup, v: usize, frame: &[u8]) -> Rank
+pub fn rank_of(s: Setup, v: usize, frame: &[u8]) -> Rank
     requires { ⌜ (inLimits (setupOf s) ≡ true) × (v < s .modulus) ⌝ }
     requires { ⌜ decode (s .epsilon) (now frame) .stamp .r < s .modulus ⌝ }
     ensures { λ r. ⌜ r ≡ rankOf (setupOf s) v (decode (s .epsilon) (now (frame .entry))) ⌝ }
@@ -27,8 +28,21 @@ fn rank_of(s: Setup, v: usize, frame: &[u8]) -> Rank
     }
 }
 
-// The first of two frames comes before the second.
-pub fn comes_before(s: Setup, v: usize, f: &[u8], g: &[u8]) -> bool
+// The first of two frames comes before the second, by their ranks and counts.
+pub fn comes_before(epsilon: usize, f: Rank, kf: &[u8], g: Rank, kg: &[u8]) -> bool
+    requires { ⌜ Ranked epsilon f (now kf) ⌝ }
+    requires { ⌜ Ranked epsilon g (now kg) ⌝ }
+    ensures { λ b. ⌜ b ≡ rankBefore epsilon f (now (kf .entry)) g (now (kg .entry)) ⌝ }
+{
+    let order = compare_ranked(epsilon, f, kf, g, kg);
+    let Order::First = order else {
+        return false;
+    };
+    true
+}
+
+// The same, by their bytes.
+pub fn frame_before(s: Setup, v: usize, f: &[u8], g: &[u8]) -> bool
     requires { ⌜ (inLimits (setupOf s) ≡ true) × (v < s .modulus) ⌝ }
     requires { ⌜ (passes (setupOf s) (now f) ≡ true) × (passes (setupOf s) (now g) ≡ true) ⌝ }
     ensures { λ b. ⌜ b ≡ before (s .epsilon) (s .modulus) v (decode (s .epsilon) (now (f .entry))) (decode (s .epsilon) (now (g .entry))) ⌝ }
@@ -37,9 +51,5 @@ pub fn comes_before(s: Setup, v: usize, f: &[u8], g: &[u8]) -> bool
     let end = 6 + 2 * epsilon;
     let rank_f = rank_of(s, v, f);
     let rank_g = rank_of(s, v, g);
-    let order = compare_ranked(epsilon, rank_f, &f[6..end], rank_g, &g[6..end]);
-    let Order::First = order else {
-        return false;
-    };
-    true
+    comes_before(epsilon, rank_f, &f[6..end], rank_g, &g[6..end])
 }

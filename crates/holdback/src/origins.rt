@@ -1,5 +1,6 @@
 // The table of origins: for each station and reading, whether such a frame is in the queue.
-use crate::test::reading_of;
+use crate::compare::rank_of;
+use timestamp::Rank;
 use timestamp::Setup;
 ghost use mathlib.Core.Path.{_≡_};
 ghost use mathlib.Core.Bool.{true};
@@ -8,37 +9,53 @@ ghost use lib.ListN.{length};
 ghost use Rattle.model.specs.Setup.{inLimits};
 ghost use Rattle.model.specs.Frame.{decode};
 ghost use Rattle.timestamp.specs.Views.{setupOf};
-ghost use Rattle.holdback.specs.Seen.{InWindow, slotOf, tableLength, isMarked, marked};
+ghost use Rattle.holdback.specs.Seen.{InWindow, Within, rankSlot, tableLength, hasMark, withMark, isMarked, marked};
 
-// The place of a frame's station and reading.
-fn slot(s: Setup, v: usize, frame: &[u8]) -> usize
-    requires { ⌜ (inLimits (setupOf s) ≡ true) × (v < s .modulus) ⌝ }
-    requires { ⌜ InWindow (setupOf s) v (decode (s .epsilon) (now frame)) ⌝ }
-    ensures { λ r. ⌜ (r ≡ slotOf (setupOf s) v (decode (s .epsilon) (now (frame .entry)))) × (r < tableLength) ⌝ }
+// The place of a station and a reading.
+fn slot(s: Setup, rank: Rank) -> usize
+    requires { ⌜ (inLimits (setupOf s) ≡ true) × Within (setupOf s) rank ⌝ }
+    ensures { λ r. ⌜ (r ≡ rankSlot (setupOf s) rank) × (r < tableLength) ⌝ }
 {
-    let reading = reading_of(s, v, frame);
     let back = s.delta as usize + 2 * (s.epsilon as usize);
-    frame::station_of(frame) * 128 + (reading + back - s.modulus as usize)
+    rank.station * 128 + (rank.reading + back - s.modulus as usize)
 }
 
-// Its place is marked. 01, 16: "that station and r" are shelved already.
+// It is marked.
+pub fn is_marked(s: Setup, rank: Rank, seen: &[u8]) -> bool
+    requires { ⌜ (inLimits (setupOf s) ≡ true) × Within (setupOf s) rank ⌝ }
+    requires { ⌜ length (now seen) ≡ tableLength ⌝ }
+    ensures { λ b. ⌜ b ≡ hasMark (now (seen .entry)) (rankSlot (setupOf s) rank) ⌝ }
+{
+    let i = slot(s, rank);
+    seen[i] == 1
+}
+
+// Marks it.
+pub fn set_mark(s: Setup, rank: Rank, seen: &mut [u8])
+    requires { ⌜ (inLimits (setupOf s) ≡ true) × Within (setupOf s) rank ⌝ }
+    requires { ⌜ length (now seen) ≡ tableLength ⌝ }
+    ensures { λ _. ⌜ now (seen .exit) ≡ withMark (now (seen .entry)) (rankSlot (setupOf s) rank) ⌝ }
+{
+    let i = slot(s, rank);
+    seen[i] = 1;
+}
+
+// A frame's place is marked. 01, 16: "that station and r" are shelved already.
 pub fn repeats(s: Setup, v: usize, frame: &[u8], seen: &[u8]) -> bool
     requires { ⌜ (inLimits (setupOf s) ≡ true) × (v < s .modulus) ⌝ }
     requires { ⌜ InWindow (setupOf s) v (decode (s .epsilon) (now frame)) ⌝ }
     requires { ⌜ length (now seen) ≡ tableLength ⌝ }
     ensures { λ b. ⌜ b ≡ isMarked (setupOf s) v (decode (s .epsilon) (now (frame .entry))) (now (seen .entry)) ⌝ }
 {
-    let i = slot(s, v, frame);
-    seen[i] == 1
+    is_marked(s, rank_of(s, v, frame), seen)
 }
 
-// Marks it.
+// Marks a frame's place.
 pub fn mark(s: Setup, v: usize, frame: &[u8], seen: &mut [u8])
     requires { ⌜ (inLimits (setupOf s) ≡ true) × (v < s .modulus) ⌝ }
     requires { ⌜ InWindow (setupOf s) v (decode (s .epsilon) (now frame)) ⌝ }
     requires { ⌜ length (now seen) ≡ tableLength ⌝ }
     ensures { λ _. ⌜ now (seen .exit) ≡ marked (setupOf s) v (decode (s .epsilon) (now (frame .entry))) (now (seen .entry)) ⌝ }
 {
-    let i = slot(s, v, frame);
-    seen[i] = 1;
+    set_mark(s, rank_of(s, v, frame), seen);
 }

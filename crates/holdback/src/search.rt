@@ -1,6 +1,6 @@
 // The place of a frame in a sound queue: from where its sum starts, one by one.
 use crate::change::Place;
-use crate::compare::comes_before;
+use crate::compare::frame_before;
 use crate::test::sum_place;
 use timestamp::Setup;
 ghost use mathlib.Core.Path.{_≡_};
@@ -37,7 +37,7 @@ pub fn place_for(
     let mut at = start % 131072;
     while i < count {
         let next = at + frame::frame_end(epsilon, &buf[at..]);
-        if !comes_before(s, v, &buf[at..next], frame) {
+        if !frame_before(s, v, &buf[at..next], frame) {
             return Place { index: i, at };
         }
         at = next;

@@ -1,22 +1,23 @@
 // 01: "It is sound if": one walk over the frames, each judged once, its origin by one look-up.
 use crate::compare::comes_before;
-use crate::origins::mark;
-use crate::origins::repeats;
+use crate::compare::rank_of;
+use crate::origins::is_marked;
+use crate::origins::set_mark;
 use crate::starts::fill;
-use crate::test::fits;
-use crate::test::sum_place;
+use crate::test::rank_place;
+use crate::test::timely;
+use timestamp::Rank;
 use timestamp::Setup;
 use timestamp::depth;
 ghost use mathlib.Core.Path.{_≡_};
-ghost use mathlib.Core.Bool.{true, cond};
-ghost use Prim.Native.Nat.{suc, _≤_, _<_};
+ghost use mathlib.Core.Bool.{true};
+ghost use Prim.Native.Nat.{_≤_, _<_};
 ghost use lib.ListN.{length, replicate};
 ghost use Rattle.model.specs.Setup.{inLimits};
 ghost use Rattle.timestamp.specs.Views.{setupOf};
-ghost use Rattle.holdback.specs.Queue.{frameStart};
 ghost use Rattle.holdback.specs.Seen.{tableLength};
 ghost use Rattle.holdback.specs.Starts.{allFront};
-ghost use Rattle.holdback.specs.Sound.{follows, frameSound, Walking, Between, Starting, Opened};
+ghost use Rattle.holdback.specs.Sound.{rankFollows, Compared, unsound, judgedAt, Walking, Starting, Opened};
 
 // What the walk answers: sound or not, the number of frames, and where they end. Of an unsound queue the figures are those
 // of an empty one.
@@ -26,38 +27,85 @@ pub struct Walk {
     pub end: usize,
 }
 
-// 01: "strictly in order": frame i comes after the one before it.
-fn follows(s: Setup, v: usize, buf: &[u8], i: usize, prev: usize, at: usize, next: usize) -> bool
-    requires { ⌜ (inLimits (setupOf s) ≡ true) × (v < s .modulus) ⌝ }
-    requires { ⌜ Between (setupOf s) v (now buf) i prev at next ⌝ }
-    ensures { λ b. ⌜ b ≡ follows (setupOf s) v (now (buf .entry)) i ⌝ }
+// Where a frame ends, 0 where it is not sound; and its rank.
+struct Judged {
+    end: usize,
+    rank: Rank,
+}
+
+fn unsound() -> Judged
+    ensures { λ r. ⌜ r ≡ unsound ⌝ }
+{
+    Judged {
+        end: 0,
+        rank: Rank {
+            reading: 0,
+            c: 0,
+            station: 0,
+        },
+    }
+}
+
+// 01: "strictly in order": frame i, which starts at at, comes after the one before it, which starts at prev and has the rank last.
+fn follows(
+    epsilon: usize,
+    buf: &[u8],
+    i: usize,
+    prev: usize,
+    last: Rank,
+    at: usize,
+    rank: Rank,
+) -> bool
+    requires { ⌜ Compared epsilon (now buf) i prev last at rank ⌝ }
+    ensures { λ b. ⌜ b ≡ rankFollows epsilon (now (buf .entry)) i prev last at rank ⌝ }
 {
     if i == 0 {
         return true;
     }
-    comes_before(s, v, &buf[prev..at], &buf[at..next])
+    let end = 6 + 2 * epsilon;
+    comes_before(
+        epsilon,
+        last,
+        &buf[prev + 6..prev + end],
+        rank,
+        &buf[at + 6..at + end],
+    )
 }
 
-// Judges frame i, which starts at at; the one before it starts at prev. Answers where it ends, or 0 where it is not sound.
-fn judge_at(s: Setup, v: usize, buf: &[u8], seen: &[u8], i: usize, prev: usize, at: usize) -> usize
+// Judges frame i, which starts at at; the one before it starts at prev and has the rank last. Its own r, c and station are read once.
+fn judge_at(
+    s: Setup,
+    v: usize,
+    buf: &[u8],
+    seen: &[u8],
+    i: usize,
+    prev: usize,
+    last: Rank,
+    at: usize,
+) -> Judged
     requires { ⌜ (inLimits (setupOf s) ≡ true) × (v < s .modulus) ⌝ }
-    requires { ⌜ Walking (setupOf s) v (now buf) (now seen) i prev at ⌝ }
-    ensures { λ r. ⌜ r ≡ cond (frameSound (setupOf s) v (now (buf .entry)) i) (frameStart (s .epsilon) (now (buf .entry)) (suc i)) 0 ⌝ }
+    requires { ⌜ Walking (setupOf s) v (now buf) (now seen) i prev last at ⌝ }
+    ensures { λ r. ⌜ r ≡ judgedAt (setupOf s) v (now (buf .entry)) i ⌝ }
 {
-    let next = at + frame::frame_end(s.epsilon as usize, &buf[at..]);
+    let epsilon = s.epsilon as usize;
+    let next = at + frame::frame_end(epsilon, &buf[at..]);
     if buf.len() < next {
-        return 0;
+        return unsound();
     }
-    if !fits(s, v, &buf[at..next]) {
-        return 0;
+    if frame::check(s, &buf[at..next]) != 0 {
+        return unsound();
     }
-    if !follows(s, v, buf, i, prev, at, next) {
-        return 0;
+    let rank = rank_of(s, v, &buf[at..next]);
+    if !timely(s, rank) {
+        return unsound();
     }
-    if repeats(s, v, &buf[at..next], seen) {
-        return 0;
+    if !follows(epsilon, buf, i, prev, last, at, rank) {
+        return unsound();
     }
-    next
+    if is_marked(s, rank, seen) {
+        return unsound();
+    }
+    Judged { end: next, rank }
 }
 
 // The walk, with the origins of the frames so far in one table, and in the other where the frames of each sum start: the places up
@@ -79,9 +127,15 @@ fn walk_frames(
     let mut i = 0;
     let mut prev = 2;
     let mut at = 2;
+    let mut last = Rank {
+        reading: 0,
+        c: 0,
+        station: 0,
+    };
     let mut filled = 0;
     while i < count {
-        let next = judge_at(s, v, buf, seen, i, prev, at);
+        let judged = judge_at(s, v, buf, seen, i, prev, last, at);
+        let next = judged.end;
         if next == 0 {
             splice::clear(seen, 0, slots);
             fill(starts, 0, 96, 2);
@@ -91,8 +145,9 @@ fn walk_frames(
                 end: 2,
             };
         }
-        mark(s, v, &buf[at..next], seen);
-        let k = sum_place(s, v, &buf[at..next]) + 1;
+        last = judged.rank;
+        set_mark(s, last, seen);
+        let k = rank_place(s, last) + 1;
         fill(starts, filled, k, (i * 131072 + at) as u32);
         filled = k;
         prev = at;

@@ -1,17 +1,19 @@
 // The tests of one frame.
+use crate::compare::rank_of;
+use timestamp::Rank;
 use timestamp::Setup;
 use timestamp::near;
 ghost use mathlib.Core.Path.{_≡_};
 ghost use mathlib.Core.Bool.{true};
-ghost use Prim.Native.Nat.{_<_};
+ghost use Prim.Native.Nat.{_≤_, _<_, _^_};
 ghost use Rattle.model.specs.Setup.{inLimits};
 ghost use Rattle.model.specs.Frame.{decode};
 ghost use Rattle.model.specs.Judge.{readingOf};
 ghost use Rattle.model.specs.Holdback.{passes};
 ghost use Rattle.model.specs.Tick.{dueNow};
 ghost use Rattle.timestamp.specs.Views.{setupOf};
-ghost use Rattle.holdback.specs.Sound.{fits, Summed};
-ghost use Rattle.holdback.specs.Starts.{sumPlace};
+ghost use Rattle.holdback.specs.Sound.{fits, timely, Summed};
+ghost use Rattle.holdback.specs.Starts.{rankPlace, sumPlace};
 
 // The reading of a frame's r near v.
 pub fn reading_of(s: Setup, v: usize, frame: &[u8]) -> usize
@@ -36,15 +38,13 @@ fn sum_of(s: Setup, v: usize, frame: &[u8]) -> usize
     reading_of(s, v, frame) + frame::c_of(frame)
 }
 
-// What is asked of a frame alone: 10 to 12, not early, not overdue.
-pub fn fits(s: Setup, v: usize, frame: &[u8]) -> bool
-    requires { ⌜ (inLimits (setupOf s) ≡ true) × (v < s .modulus) ⌝ }
-    ensures { λ b. ⌜ b ≡ fits (setupOf s) v (now (frame .entry)) ⌝ }
+// 01: "each sum at most ε − 1 past v and each sum + δ + ε not before v", of one frame.
+pub fn timely(s: Setup, rank: Rank) -> bool
+    requires { ⌜ inLimits (setupOf s) ≡ true ⌝ }
+    requires { ⌜ (rank .reading ≤ 2 ^ 17) × (rank .c < s .epsilon) ⌝ }
+    ensures { λ b. ⌜ b ≡ timely (setupOf s) rank ⌝ }
 {
-    if frame::check(s, frame) != 0 {
-        return false;
-    }
-    let sum = sum_of(s, v, frame);
+    let sum = rank.reading + rank.c;
     let modulus = s.modulus as usize;
     let epsilon = s.epsilon as usize;
     if modulus + (epsilon - 1) < sum {
@@ -62,11 +62,20 @@ pub fn is_due(s: Setup, v: usize, frame: &[u8]) -> bool
     sum_of(s, v, frame) + s.delta as usize + s.epsilon as usize == s.modulus as usize
 }
 
-// The place of its sum in a table by sums: how far its due clock lies past v.
+// The place of a sum in a table by sums: how far its due clock lies past v.
+pub fn rank_place(s: Setup, rank: Rank) -> usize
+    requires { ⌜ inLimits (setupOf s) ≡ true ⌝ }
+    requires { ⌜ (rank .reading ≤ 2 ^ 17) × ((rank .c < s .epsilon) × (timely (setupOf s) rank ≡ true)) ⌝ }
+    ensures { λ r. ⌜ r ≡ rankPlace (setupOf s) rank ⌝ }
+{
+    rank.reading + rank.c + s.delta as usize + s.epsilon as usize - s.modulus as usize
+}
+
+// The same, of a frame.
 pub fn sum_place(s: Setup, v: usize, frame: &[u8]) -> usize
     requires { ⌜ (inLimits (setupOf s) ≡ true) × (v < s .modulus) ⌝ }
     requires { ⌜ fits (setupOf s) v (now frame) ≡ true ⌝ }
     ensures { λ r. ⌜ r ≡ sumPlace (setupOf s) v (decode (s .epsilon) (now (frame .entry))) ⌝ }
 {
-    sum_of(s, v, frame) + s.delta as usize + s.epsilon as usize - s.modulus as usize
+    rank_place(s, rank_of(s, v, frame))
 }

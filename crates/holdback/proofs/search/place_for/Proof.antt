@@ -62,17 +62,17 @@ frame-end-requires c κs = limits-from (setupOf (c .before .before .before .befo
 add-next : tie.Need-add-next Inv-loop μ-loop
 add-next c = omega (arith, led-next (c .before .before .before .loop .inv) (c .before .before .loop-test .taken) (c .frame-end .ensures))
 
-sub-comes-before : tie.Need-sub-comes-before Inv-loop μ-loop
-sub-comes-before c = omega arith
+sub-frame-before : tie.Need-sub-frame-before Inv-loop μ-loop
+sub-frame-before c = omega arith
 
-part-comes-before-start : tie.Need-part-comes-before-start Inv-loop μ-loop
-part-comes-before-start c = omega arith
+part-frame-before-start : tie.Need-part-frame-before-start Inv-loop μ-loop
+part-frame-before-start c = omega arith
 
-part-comes-before-end : tie.Need-part-comes-before-end Inv-loop μ-loop
-part-comes-before-end c = omega (arith, led-next (c .before .before .before .loop .inv) (c .before .before .loop-test .taken) (c .frame-end .ensures))
+part-frame-before-end : tie.Need-part-frame-before-end Inv-loop μ-loop
+part-frame-before-end c = omega (arith, led-next (c .before .before .before .loop .inv) (c .before .before .loop-test .taken) (c .frame-end .ensures))
 
-comes-before-requires : tie.Need-comes-before-requires Inv-loop μ-loop
-comes-before-requires c κs =
+frame-before-requires : tie.Need-frame-before-requires Inv-loop μ-loop
+frame-before-requires c κs =
     let start = c .before .before .before .before .before .before .before .before .before .before .before in
     let ok = led-passes (c .before .before .before .before .loop .inv) (c .before .before .before .loop-test .taken) (c .before .frame-end .ensures) in
     (start .pre .0, (ok, fitting (setupOf (start .args .s)) (start .args .v) (start .args .frame .now) (start .pre .1 .1 .1) .passed))
@@ -80,7 +80,7 @@ comes-before-requires c κs =
 returns : tie.Need-returns Inv-loop μ-loop
 unfolding placeFor
 returns c =
-    led-stops (c .before .before .before .before .before .before .loop .inv) (c .before .before .before .before .before .loop-test .taken) (c .before .before .before .frame-end .ensures) (c .before .comes-before .ensures) (c .if1 .taken)
+    led-stops (c .before .before .before .before .before .before .loop .inv) (c .before .before .before .before .before .loop-test .taken) (c .before .before .before .frame-end .ensures) (c .before .frame-before .ensures) (c .if1 .taken)
 
 add-i : tie.Need-add-i Inv-loop μ-loop
 add-i c = omega arith
@@ -90,7 +90,7 @@ loop-less c = omega arith
 
 loop-again : tie.Need-loop-again Inv-loop μ-loop
 loop-again c =
-    led-turns (c .before .before .before .before .before .before .loop .inv) (c .before .before .before .before .before .loop-test .taken) (c .before .before .before .frame-end .ensures) (c .before .comes-before .ensures) (c .if1 .left)
+    led-turns (c .before .before .before .before .before .before .loop .inv) (c .before .before .before .before .before .loop-test .taken) (c .before .before .before .frame-end .ensures) (c .before .frame-before .ensures) (c .if1 .left)
 
 returns-2 : tie.Need-returns-2 Inv-loop μ-loop
 unfolding placeFor
@@ -113,10 +113,10 @@ place-for-spec =
     part-frame-end-end
     frame-end-requires
     add-next
-    sub-comes-before
-    part-comes-before-start
-    part-comes-before-end
-    comes-before-requires
+    sub-frame-before
+    part-frame-before-start
+    part-frame-before-end
+    frame-before-requires
     returns
     add-i
     loop-less

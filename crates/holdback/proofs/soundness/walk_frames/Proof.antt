@@ -2,31 +2,30 @@
 use native.Mathlib.Omega.{arith}
 use Rattle.timestamp.specs.Views.{setupOf}
 use mathlib.Core.Path.{_≡_, ap, sym, _∙_}
-use Prim.Native.Nat.{ℕ, suc, _-_, _≤_, _<_}
-use mathlib.Core.Bool.{true}
+use Prim.Native.Nat.{ℕ, _-_, _≤_, _<_}
 use mathlib.Core.List.{List}
 use lib.ListN.{length, length-replicate}
 use Rattle.model.specs.Setup.{Setup}
 use Rattle.model.specs.Frame.{twoAt}
 use Rattle.lemmas.proofs.Questions.{limits-from}
-use Rattle.holdback.specs.Queue.{frameStart}
-use Rattle.holdback.specs.Sound.{frameSound, Walking}
+use Rattle.holdback.specs.declared.soundness.Judged.{Judged}
+use Rattle.holdback.specs.Sound.{Walking}
 use Rattle.holdback.specs.Starts.{startUnit, startPlaces, front}
 use Rattle.holdback.proofs.Seen.{seen-cleared}
-use Rattle.holdback.proofs.Started.{all-front, place-inside}
-use Rattle.holdback.proofs.Walks.{walk-starts, starting-long, table-long, at-low-enough, verdict-no, verdict-yes, walk-fails, opened-no, opened-yes, judged-inside, judged-window, walk-turns, Filling, filling-starts, judged-fits, filling-turns, filling-ends}
+use Rattle.holdback.proofs.Started.{all-front}
+use Rattle.holdback.proofs.Walks.{walk-starts, starting-long, table-long, at-low-enough, Right, judged-bad, judged-good, walk-fails, opened-no, opened-yes, judged-within, judged-timely, judged-place, walk-turns, Filling, filling-starts, filling-turns, filling-ends}
 use Rattle.holdback.proofs.soundness.walk_frames.Statement.{statement}
 use Rattle.holdback.proofs.soundness.walk_frames.Tie as tie
 
 abbrev Inv-loop : tie.InvT-loop
-Inv-loop s v buf count seen₀ starts₀ slots i₀ prev₀ at₀ filled₀ seen starts i prev at filled =
-    Walking (setupOf s) v buf seen i prev at × (Filling (setupOf s) v buf i filled starts × (i ≤ count))
+Inv-loop s v buf count seen₀ starts₀ slots i₀ prev₀ at₀ last₀ filled₀ seen starts i prev at last filled =
+    Walking (setupOf s) v buf seen i prev last at × (Filling (setupOf s) v buf i filled starts × (i ≤ count))
 
 abbrev μ-loop : tie.MeasureT-loop
-μ-loop s v buf count seen₀ starts₀ slots i₀ prev₀ at₀ filled₀ seen starts i prev at filled = count - i
+μ-loop s v buf count seen₀ starts₀ slots i₀ prev₀ at₀ last₀ filled₀ seen starts i prev at last filled = count - i
 
 loop-holds : tie.Need-loop-holds Inv-loop μ-loop
-loop-holds c = let start = c .before .before .before in (walk-starts (start .pre .1), (filling-starts (start .pre .1 .all-front), omega arith))
+loop-holds c = let start = c .before .before .before in (walk-starts _ (start .pre .1), (filling-starts (start .pre .1 .all-front), omega arith))
 
 judge-at-requires : tie.Need-judge-at-requires Inv-loop μ-loop
 judge-at-requires c κs = (c .before .before .before .before .before .before .pre .0, c .before .before .loop .inv .0)
@@ -64,7 +63,7 @@ returns c =
     let l : loop .i < twoAt b 0 = omega (arith, c .before .before .before .before .before .before .before .before .before .before .before .loop-test .taken, start .pre .1 .counted) in
     opened-no
     (walk-fails (setupOf (start .args .s)) (start .args .v) b (loop .i) l
-    (verdict-no (setupOf (start .args .s)) (start .args .v) b (loop .i) (judged .result) (judged .ensures) (c .before .before .before .before .before .before .before .before .if1 .taken)))
+    (judged-bad (setupOf (start .args .s)) (start .args .v) b (loop .i) (judged .result) (judged .ensures) (c .before .before .before .before .before .before .before .before .if1 .taken)))
     (seen-cleared (setupOf (start .args .s)) (start .args .v) (loop .seen) _ (length (start .args .seen .now)) (table-long (loop .inv .0)) (sym (seen-same (c .before .before .before .before .before .before .before .before .before .before .before .before))) (c .before .before .before .before .before .before .clear .ensures))
     (all-front (loop .starts) (c .before .before .fill .ensures))
 
@@ -79,81 +78,61 @@ module _ (c : tie.Else1 Inv-loop μ-loop) where
   abbrev setup : Setup
   setup = setupOf (start .args .s)
 
-  abbrev walk : Walking setup (start .args .v) buffer (c .before .before .before .before .loop .seen) (c .before .before .before .before .loop .i) (c .before .before .before .before .loop .prev) (c .before .before .before .before .loop .at)
+  abbrev walk : Walking setup (start .args .v) buffer (c .before .before .before .before .loop .seen) (c .before .before .before .before .loop .i) (c .before .before .before .before .loop .prev) (c .before .before .before .before .loop .last) (c .before .before .before .before .loop .at)
   walk = c .before .before .before .before .loop .inv .0
 
-  abbrev next : ℕ
-  next = c .before .judge-at .result
+  abbrev judged : Judged
+  judged = c .before .judge-at .result
 
-  right : (frameSound setup (start .args .v) buffer (c .before .before .before .before .loop .i) ≡ true) × (next ≡ frameStart (setup .epsilon) buffer (suc (c .before .before .before .before .loop .i)))
-  right = verdict-yes setup (start .args .v) buffer (c .before .before .before .before .loop .i) next (c .before .judge-at .ensures) (c .if1 .left)
+  right : Right setup (start .args .v) buffer (c .before .before .before .before .loop .i) (judged .end) (judged .rank)
+  right = judged-good setup (start .args .v) buffer (c .before .before .before .before .loop .i) judged (c .before .judge-at .ensures) (c .if1 .left)
 
-  inside : (c .before .before .before .before .loop .at ≤ next) × (next ≤ length buffer)
-  inside = judged-inside walk next right
-
-sub-mark : tie.Need-sub-mark Inv-loop μ-loop
-sub-mark c = inside c .0
-
-part-mark-start : tie.Need-part-mark-start Inv-loop μ-loop
-part-mark-start c = omega (arith, inside c)
-
-part-mark-end : tie.Need-part-mark-end Inv-loop μ-loop
-part-mark-end c = omega (arith, inside c)
-
-mark-requires : tie.Need-mark-requires Inv-loop μ-loop
-mark-requires c κs =
+set-mark-requires : tie.Need-set-mark-requires Inv-loop μ-loop
+set-mark-requires c κs =
     let at = c .before .before in
-    (start at .pre .0, (judged-window (walk at) (next at) (right at), table-long (walk at)))
+    ((start at .pre .0 .0, judged-within (walk at) (right at) (limits-from (setup at) (start at .pre .0 .0)) (start at .pre .0 .1)), table-long (walk at))
 
-sub-sum-place : tie.Need-sub-sum-place Inv-loop μ-loop
-sub-sum-place c = inside (c .before .before .before .before .before) .0
-
-part-sum-place-start : tie.Need-part-sum-place-start Inv-loop μ-loop
-part-sum-place-start c = omega (arith, inside (c .before .before .before .before .before))
-
-part-sum-place-end : tie.Need-part-sum-place-end Inv-loop μ-loop
-part-sum-place-end c = omega (arith, inside (c .before .before .before .before .before))
-
-sum-place-requires : tie.Need-sum-place-requires Inv-loop μ-loop
-sum-place-requires c κs =
-    let at = c .before .before .before .before .before .before in
-    (start at .pre .0, judged-fits (walk at) (next at) (right at))
+rank-place-requires : tie.Need-rank-place-requires Inv-loop μ-loop
+rank-place-requires c κs =
+    let at = c .before .before .before .before .before in
+    (start at .pre .0 .0, judged-timely (walk at) (right at) (limits-from (setup at) (start at .pre .0 .0)))
 
 -- its sum has a place
-placed : (c : tie.After-sum-place Inv-loop μ-loop) → c .sum-place .result < startPlaces
+placed : (c : tie.After-rank-place Inv-loop μ-loop) → c .rank-place .result < startPlaces
 placed c =
-    let at = c .before .before .before .before .before .before .before in
-    omega (arith, c .sum-place .ensures, place-inside (setup at) (start at .args .v) (limits-from (setup at) (start at .pre .0 .0)) _ (judged-fits (walk at) (next at) (right at)))
+    let at = c .before .before .before .before .before .before in
+    omega (arith, c .rank-place .ensures, judged-place (walk at) (right at) (limits-from (setup at) (start at .pre .0 .0)))
 
 add-k : tie.Need-add-k Inv-loop μ-loop
 add-k c = omega (arith, placed c)
 
 mul-fill : tie.Need-mul-fill Inv-loop μ-loop
-mul-fill c = omega (arith, low (c .before .before .before .before .before .before .before .before .before .before .before .before))
+mul-fill c = omega (arith, low (c .before .before .before .before .before .before .before .before .before .before .before))
 
 add-fill : tie.Need-add-fill Inv-loop μ-loop
-add-fill c = omega (arith, low (c .before .before .before .before .before .before .before .before .before .before .before .before))
+add-fill c = omega (arith, low (c .before .before .before .before .before .before .before .before .before .before .before))
 
 cast-fill : tie.Need-cast-fill Inv-loop μ-loop
-cast-fill c = omega (arith, low (c .before .before .before .before .before .before .before .before .before .before .before .before))
+cast-fill c = omega (arith, low (c .before .before .before .before .before .before .before .before .before .before .before))
 
 fill-requires-2 : tie.Need-fill-requires-2 Inv-loop μ-loop
-fill-requires-2 c κs = (c .before .before .before .before .before .before .before .before .before .before .before .before .loop .inv .1 .0 .table .long, omega (arith, placed (c .before)))
+fill-requires-2 c κs = (c .before .before .before .before .before .before .before .before .before .before .before .loop .inv .1 .0 .table .long, omega (arith, placed (c .before)))
 
 add-i : tie.Need-add-i Inv-loop μ-loop
-add-i c = omega (arith, low (c .before .before .before .before .before .before .before .before .before .before .before .before .before .before .before))
+add-i c = omega (arith, low (c .before .before .before .before .before .before .before .before .before .before .before .before .before .before))
 
 loop-less : tie.Need-loop-less Inv-loop μ-loop
-loop-less c = omega (arith, c .before .before .before .before .before .before .before .before .before .before .before .before .before .before .loop-test .taken)
+loop-less c = omega (arith, c .before .before .before .before .before .before .before .before .before .before .before .before .before .loop-test .taken)
 
 loop-again : tie.Need-loop-again Inv-loop μ-loop
 loop-again c =
-    let at = c .before .before .before .before .before .before .before .before .before .before .before in
-    let loop = c .before .before .before .before .before .before .before .before .before .before .before .before .before .before .before .loop in (
-      walk-turns (walk at) (next at) (right at) _ (c .before .before .before .before .before .before .before .before .mark .ensures),
+    let at = c .before .before .before .before .before .before .before .before .before .before in
+    let loop = c .before .before .before .before .before .before .before .before .before .before .before .before .before .before .loop in
+    let more = c .before .before .before .before .before .before .before .before .before .before .before .before .before .loop-test .taken in (
+      walk-turns (walk at) (right at) _ (c .before .before .before .before .before .before .before .set-mark .ensures),
       (
-        filling-turns (walk at) (next at) (right at) (loop .inv .1 .0) (low (c .before .before .before .before .before .before .before .before .before .before .before .before .before .before .before) .1) (omega (arith, c .before .before .before .before .before .before .before .before .before .before .before .before .before .before .loop-test .taken, start at .pre .1 .counted)) (c .before .before .before .before .sum-place .ensures) (c .before .before .fill2 .ensures),
-        omega (arith, c .before .before .before .before .before .before .before .before .before .before .before .before .before .before .loop-test .taken),
+        filling-turns (walk at) (right at) (loop .inv .1 .0) (low (c .before .before .before .before .before .before .before .before .before .before .before .before .before .before) .1) (omega (arith, more, start at .pre .1 .counted)) (c .before .before .before .before .rank-place .ensures) (c .before .before .fill2 .ensures),
+        omega (arith, more),
       ),
     )
 
@@ -195,14 +174,8 @@ walk-frames-spec =
     same-length
     same-length-2
     returns
-    sub-mark
-    part-mark-start
-    part-mark-end
-    mark-requires
-    sub-sum-place
-    part-sum-place-start
-    part-sum-place-end
-    sum-place-requires
+    set-mark-requires
+    rank-place-requires
     add-k
     mul-fill
     add-fill
