@@ -1,18 +1,18 @@
 -- The tests of one frame, and of two, as the code makes them.
 -- Assumes nothing.
-use Prim.Native.Nat.{ℕ, zero, suc, _+_, _*_, _-_, _≤_, _<_, _^_, Ordering, Ordering·lt, Ordering·eq, Ordering·gt}
+use Prim.Native.Nat.{ℕ, _+_, _*_, _-_, _≤_, _<_, _^_, Ordering, Ordering·lt, Ordering·eq, Ordering·gt}
 use native.Mathlib.Omega.{arith}
 use mathlib.Core.Path.{_≡_, refl, sym, ap, ap₂, _∙_}
-use mathlib.Core.Bool.{Bool, true, false, _&&_}
+use mathlib.Core.Bool.{true, false}
 use mathlib.Core.Logic.{_⊎_, inl, inr}
-use mathlib.Core.List.{List, [], _∷_, _++_}
+use mathlib.Core.List.{List}
 use lib.Dec.{leb, eqb}
-use lib.ListN.{length, take, drop, length-take, length-drop}
+use lib.ListN.{length}
 use borrow.Author.Tests.{le-leb, lt-leb, leb-true, eq-eqb, ne-eqb}
 use Rattle.laws.specs.Lex.{lexCompare, isLess}
 use Rattle.laws.proofs.Numbers.{and-left, and-right}
 use Rattle.model.specs.Setup.{Setup}
-use Rattle.model.specs.Timestamp.{sum, near}
+use Rattle.model.specs.Timestamp.{sum}
 use Rattle.model.specs.Frame.{Frame, decode}
 use Rattle.model.specs.Question.{firstNo, frameQuestions}
 use Rattle.model.specs.Order.{key, keyNear, compareFrames, before, due, dueNear, countsDown}
@@ -20,18 +20,17 @@ use Rattle.model.specs.Judge.{readingOf}
 use Rattle.model.specs.Holdback.{passes, notEarly, notOverdue}
 use Rattle.model.specs.Tick.{dueNow}
 use Rattle.timestamp.specs.declared.ordering.Order.{Order}
-use Rattle.timestamp.specs.declared.ordering.Order.the-variants.{First, Same, After}
 use Rattle.timestamp.specs.declared.ordering.Rank.{Rank}
 use Rattle.timestamp.specs.Ranks.{orderOf, rankedFrame, Ranked}
 use Rattle.lemmas.proofs.Bounds.{Limits}
 use Rattle.timestamp.proofs.Ordered.{Tags}
 use Rattle.frame.proofs.Asking.{counts-part, counts-long}
-use Rattle.holdback.proofs.Shapes.{Formed, formed}
+use Rattle.holdback.proofs.Shapes.{formed}
 use Rattle.holdback.specs.Queue.{rankOf, rankBefore}
 use Rattle.holdback.specs.Sound.{fits, timely, Summed}
 use Rattle.holdback.specs.Starts.{rankPlace, sumPlace}
 use Rattle.lemmas.proofs.Reading.{near-high}
-use Rattle.holdback.proofs.RoundTrip.{Passing, passing}
+use Rattle.holdback.proofs.RoundTrip.{passing}
 
 -- ---- 10 to 12 by their number
 
