@@ -27,7 +27,7 @@ use Rattle.holdback.specs.Starts.{startUnit, startPlaces, allFront, sumP
 use Rattle.holdback.proofs.RoundTrip.{passing}
 use Rattle.holdback.proofs.Frames.{start-zero, start-suc, start-inside, start-within, start-most, held-tab, FormedUpTo}
 use Rattle.holdback.proofs.Judging.{fitting, frame-fits, frame-follows, frame-new, sound-by, sound-few, sound-frames, sound-formed}
-use Rattle.holdback.proofs.Started.{front-table, filled-table, start-at, place-inside, sums-rise}
+use Rattle.holdback.proofs.Started.{front-table, filled-table, start-at, sums-rise}
 use Rattle.holdback.proofs.Seen.{fitting-window, seen-at, seen-more, length-seen}
 
 -- ---- where a frame stands, by the code's numbers
