@@ -3,10 +3,10 @@
 use Prim.Native.Nat.{ℕ, zero, suc, _+_, _*_, _-_, _/_, _%_, _≤_, _<_}
 use native.Mathlib.Omega.{arith}
 use mathlib.Core.Path.{_≡_, refl, sym, ap, ap₂, _∙_}
-use mathlib.Core.Bool.{Bool, true, false, _&&_, cond}
+use mathlib.Core.Bool.{Bool, true, cond}
 use mathlib.Core.Logic.{_⊎_, inl, inr}
-use mathlib.Core.List.{List, List·Memᴰ}
-use lib.Dec.{ltb, leb, eqb}
+use mathlib.Core.List.{List}
+use lib.Dec.{ltb, eqb}
 use lib.ListN.{length, take, getD, set, length-replicate, getD-replicate, length-take}
 use lib.Seq.{getD-take}
 use borrow.Author.Tests.{lt-ltb, le-ltb, ltb-true, leb-true, eq-eqb, ne-eqb}
@@ -17,9 +17,9 @@ use Rattle.model.specs.Setup.{Setup}
 use Rattle.model.specs.Timestamp.{sum}
 use Rattle.model.specs.Frame.{Frame, twoAt, decode}
 use Rattle.model.specs.Order.{due, dueNear, before}
-use Rattle.model.specs.Holdback.{held, soundHoldback, notEarly, notOverdue}
+use Rattle.model.specs.Holdback.{held, soundHoldback, notEarly}
 use Rattle.lemmas.proofs.Bounds.{Limits}
-use Rattle.holdback.specs.Queue.{frameStart, bytesAt, frameAt}
+use Rattle.holdback.specs.Queue.{frameStart, frameAt}
 use Rattle.holdback.specs.Sound.{fits, follows, frameSound, Led}
 use Rattle.holdback.specs.Starts.{startUnit, startLimit, startPlaces, front, allFront, sumPlace, Start, StartTable, changed, filled, movedStart, movedStarts, Moving}
 use Rattle.holdback.proofs.Frames.{start-zero, held-tab}
