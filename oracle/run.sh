@@ -3,8 +3,8 @@
 # Words go to `compare` (see oracle/README.md).
 set -euo pipefail
 cd "$(dirname "$0")/.."
-[ -f target/staticlib/libabi.a ] || rt staticlib abi
-[ -x target/bin/replay ] || rt check replay
+bash host/library.sh
+rt check replay
 export ABI_LIB_DIR="$PWD/target/staticlib"
 replay="$PWD/target/bin/replay"
 cd oracle
