@@ -1,6 +1,6 @@
 #!/usr/bin/env bash
-# Tests the second program, then compares the proved library with it, call by call, and the proved replay, trace by trace.
-# Words go to `compare` (see oracle/README.md).
+# Tests the second program, also that each fault planted in it is found; then compares the proved library with it, call by call, and
+# the proved replay, trace by trace. Words go to `compare` (see oracle/README.md).
 set -euo pipefail
 cd "$(dirname "$0")/.."
 bash host/library.sh
@@ -8,5 +8,5 @@ rt check replay
 export ABI_LIB_DIR="$PWD/target/staticlib"
 replay="$PWD/target/bin/replay"
 cd oracle
-cargo test --release --quiet
+cargo test --release --quiet --features plant
 cargo run --release --quiet --features abi --bin compare -- --replay "$replay" --traces 4000 "$@"
