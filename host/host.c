@@ -148,7 +148,7 @@ static int message_of(const uint8_t *frame, unsigned len, const uint8_t *ticket,
     return memcmp(messages[number].bytes, frame, len) == 0 ? (int)number : JUNK;
 }
 
-/* the board shows the frames of a hand-out */
+/* the board shows the frames of a hand-out; message -1 is junk */
 static void show(int who, const uint8_t *frame, unsigned count) {
     struct station *s = &stations[who];
     for (; count > 0; count--) {
