@@ -127,7 +127,7 @@ fn compare_with_library(options: &Options) -> Result<(), String> {
     let mut oracle = Oracle { fault: options.fault };
     if !replay.is_empty() {
         oracle::streaming::check(&replay, oracle::streaming::LIMIT)?;
-        println!("{replay} writes each tick's lines before it is given the next tick");
+        println!("the proved replay writes each tick's lines before it is given the next tick");
     }
     compare_alike(options, &mut oracle, &mut subject::Proved { replay })
 }
