@@ -137,7 +137,8 @@ static void keep(int who, const uint8_t *frame, unsigned len) {
     m->len = len;
     memcpy(m->bytes, frame, len);
     m->causes = stations[who].known;
-    add(&stations[who].known, (int)message_count++);
+    add(&stations[who].known, (int)message_count);
+    message_count++;
 }
 
 /* which message a frame is: the one that its ticket names, if it is the same to the byte */
