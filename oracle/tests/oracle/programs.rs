@@ -18,6 +18,13 @@ fn replay_prints_a_tick_before_it_reads_the_next() {
 }
 
 #[test]
+fn replay_ends_where_it_cannot_write() {
+    streaming::check_full(env!("CARGO_BIN_EXE_replay"), streaming::LIMIT).unwrap();
+    let error = streaming::check_full("wc", Duration::from_millis(200)).unwrap_err();
+    assert_eq!(error, "wc: it goes on where it cannot write");
+}
+
+#[test]
 fn a_program_that_reads_all_first_or_writes_other_lines_is_found() {
     let late = streaming::check("wc", Duration::from_millis(200)).unwrap_err();
     assert!(late.starts_with("wc: tick 1: `tick 1 mend 0 c 1") && late.ends_with("in time"));

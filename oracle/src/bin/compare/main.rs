@@ -127,7 +127,10 @@ fn compare_with_library(options: &Options) -> Result<(), String> {
     let mut oracle = Oracle { fault: options.fault };
     if !replay.is_empty() {
         oracle::streaming::check(&replay, oracle::streaming::LIMIT)?;
-        println!("the proved replay writes each tick's lines before it is given the next tick");
+        oracle::streaming::check_full(&replay, oracle::streaming::LIMIT)?;
+        println!(
+            "the proved replay writes each tick's lines before the next, and ends where it cannot"
+        );
     }
     compare_alike(options, &mut oracle, &mut subject::Proved { replay })
 }
