@@ -2,7 +2,7 @@
 # Times the tick through the static library against the oracle and a twin tuned by hand.
 set -euo pipefail
 cd "$(dirname "$0")/.."
-[ -f target/staticlib/libabi.a ] || rt staticlib abi
+bash host/library.sh
 export ABI_LIB_DIR="$PWD/target/staticlib"
 cd bench
 cargo run --release --quiet

@@ -1,6 +1,7 @@
 /* A yard of several stations in one process, over the library: each station has a clock within the drift limit, the air loses,
  * delays and repeats frames and carries junk, and in the middle a power dip fills one station's memory with random bytes.
- * It prints each board's hand-outs, then checks that after recovery the boards agree and that causes come first.
+ * It prints each board's hand-outs, then checks of the messages sent after recovery that no board shows one twice, that any two
+ * boards show those that both show in one order, and that every board shows causes before effects.
  * Usage: host [SEED]. Exit status 0 where all holds. */
 #include <stdio.h>
 #include <stdlib.h>
@@ -8,29 +9,42 @@
 
 #include "yarngravel.h"
 
-enum { N = 4, EPSILON = 2, DELTA = 6, MODULUS = 61, TICKS = 400, DIP = 150, AIR = 4096, GIVEN = 4096 };
-enum { SHELF = YARNGRAVEL_SHELF(N, EPSILON, DELTA), FRAME = YARNGRAVEL_FRAME(EPSILON) };
+enum { N = 4, EPSILON = 2, DELTA = 6, MODULUS = 61, TICKS = 400, DIP = 150, MESSAGES = 1024, GIVEN = 4096 };
+enum { FRAME = YARNGRAVEL_FRAME(EPSILON), SHELF = YARNGRAVEL_SHELF(N, EPSILON, DELTA), JUNK = -1 };
 
-/* a frame in the air; sender < 0 is junk */
-struct frame {
+/* a set of messages, a bit for each */
+struct set {
+    uint64_t words[MESSAGES / 64];
+};
+
+/* what a station sent; its number is its place in the list, and its ticket */
+struct message {
     int sender;
     int sent_at; /* the sender's true clock */
     unsigned len;
-    uint8_t bytes[71];
+    uint8_t bytes[FRAME];
+    struct set causes; /* what its sending could have known of */
 };
 
 struct station {
     int clock; /* the true clock */
     uint8_t tables[YARNGRAVEL_TABLES];
     uint8_t shelf[SHELF];
+    struct set known; /* what the station sent or took so far, and the causes of that */
     unsigned given_count;
-    uint32_t given[GIVEN]; /* the tickets handed out, in order */
-    int given_r[GIVEN];
+    int given[GIVEN]; /* the messages handed out, in order; JUNK for a frame that nobody sent */
+};
+
+/* what a station hears in a tick, and which message each entry is */
+struct bundle {
+    unsigned len;
+    uint8_t bytes[1 + 255 * (1 + FRAME)];
+    int from[255];
 };
 
 static struct station stations[N];
-static struct frame air[AIR];
-static unsigned air_count;
+static struct message messages[MESSAGES];
+static unsigned message_count;
 static uint64_t seed;
 
 static uint32_t draw(uint32_t below) {
@@ -43,6 +57,14 @@ static void fail(const char *why) {
     exit(1);
 }
 
+static bool has(const struct set *set, int message) { return set->words[message / 64] >> (message % 64) & 1; }
+
+static void add(struct set *set, int message) { set->words[message / 64] |= (uint64_t)1 << (message % 64); }
+
+static void join(struct set *set, const struct set *more) {
+    for (unsigned i = 0; i < MESSAGES / 64; i++) set->words[i] |= more->words[i];
+}
+
 /* fresh tables at a clock: that r, c 0, count 1 at offset 0 */
 static void start(struct station *s, int clock) {
     s->clock = clock;
@@ -53,9 +75,8 @@ static void start(struct station *s, int clock) {
     memset(s->shelf, 0, sizeof s->shelf);
 }
 
-static void power_dip(struct station *s) {
-    for (unsigned i = 0; i < sizeof s->tables; i++) s->tables[i] = (uint8_t)draw(256);
-    for (unsigned i = 0; i < sizeof s->shelf; i++) s->shelf[i] = (uint8_t)draw(256);
+static void scramble(uint8_t *bytes, unsigned len) {
+    for (unsigned i = 0; i < len; i++) bytes[i] = (uint8_t)draw(256);
 }
 
 /* a station may tick if no clock lags more than the drift limit behind its next one */
@@ -65,119 +86,174 @@ static bool may_tick(int who) {
     return true;
 }
 
-/* what the station hears at its next clock: frames of the others and its own while the delay limit allows, some twice, most once */
-static unsigned gather(int who, uint8_t *bundle, unsigned room, bool junk) {
-    unsigned count = 0, at = 1;
-    for (unsigned k = air_count > 64 ? air_count - 64 : 0; k < air_count; k++) {
-        struct frame *f = &air[k];
-        int sender_clock = stations[f->sender].clock + (f->sender == who ? 1 : 0);
-        if (sender_clock > f->sent_at + DELTA) continue;
-        if (draw(10) >= 5) continue;
-        if (count == 250 || at + 1 + f->len > room) break;
-        bundle[at] = (uint8_t)f->len;
-        memcpy(bundle + at + 1, f->bytes, f->len);
-        at += 1 + f->len;
-        count++;
-    }
-    if (junk && count < 250 && at + 40 < room) {
-        unsigned len = draw(40);
-        bundle[at] = (uint8_t)len;
-        for (unsigned i = 0; i < len; i++) bundle[at + 1 + i] = (uint8_t)draw(256);
-        at += 1 + len;
-        count++;
-    }
-    bundle[0] = (uint8_t)count;
-    return at;
+static int largest_clock(void) {
+    int largest = stations[0].clock;
+    for (int k = 1; k < N; k++)
+        if (stations[k].clock > largest) largest = stations[k].clock;
+    return largest;
 }
 
-/* the tickets of a hand-out are numbers of four bytes; anything else is junk that the board shows too */
-static void show(int who, const uint8_t *handout, unsigned count) {
-    struct station *s = &stations[who];
-    unsigned at = 2;
-    for (unsigned k = 0; k < count; k++) {
-        unsigned len = 7 + 2 * EPSILON + handout[at + 6 + 2 * EPSILON];
-        uint8_t tables[YARNGRAVEL_TABLES] = {0};
-        uint64_t got = yarngravel_read(N, EPSILON, DELTA, MODULUS, (uint32_t)who, handout + at, len, tables);
-        if (yarngravel_number(got) != 0) fail("a handed-out frame does not read");
-        const uint8_t *ticket = handout + at + yarngravel_ticket_at(got);
-        uint32_t value = 0;
-        for (unsigned i = 0; i < yarngravel_ticket_len(got); i++) value = value * 256 + ticket[i];
-        printf("board %d clock %d gives station %u ticket %u\n", who, s->clock, yarngravel_station(got), (unsigned)value);
-        if (s->given_count < GIVEN) {
-            s->given[s->given_count] = value;
-            s->given_r[s->given_count++] = s->clock;
+/* adds an entry; a bundle has at most 255, and more are lost */
+static void put(struct bundle *b, int from, const uint8_t *bytes, unsigned len) {
+    if (b->bytes[0] == 255) return;
+    b->from[b->bytes[0]++] = from;
+    b->bytes[b->len++] = (uint8_t)len;
+    memcpy(b->bytes + b->len, bytes, len);
+    b->len += len;
+}
+
+/* What the station hears at its next clock: of all messages that the delay limit still allows, its own too, about every second
+ * one. So a message is heard again and again, three times as a rule, and by some stations never. */
+static void gather(int who, struct bundle *b, bool junk) {
+    b->bytes[0] = 0;
+    b->len = 1;
+    for (unsigned k = 0; k < message_count; k++) {
+        const struct message *m = &messages[k];
+        int sender_clock = stations[m->sender].clock + (m->sender == who ? 1 : 0);
+        if (sender_clock <= m->sent_at + DELTA && draw(2) == 0) put(b, (int)k, m->bytes, m->len);
+    }
+    if (junk) {
+        uint8_t bytes[FRAME];
+        unsigned len = draw(FRAME + 1);
+        scramble(bytes, len);
+        put(b, JUNK, bytes, len);
+    }
+}
+
+/* the station now knows of each message that it took, and of all that the sending of that one could have known of */
+static void learn(struct station *s, const struct bundle *b, const uint8_t *verdicts) {
+    for (unsigned k = 0; k < b->bytes[0]; k++)
+        if (verdicts[k] == 0 && b->from[k] != JUNK) {
+            add(&s->known, b->from[k]);
+            join(&s->known, &messages[b->from[k]].causes);
         }
-        at += len;
+}
+
+/* the message that the station has just sent */
+static void keep(int who, const uint8_t *frame, unsigned len) {
+    struct message *m = &messages[message_count];
+    m->sender = who;
+    m->sent_at = stations[who].clock;
+    m->len = len;
+    memcpy(m->bytes, frame, len);
+    m->causes = stations[who].known;
+    add(&stations[who].known, (int)message_count);
+    message_count++;
+}
+
+/* which message a frame is: the one that its ticket names, if it is the same to the byte */
+static int message_of(const uint8_t *frame, unsigned len, const uint8_t *ticket, unsigned ticket_len) {
+    if (ticket_len != 2) return JUNK;
+    unsigned number = ticket[0] + 256u * ticket[1];
+    if (number >= message_count || messages[number].len != len) return JUNK;
+    return memcmp(messages[number].bytes, frame, len) == 0 ? (int)number : JUNK;
+}
+
+/* the board shows the frames of a hand-out; message -1 is junk */
+static void show(int who, const uint8_t *frame, unsigned count) {
+    struct station *s = &stations[who];
+    for (; count > 0; count--) {
+        unsigned len = 7 + 2 * EPSILON + frame[6 + 2 * EPSILON];
+        uint8_t stamp[YARNGRAVEL_TABLES];
+        uint64_t got = yarngravel_read(N, EPSILON, DELTA, MODULUS, (uint32_t)who, frame, len, stamp);
+        if (yarngravel_number(got) != 0) fail("a handed-out frame does not read");
+        if (s->given_count == GIVEN) fail("a board gave more than there is room for");
+        int message = message_of(frame, len, frame + yarngravel_ticket_at(got), yarngravel_ticket_len(got));
+        printf("board %d clock %d gives station %u message %d\n", who, s->clock, yarngravel_station(got), message);
+        s->given[s->given_count++] = message;
+        frame += len;
     }
 }
 
 static void tick(int who, bool junk) {
-    static uint8_t bundle[65536], outgoing[71], verdicts[YARNGRAVEL_VERDICTS], handout[SHELF];
+    static struct bundle heard;
+    static uint8_t outgoing[FRAME], verdicts[YARNGRAVEL_VERDICTS], handout[SHELF];
     struct station *s = &stations[who];
-    unsigned len = gather(who, bundle, sizeof bundle, junk);
-    bool send = draw(3) == 0 && air_count < AIR;
-    uint8_t ticket[4] = {(uint8_t)(air_count >> 24), (uint8_t)(air_count >> 16), (uint8_t)(air_count >> 8), (uint8_t)air_count};
+    gather(who, &heard, junk);
+    bool send = draw(3) == 0 && message_count < MESSAGES;
+    uint8_t ticket[2] = {(uint8_t)(message_count % 256), (uint8_t)(message_count / 256)};
     uint64_t answer = yarngravel_tick(N, EPSILON, DELTA, MODULUS, (uint32_t)who, (uint32_t)((s->clock + 1) % MODULUS), s->tables,
-                                      s->shelf, sizeof s->shelf, bundle, len, send, ticket, sizeof ticket, outgoing,
+                                      s->shelf, SHELF, heard.bytes, heard.len, send, ticket, sizeof ticket, outgoing,
                                       sizeof outgoing, verdicts, sizeof verdicts, handout, sizeof handout);
     if (yarngravel_number(answer) != 0) fail("a tick was refused");
     s->clock++;
     if (yarngravel_mend(answer) != 0) printf("board %d clock %d mend %u\n", who, s->clock, yarngravel_mend(answer));
-    if (send) {
-        struct frame *f = &air[air_count++];
-        f->sender = who;
-        f->sent_at = s->clock;
-        f->len = yarngravel_sent(answer);
-        memcpy(f->bytes, outgoing, f->len);
-    }
-    show(who, handout, yarngravel_gave(answer));
+    learn(s, &heard, verdicts);
+    if (send) keep(who, outgoing, yarngravel_sent(answer));
+    show(who, handout + 2, yarngravel_gave(answer));
 }
 
-/* the place of a ticket among those that a board gave, or -1 */
-static int place_of(const struct station *s, uint32_t ticket) {
-    for (unsigned k = 0; k < s->given_count; k++)
-        if (s->given[k] == ticket) return (int)k;
-    return -1;
-}
-
-/* covered messages come in one order on any two boards, each at most once */
-static unsigned compare_boards(int from) {
-    unsigned pairs = 0;
-    for (int a = 0; a < N; a++)
-        for (int b = 0; b < N; b++) {
-            int last = -1;
-            for (unsigned k = 0; k < stations[a].given_count; k++) {
-                uint32_t ticket = stations[a].given[k];
-                if (ticket >= air_count || air[ticket].sent_at < from) continue;
-                if (place_of(&stations[a], ticket) != (int)k) fail("a covered message was handed out twice");
-                int there = place_of(&stations[b], ticket);
-                if (there < 0) continue;
-                if (there < last) fail("two boards disagree on the order");
-                last = there;
-                pairs++;
-            }
-        }
-    return pairs;
-}
-
-int main(int argc, char **argv) {
-    seed = argc > 1 ? strtoull(argv[1], NULL, 10) : 20261115;
-    for (int k = 0; k < N; k++) start(&stations[k], (int)draw(EPSILON + 1));
-    int dip_clock = -1;
+/* Lets the yard tick; the largest clock at the power dip. Junk is heard up to the last clock at which that is allowed. */
+static int play(void) {
+    int dip = -1;
     for (long step = 0; step < (long)TICKS * N * 4; step++) {
         int who = (int)draw(N);
         if (stations[who].clock >= TICKS || !may_tick(who)) continue;
-        if (dip_clock < 0 && stations[who].clock >= DIP) {
-            power_dip(&stations[who]);
-            for (int k = 0; k < N; k++)
-                if (stations[k].clock > dip_clock) dip_clock = stations[k].clock;
-            printf("power dip at board %d, largest clock %d\n", who, dip_clock);
+        if (dip < 0 && stations[who].clock >= DIP) {
+            scramble(stations[who].tables, sizeof stations[who].tables);
+            scramble(stations[who].shelf, sizeof stations[who].shelf);
+            dip = largest_clock();
+            printf("power dip at board %d, largest clock %d\n", who, dip);
         }
-        tick(who, dip_clock < 0 || stations[who].clock + 1 <= dip_clock + DELTA + EPSILON);
+        tick(who, dip < 0 || stations[who].clock + 1 <= dip + DELTA + EPSILON);
     }
-    if (dip_clock < 0) fail("there was no power dip");
-    unsigned pairs = compare_boards(dip_clock + DELTA + 3 * EPSILON);
-    if (pairs < 100) fail("too few covered messages to compare");
-    printf("boards agree on %u hand-outs of covered messages\n", pairs);
+    if (dip < 0) fail("there was no power dip");
+    return dip;
+}
+
+/* leaves of a board's hand-outs the covered messages: those sent from this clock on */
+static void keep_covered(struct station *s, int from) {
+    unsigned kept = 0;
+    for (unsigned k = 0; k < s->given_count; k++)
+        if (s->given[k] != JUNK && messages[s->given[k]].sent_at >= from) s->given[kept++] = s->given[k];
+    s->given_count = kept;
+}
+
+/* the place of a message among those that a board gave before the place `end`, or -1 */
+static int place_of(const struct station *s, int message, unsigned end) {
+    for (unsigned k = 0; k < end; k++)
+        if (s->given[k] == message) return (int)k;
+    return -1;
+}
+
+/* How many pairs of cause and effect a board shows, the cause first. No message comes twice, and no effect before its cause. */
+static unsigned check_board(const struct station *s) {
+    unsigned pairs = 0;
+    for (unsigned k = 0; k < s->given_count; k++) {
+        if (place_of(s, s->given[k], k) >= 0) fail("a covered message was handed out twice");
+        for (unsigned j = 0; j < k; j++) {
+            if (has(&messages[s->given[j]].causes, s->given[k])) fail("an effect was handed out before its cause");
+            if (has(&messages[s->given[k]].causes, s->given[j])) pairs++;
+        }
+    }
+    return pairs;
+}
+
+/* how many messages two boards both show; they come in one order */
+static unsigned check_two(const struct station *a, const struct station *b) {
+    unsigned shared = 0;
+    int last = -1;
+    for (unsigned k = 0; k < a->given_count; k++) {
+        int there = place_of(b, a->given[k], b->given_count);
+        if (there < 0) continue;
+        if (there < last) fail("two boards disagree on the order");
+        last = there;
+        shared++;
+    }
+    return shared;
+}
+
+int main(int argc, char **argv) {
+    unsigned causes = 0, shared = 0;
+    seed = argc > 1 ? strtoull(argv[1], NULL, 10) : 20261115;
+    for (int k = 0; k < N; k++) start(&stations[k], (int)draw(EPSILON + 1));
+    int dip = play();
+    for (int a = 0; a < N; a++) {
+        keep_covered(&stations[a], dip + DELTA + 3 * EPSILON);
+        causes += check_board(&stations[a]);
+        for (int b = 0; b < a; b++) shared += check_two(&stations[a], &stations[b]);
+    }
+    if (shared < 100 || causes < 100) fail("too few covered messages to compare");
+    printf("boards agree: %u times two of them show one message, and %u times a cause before its effect\n", shared, causes);
     return 0;
 }

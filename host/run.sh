@@ -3,7 +3,7 @@
 # other the last words of what it prints are shown.
 set -euo pipefail
 cd "$(dirname "$0")/.."
-[ -f target/staticlib/libabi.a ] || rt staticlib abi
+bash host/library.sh
 mkdir -p target/host
 for host in smallest host; do
   gcc -std=c11 -O2 -Wall -Wextra -Wpedantic -Werror -Iinclude "host/$host.c" target/staticlib/libabi.a -o "target/host/$host"

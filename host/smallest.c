@@ -1,5 +1,6 @@
 /* The smallest host: two stations that hear each other, and themselves, without loss. Each board shows both tickets in one order. */
 #include <stdio.h>
+#include <stdlib.h>
 #include <string.h>
 
 #include "yarngravel.h"
@@ -7,13 +8,21 @@
 enum { N = 2, EPSILON = 1, DELTA = 2, B = 9 };
 enum { FRAME = YARNGRAVEL_FRAME(EPSILON), SHELF = YARNGRAVEL_SHELF(N, EPSILON, DELTA) };
 
-/* What a station keeps between ticks, and what it has heard since its last one: a bundle. */
+/* What a station keeps between ticks, and what it has heard since its last one: a bundle, here of at most N frames. */
 struct station {
     uint8_t tables[YARNGRAVEL_TABLES];
     uint8_t shelf[SHELF];
-    uint8_t bundle[1 + 4 * (1 + FRAME)];
+    uint8_t bundle[1 + N * (1 + FRAME)];
     size_t bundle_len;
 };
+
+/* With these arguments no call is refused; a refusal would be a mistake in this file. */
+static void expect_accepted(const char *call, uint64_t answer) {
+    if (yarngravel_number(answer) != 0) {
+        fprintf(stderr, "smallest: the %s answers %u\n", call, yarngravel_number(answer));
+        exit(1);
+    }
+}
 
 static void hear(struct station *s, const uint8_t *frame, size_t len) {
     s->bundle[0]++;
@@ -27,6 +36,7 @@ static void show(unsigned board, const uint8_t *frames, unsigned count) {
         size_t len = 7 + 2 * EPSILON + frames[6 + 2 * EPSILON];
         uint8_t stamp[YARNGRAVEL_TABLES];
         uint64_t read = yarngravel_read(N, EPSILON, DELTA, B, board, frames, len, stamp);
+        expect_accepted("reader", read);
         printf("board %u: station %u says %.*s\n", board, yarngravel_station(read), (int)yarngravel_ticket_len(read),
                (const char *)frames + yarngravel_ticket_at(read));
         frames += len;
@@ -48,9 +58,7 @@ int main(void) {
                 yarngravel_tick(N, EPSILON, DELTA, B, own, clock % B, s->tables, s->shelf, SHELF, s->bundle, s->bundle_len,
                                 clock == 1, (const uint8_t *)tickets[own], strlen(tickets[own]), outgoing, FRAME, verdicts,
                                 YARNGRAVEL_VERDICTS, handout, SHELF);
-            if (yarngravel_number(answer) != 0) {
-                return 1;
-            }
+            expect_accepted("tick", answer);
             show(own, handout + 2, yarngravel_gave(answer));
             s->bundle[0] = 0;
             s->bundle_len = 1;

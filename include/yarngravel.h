@@ -3,6 +3,7 @@
  * The library keeps no memory of its own. A station keeps its tables and its shelf between ticks and lends both, with the
  * buffers below, to each call. Any numbers and any bytes get an answer. A call that fails a check answers that check's
  * number, and then no byte of any buffer or table has changed. Buffers must not overlap.
+ * The archive needs memcpy and memset, and about 3 KB of stack.
  */
 #ifndef YARNGRAVEL_H
 #define YARNGRAVEL_H
@@ -24,12 +25,19 @@ extern "C" {
  */
 #define YARNGRAVEL_LEAST_MODULUS(epsilon, delta) (6u * (epsilon) + (delta) + 1u)
 
-/* Sizes in bytes. */
-#define YARNGRAVEL_TABLES 35u                              /* r low, r high, c, 32 counts */
+/* Sizes in bytes.
+ *
+ * Tables are r low, r high, c and 32 places for counts. The count at offset t, from -epsilon to epsilon - 1, is byte
+ * 3 + epsilon + t; places past the 2 * epsilon counts are ignored, and come back 0 from an accepted tick and from the reader.
+ * Fresh tables at a clock, for a station's start: r is that clock modulo B, byte 3 + epsilon is 1, all else 0.
+ * A fresh shelf is zeros.
+ */
+#define YARNGRAVEL_TABLES 35u
 #define YARNGRAVEL_TICKET 32u                              /* the longest ticket */
 #define YARNGRAVEL_FRAME(epsilon) (39u + 2u * (epsilon))   /* the longest frame; the outgoing buffer has at least this */
 #define YARNGRAVEL_VERDICTS 255u                           /* the verdict buffer has at least this */
-#define YARNGRAVEL_SHELF(n, epsilon, delta) /* a shelf has exactly this, the hand-out buffer at least this */ \
+/* A shelf has exactly this, the hand-out buffer at least this. A constant where its arguments are; epsilon is evaluated twice. */
+#define YARNGRAVEL_SHELF(n, epsilon, delta) \
     (2u + YARNGRAVEL_FRAME(epsilon) * (n) * ((delta) + 3u * (epsilon)))
 
 /* Numbers in an answer. 0: accepted. Of a call: */
@@ -43,7 +51,7 @@ extern "C" {
 #define YARNGRAVEL_BAD_FORM 10u    /* a section's count is wrong, or something is left over */
 #define YARNGRAVEL_BAD_RANGE 11u   /* the station is not below n, or r not below B */
 #define YARNGRAVEL_BAD_STAMP 12u   /* the stamp is not sound */
-#define YARNGRAVEL_LATE 13u        /* r is more than delta + epsilon behind the clock */
+#define YARNGRAVEL_LATE 13u        /* r is more than delta + epsilon behind the clock, or epsilon or more ahead of it */
 #define YARNGRAVEL_EARLY 14u       /* the sum is more than epsilon - 1 past the clock */
 #define YARNGRAVEL_BAD_COUNT 15u   /* a count for this clock or later is above n - 1 */
 #define YARNGRAVEL_REPEAT 16u      /* that station and r is on the shelf already */
@@ -73,11 +81,14 @@ static inline unsigned yarngravel_written(uint64_t answer) { return (unsigned)(a
  *   clock     the station's clock modulo B; each accepted call is for the clock after the last one
  *   tables    in and out
  *   shelf     in and out, exactly YARNGRAVEL_SHELF bytes
- *   bundle    a one-byte count, then for each frame a one-byte length and its bytes; an empty bundle is one byte 0
+ *   bundle    a one-byte count, then for each frame a one-byte length and its bytes; an empty bundle is one byte 0.
+ *             No more than 255 frames fit: the others are lost, or go into the next tick's while the delay limit allows.
+ *             Leave out what has more than 255 bytes: no frame has more than 71
  *   send      whether a ticket is to be sent
  *   ticket    at most 32 bytes; may be any pointer where ticket_len is 0
  *   outgoing  gets the frame to send; at least YARNGRAVEL_FRAME bytes
- *   verdicts  gets one byte for each frame of the bundle: 0 taken, or the number of the first check it fails
+ *   verdicts  gets one byte for each frame of the bundle: 0 taken, or the number of the first check it fails; at least
+ *             YARNGRAVEL_VERDICTS bytes, however many frames there are
  *   handout   gets a two-byte count (low byte first) and the frames, in delivery order; at least YARNGRAVEL_SHELF bytes
  * Bytes beyond those written stay as they were.
  */

@@ -1,12 +1,12 @@
 #!/usr/bin/env bash
-# Tests the second program, then compares the proved library with it, call by call, and the proved replay, trace by trace.
-# Words go to `compare` (see oracle/README.md).
+# Tests the second program, also that each fault planted in it is found; then compares the proved library with it, call by call, and
+# the proved replay, trace by trace. Words go to `compare` (see oracle/README.md).
 set -euo pipefail
 cd "$(dirname "$0")/.."
-[ -f target/staticlib/libabi.a ] || rt staticlib abi
-[ -x target/bin/replay ] || rt check replay
+bash host/library.sh
+rt check replay
 export ABI_LIB_DIR="$PWD/target/staticlib"
 replay="$PWD/target/bin/replay"
 cd oracle
-cargo test --release --quiet
+cargo test --release --quiet --features plant
 cargo run --release --quiet --features abi --bin compare -- --replay "$replay" --traces 4000 "$@"

@@ -5,7 +5,8 @@
 one for each function: a changed body touches the proof of its own function alone, and the prover says of each function by
 itself whether its facts hold. An edit is refused if a fact in the proof of the very function that it changes is refused; that
 a function it calls is not proved, or that the proof no longer fits the code's shape, does not count. An edit of a contract or
-of a definition is tried by itself.
+of a definition is tried by itself. Of a contract it is again a fact in the proof of its own function; of a definition, one in any
+proof of the crate, while the definitions and contracts themselves are well-formed.
 """
 import re
 import shutil
@@ -21,7 +22,8 @@ NO_FACT = ("was not admitted", "that can be named from here", "has no field")
 
 
 class Edit:
-    """One .edit file: its replacements, and the functions that they change (none where one of them is of no body)."""
+    """One .edit file: its replacements, the functions whose body or contract they change (none for a definition), and whether it is
+    tried alone, one of them being of no body."""
 
     def __init__(self, path, crate):
         self.name = path.stem
@@ -35,8 +37,8 @@ class Edit:
             elif line.startswith("new:"):
                 self.pairs.append((file, old, line[len("new:"):].removeprefix(" ")))
         places = [place(crate, file, old) for file, old, _ in self.pairs]
-        self.alone = None in places
-        self.functions = {p for p in places if p}
+        self.alone = not all(in_body for _, in_body in places)
+        self.functions = {function for function, _ in places if function}
 
     def apply(self, crate):
         """Edits a copy of the crate."""
@@ -49,16 +51,17 @@ class Edit:
 
 
 def place(crate, file, old):
-    """The path of the function whose body holds the text, as module/Type/name; None in a contract, a definition or a constant."""
+    """The path of the function that holds the text, as module/Type/name, None for a definition or a constant; and whether it is the
+    body that holds it, not the contract."""
     text = (crate / file).read_text(encoding="utf-8")
     at = text.find(old)
     line = text[text.rfind("\n", 0, at) + 1:text.find("\n", at)]
     heads = list(re.finditer(r"^( *)(?:pub )?(?:extern \"C\" )?fn (\w+)", text[:at], re.M))
-    if not file.startswith("src/") or "⌜" in line or not heads:
-        return None
+    if not file.startswith("src/") or not heads:
+        return None, False
     kinds = re.findall(r"^impl(?:<[^>]*>)? (\w+)", text[:at], re.M)
     module = [] if file in ("src/lib.rt", "src/main.rt") else [Path(file).stem]
-    return "/".join(module + ([kinds[-1]] if heads[-1][1] else []) + [heads[-1][2]])
+    return "/".join(module + ([kinds[-1]] if heads[-1][1] else []) + [heads[-1][2]]), "⌜" not in line and "⌝" not in line
 
 
 def rounds(edits):
@@ -94,10 +97,16 @@ def fact(log, crate, function):
     return None
 
 
+def well_formed(log, crate):
+    """Does the check find no error in the definitions and the code of a crate? Those of facts stand in its proofs."""
+    parts = tuple(f"/{crate}/{part}/" for part in ("specs", "src"))
+    return not any(": error: " in line and any(part in line for part in parts) for line in log.splitlines())
+
+
 def judge(edit, crate, log):
-    """What the check says of an edit: where it is refused, or None."""
-    if edit.alone:
-        return first_error(log)
+    """What the check says of an edit: which fact it refuses, or None."""
+    if not edit.functions:
+        return first_error(log, f"/{crate}/proofs/") if well_formed(log, crate) else None
     found = [fact(log, crate, f) for f in edit.functions]
     return next((f for f in found if f), None)
 

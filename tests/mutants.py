@@ -32,6 +32,7 @@ def try_mutant(path):
         copy_definitions(work)
         edit = Edit(path, ROOT / "crates" / "model")
         edit.apply(work / "crates" / "model")
+        # two mutants are tried at a time, so one prover for each; the lines of the log whole, for they are read
         settings = {**os.environ, "RT_JOBS": "1", "RT_CUT": "0"}
         log = subprocess.run(["rt", "check", "theory"], cwd=work, env=settings, text=True, stdout=subprocess.PIPE, stderr=subprocess.STDOUT).stdout
     if "rt: model proved" not in log:

@@ -1,8 +1,8 @@
 //! The three programs must leave the same bytes and give the same answer.
 
 use crate::programs::PROGRAMS;
+use oracle::abi;
 use oracle::generate::{self, spoil, Group, Habits, Prng, TickCase};
-use oracle::Answer;
 
 /// Makes a call with each program; the answer and what the call left. A difference ends the run.
 pub fn agree(case: &TickCase) -> (u64, TickCase) {
@@ -29,13 +29,8 @@ pub fn agree_on_random(count: usize) {
             spoil::spoil(&mut rng, &mut wrong);
             agree(&wrong);
             let (word, case) = agree(&case);
-            group.settle(node, case, &unpack(word));
+            group.settle(node, case, &abi::unpack_tick(word));
             done += 2;
         }
     }
-}
-
-fn unpack(word: u64) -> Answer {
-    let [number, repair, taken, outgoing, low, high, ..] = word.to_le_bytes();
-    Answer { number, repair, taken, outgoing, delivered: u16::from_le_bytes([low, high]) }
 }

@@ -24,13 +24,13 @@ impl Workload {
     }
 }
 
-/// The four workloads of the table.
+/// The five workloads of the table.
 pub fn all() -> Vec<Workload> {
-    let [_, largest, flood] = on_shelf(true);
+    let [empty, largest, flood] = on_shelf(true);
     let idle =
         Workload { name: "idle tick", cases: Yard::fresh(TYPICAL, 16).run(CALLS / TYPICAL.n, 0) };
     let typical = Workload { name: "typical yard", cases: steady(TYPICAL, 16, TYPICAL.n) };
-    vec![idle, typical, largest, flood]
+    vec![idle, typical, empty, largest, flood]
 }
 
 /// The largest yard, where all of it or only half has been sending: an empty tick, one that hears everybody, and a flood.

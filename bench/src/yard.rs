@@ -33,7 +33,7 @@ impl Yard {
         Yard { setup, payload, rng: Prng::new(1), step: 0, stations }
     }
 
-    /// Lets all stations tick this often, the first `senders` of them sending; the calls of the last steps, as given, if asked for.
+    /// Lets all stations tick this often, the first `senders` of them sending; all their calls, as given.
     pub fn run(&mut self, steps: i64, senders: i64) -> Vec<TickCase> {
         let mut cases = Vec::new();
         for _ in 0..steps {

@@ -1,4 +1,4 @@
-//! Ten small faults that can be planted in the oracle, to show that a comparison finds them.
+//! Eleven small faults that can be planted in the oracle, to show that a comparison finds them.
 //! Without the feature `plant` nothing of this is left in the code.
 //!
 //!  1. the writer alone refuses a buffer of exactly the frame's length
@@ -11,9 +11,10 @@
 //!  8. a frame's counts are taken in one clock too late
 //!  9. the byte after the last shelved frame is not cleared
 //! 10. replay lets an overlong trace pass
+//! 11. a frame's payload is read from one byte too early
 
 /// How many faults there are.
-pub const COUNT: u8 = 10;
+pub const COUNT: u8 = 11;
 
 #[cfg(feature = "plant")]
 mod switch {

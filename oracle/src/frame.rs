@@ -33,6 +33,7 @@ impl<'a> Frame<'a> {
         let r = u16::from_le_bytes([low, high]);
         let timestamp = Timestamp { r: r.into(), c: c.into(), kn };
         let bytes = &bytes[..bytes.len() - rest.len()];
+        let payload = &bytes[bytes.len() - payload.len() - skew(11) as usize..];
         Some((Frame { node: node.into(), timestamp, payload, bytes }, rest))
     }
 

@@ -3,6 +3,7 @@
 //! two can be compared. Numbers are signed here, and every reading of a clock is relative to
 //! the tick's clock v: 0 is v, 1 is one ahead, −1 one behind.
 
+pub mod abi;
 pub mod batch;
 pub mod fault;
 pub mod frame;
@@ -11,6 +12,7 @@ pub mod holdback;
 pub mod node;
 pub mod replay;
 pub mod setup;
+pub mod streaming;
 pub mod timestamp;
 pub mod trace;
 

@@ -10,8 +10,8 @@ use lib.ListN.{length, take, drop, replicate, length-append, length-take, length
 use lib.Seq.{drop-drop, length-take-le, take-at, drop-at, drop-append-add, drop-length, drop-append-seam}
 use Rattle.laws.specs.Lists.{tab, every, joined, overlay, padded, insertAt}
 use Rattle.laws.proofs.Lists.{length-tab, take-tab, joined-append, joined-insertAt, length-insertAt}
-use Rattle.splice.specs.Bytes.{pasted, part, cleared, inserted, zeros, twoBytes as lowFirst}
-use Rattle.splice.proofs.Laws.{pasted-pieces, inserted-pieces, pasted-right, pasted-left, length-pasted}
+use Rattle.splice.specs.Bytes.{pasted, part, cleared, inserted, cutOut, zeros, twoBytes as lowFirst}
+use Rattle.splice.proofs.Laws.{pasted-pieces, inserted-pieces, cutOut-cleared, pasted-right, pasted-left, length-pasted}
 use Rattle.model.specs.Frame.{Frame, twoBytes, twoAt, encode, decode, wellFormed}
 use Rattle.model.specs.Holdback.{heldBytes, held, encodeFrames, encodeHoldback}
 use Rattle.holdback.specs.Queue.{frameStart, bytesAt, frameAt, Figures}
@@ -148,7 +148,7 @@ module _ (epsilon : ℕ) (s : List ℕ) (k : ℕ) (p : Pieces epsilon s k) where
 
   -- the others moved to the front, zeros behind them
   pub cut-made : (l : List ℕ) → k ≤ twoAt s 0 → 2 ≤ length s
-      → l ≡ pasted (cleared (pasted s 2 (part s (frameStart epsilon s k) (end - frameStart epsilon s k))) (2 + (end - frameStart epsilon s k)) (length s)) 0 (twoBytes (twoAt s 0 - k))
+      → l ≡ pasted (pasted s 2 (part s (frameStart epsilon s k) (end - frameStart epsilon s k) ++ zeros (length s - (2 + (end - frameStart epsilon s k))))) 0 (twoBytes (twoAt s 0 - k))
       → l ≡ encodeHoldback (length s) (drop k q)
   unfolding encodeHoldback encodeFrames padded
   cut-made l h two made =
@@ -163,8 +163,7 @@ module _ (epsilon : ℕ) (s : List ℕ) (k : ℕ) (p : Pieces epsilon s k) where
       omega (arith, length-append c (others ++ zeros free), two-long (twoAt s 0 - k), length-append others (zeros free), length-replicate {A = ℕ} free 0) in
       let used : length (c ++ others) ≡ moved = omega (arith, length-append c others, two-long (twoAt s 0 - k)) in
       made
-      ∙ ap₂ (λ (r : List ℕ) (n : ℕ). pasted (cleared (pasted s 2 r) (2 + n) (length s)) 0 c) (other-bytes (end - frameStart epsilon s k) refl) long
-      ∙ ap (λ (r : List ℕ). pasted r 0 c) (pasted-right s 2 others moved refl (zeros free) two)
+      ∙ ap₂ (λ (r : List ℕ) (n : ℕ). pasted (pasted s 2 (r ++ zeros (length s - (2 + n)))) 0 c) (other-bytes (end - frameStart epsilon s k) refl) long
       ∙ pasted-left s 0 c 2 (two-long (twoAt s 0 - k)) (others ++ zeros free) two
       ∙ pasted-front s (c ++ (others ++ zeros free))
       ∙ ap (λ (r : List ℕ). (c ++ (others ++ zeros free)) ++ r) (drop-of-length-le s (le-of-eq (sym all)))
@@ -222,12 +221,18 @@ module _ {epsilon : ℕ} {s : List ℕ} {count stop index at : ℕ} (known : Fig
       delivery-made epsilon s index figures-pieces d l index-in
       (copied ∙ ap₂ (λ (r : List ℕ) (n : ℕ). pasted r 2 (take (n - 2) (drop 2 s))) counted (known .starts))
 
-  pub prefix-cut : (a b l : List ℕ) → a ≡ pasted s 2 (part s at (stop - at)) → b ≡ cleared a (2 + (stop - at)) (length s)
+  pub prefix-cut : (a b l : List ℕ) → a ≡ cutOut s stop 2 (at - 2) → b ≡ cleared a stop (length s)
       → l ≡ pasted b 0 (lowFirst (count - index)) → l ≡ encodeHoldback (length s) (drop index (held epsilon s))
   unfolding twoBytes
-  prefix-cut a b l moved emptied counted =
+  prefix-cut a b l cut-out emptied counted =
+      let (low, (below, inside)) = located in
+      let from : 2 + (at - 2) ≡ at = omega arith in
+      let free : at - 2 + (length s - stop) ≡ length s - (2 + (stop - at)) = omega arith in
       cut-made epsilon s index figures-pieces l index-in (known .two)
       (counted
       ∙ ap₂ (λ (r : List ℕ) (n : ℕ). pasted r 0 (twoBytes (n - index)))
-      (emptied ∙ ap (λ (r : List ℕ). cleared r (2 + (stop - at)) (length s)) moved) (known .counted)
-      ∙ ap₂ (λ (n m : ℕ). pasted (cleared (pasted s 2 (part s m (n - m))) (2 + (n - m)) (length s)) 0 (twoBytes (twoAt s 0 - index))) stop-is (known .starts))
+      (emptied
+      ∙ ap (λ (r : List ℕ). cleared r stop (length s)) cut-out
+      ∙ cutOut-cleared s stop 2 (at - 2) (omega arith) inside (length s) inside
+      ∙ ap₂ (λ (n m : ℕ). pasted s 2 (part s n (stop - n) ++ zeros m)) from free) (known .counted)
+      ∙ ap₂ (λ (n m : ℕ). pasted (pasted s 2 (part s m (n - m) ++ zeros (length s - (2 + (n - m))))) 0 (twoBytes (twoAt s 0 - index))) stop-is (known .starts))

@@ -65,7 +65,7 @@ pub fn cut_prefix(epsilon: usize, buf: &mut [u8], count: usize, end: usize, pref
 {
     let at = prefix.at;
     let len = buf.len();
-    splice::move_left(buf, at, 2, end - at);
-    splice::clear(buf, 2 + (end - at), len);
+    splice::cut(buf, end, 2, at - 2);
+    splice::clear(buf, end, len);
     splice::put_u16(buf, 0, count - prefix.index);
 }

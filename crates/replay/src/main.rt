@@ -17,7 +17,9 @@ ghost use Prim.Native.Nat.{_≤_};
 ghost use Rattle.timestamp.specs.Views.{setupOf};
 ghost use Rattle.replay.specs.Playing.{Ready};
 
-// All that follows the setup. Answers 0, or the number of the refusal at which it stopped.
+// All that follows the setup. Answers 0, or the number of the refusal at which it stopped. Lines that
+// cannot be written stop it too, with 0: nothing more is read or called. A failed read counts as the
+// trace's end.
 fn run(setup: Setup) -> u8
     requires { ⌜ Ready (setupOf setup) ⌝ }
     ensures { λ r. ⌜ r ≤ 6 ⌝ }
@@ -47,7 +49,9 @@ fn run(setup: Setup) -> u8
         if played.number != 0 {
             return played.number;
         }
-        io::write_all(1, &text[..played.size]);
+        if !io::write_all(1, &text[..played.size]) {
+            return 0;
+        }
         tables = played.tables;
         i += 1;
     }
@@ -76,6 +80,7 @@ fn main() {
     if number != 0 {
         let mut line = [0u8; 16];
         let end = put_refused(&mut line, 0, number);
+        // written or not, nothing follows
         io::write_all(1, &line[..end]);
     }
 }

@@ -3,6 +3,9 @@
 use super::Prng;
 use crate::{Answer, Buffers, Call, ClockState, Setup};
 
+/// How much too large a number or a length can be and look right, cut to one byte or two.
+const FAR: [i64; 2] = [256, 65_536];
+
 /// A call of the tick.
 #[derive(Clone, Debug, PartialEq, Eq)]
 pub struct TickCase {
@@ -20,7 +23,7 @@ pub struct TickCase {
 
 impl TickCase {
     /// A call that hears and sends nothing, with random bytes in its buffers, which are long
-    /// enough and often not longer.
+    /// enough, often not longer and rarely much longer.
     pub fn idle(
         rng: &mut Prng,
         setup: Setup,
@@ -29,8 +32,8 @@ impl TickCase {
         holdback: Vec<u8>,
     ) -> Self {
         let mut buffer = |least: usize| {
-            let more = rng.range(-2, 2).max(0) as usize;
-            rng.bytes(least + more)
+            let more = if rng.one_in(32) { rng.pick(&FAR) } else { rng.range(-2, 2).max(0) };
+            rng.bytes(least + more as usize)
         };
         TickCase {
             setup,
@@ -74,9 +77,14 @@ pub struct ReadCase {
 }
 
 impl ReadCase {
-    /// A call for some frame near v, the setup rarely wrong.
+    /// A call for some frame near v, the setup rarely wrong, and rarely a frame with more after
+    /// it than a batch's entry can have.
     pub fn random(rng: &mut Prng, mut setup: Setup, v: i64) -> Self {
-        let frame = super::frames::any(rng, &setup, v);
+        let mut frame = super::frames::any(rng, &setup, v);
+        if rng.one_in(16) {
+            let more = rng.pick(&FAR);
+            frame.extend(rng.bytes(more as usize));
+        }
         if rng.one_in(16) {
             super::spoil::spoil_setup(rng, &mut setup);
         }
@@ -98,10 +106,13 @@ impl WriteCase {
     /// A call for some clock state, each argument sometimes wrong.
     pub fn random(rng: &mut Prng, mut setup: Setup, v: i64) -> Self {
         let state = super::memory::state(rng, &setup, v);
-        let node = if rng.one_in(8) { setup.n } else { rng.below(setup.n) };
+        let node = rng.below(setup.n);
+        let wrong = rng.pick(&[setup.n, node + FAR[0], node + FAR[1], u32::MAX.into()]);
+        let node = if rng.one_in(8) { wrong } else { node };
         let payload = if rng.one_in(8) { rng.bytes(33) } else { rng.payload() };
         let exact = 7 + setup.width() as i64 + payload.len() as i64;
-        let length = rng.pick(&[exact, exact + 1, exact - 1, 71]);
+        let far = exact + rng.pick(&FAR);
+        let length = rng.pick(&[exact, exact + 1, exact - 1, 71, far]);
         if rng.one_in(16) {
             super::spoil::spoil_setup(rng, &mut setup);
         }

@@ -13,7 +13,7 @@ pub fn spoil(rng: &mut Prng, case: &mut TickCase) {
             1 => spoil_clock(rng, case),
             2 => spoil_length(rng, &mut case.holdback),
             3 => {
-                let length = rng.pick(&[33, 34, 64, 255, 256, 300]);
+                let length = rng.pick(&[33, 34, 64, 255, 256, 300, 65_536]);
                 case.payload = rng.bytes(length);
             }
             4 | 5 => spoil_batch(rng, &mut case.batch),
@@ -55,11 +55,12 @@ fn spoil_clock(rng: &mut Prng, case: &mut TickCase) {
     case.clock = rng.pick(&[modulus, modulus + 1, wide, u32::MAX.into()]);
 }
 
-/// Makes a buffer a little longer or shorter, or empty.
+/// Makes a buffer a little longer or shorter, much longer, or empty.
 fn spoil_length(rng: &mut Prng, buffer: &mut Vec<u8>) {
-    match rng.below(3) {
+    match rng.below(4) {
         0 => buffer.push(0),
         1 => buffer.truncate(buffer.len().saturating_sub(1)),
+        2 => buffer.resize(buffer.len() + 65_536, 0),
         _ => buffer.clear(),
     }
 }

@@ -9,7 +9,7 @@ pub const LONGEST_QUEUE: Setup = Setup { n: 13, epsilon: 16, delta: 23, modulus:
 /// A setup whose queue has 65,552 bytes, the shortest that replay does not take.
 pub const TOO_LONG_QUEUE: Setup = Setup { n: 10, epsilon: 15, delta: 50, modulus: 65_535, own: 0 };
 
-/// The bytes of a trace; every second one is good.
+/// The bytes of a trace; about five in eight are good.
 pub fn random(rng: &mut Prng) -> Vec<u8> {
     let mut trace = good(rng);
     let bad = rng.one_in(2);

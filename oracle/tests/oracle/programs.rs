@@ -1,8 +1,10 @@
 //! The programs themselves.
 
 use crate::replaying::sample;
-use std::io::{BufRead, BufReader, Read, Write};
+use oracle::streaming;
+use std::io::{Read, Write};
 use std::process::{Child, Command, Stdio};
+use std::time::Duration;
 
 fn start(program: &str) -> Child {
     let mut command = Command::new(program);
@@ -12,21 +14,22 @@ fn start(program: &str) -> Child {
 
 #[test]
 fn replay_prints_a_tick_before_it_reads_the_next() {
-    let mut child = start(env!("CARGO_BIN_EXE_replay"));
-    let mut stdin = child.stdin.take().unwrap();
-    let mut stdout = BufReader::new(child.stdout.take().unwrap());
-    let trace = sample();
-    let (first, rest) = trace.split_at(27);
-    stdin.write_all(first).unwrap();
-    let mut line = String::new();
-    stdout.read_line(&mut line).unwrap();
-    assert_eq!(line, "tick 1 mend 0 c 1 took 1 sent 1 gave 0\n");
-    stdin.write_all(rest).unwrap();
-    drop(stdin);
-    let mut text = String::new();
-    stdout.read_to_string(&mut text).unwrap();
-    assert!(text.ends_with("gave 2\ngive 1 2 41\ngive 0 1 42\n"));
-    assert!(child.wait().unwrap().success());
+    streaming::check(env!("CARGO_BIN_EXE_replay"), streaming::LIMIT).unwrap();
+}
+
+#[test]
+fn replay_ends_where_it_cannot_write() {
+    streaming::check_full(env!("CARGO_BIN_EXE_replay"), streaming::LIMIT).unwrap();
+    let error = streaming::check_full("wc", Duration::from_millis(200)).unwrap_err();
+    assert_eq!(error, "wc: it goes on where it cannot write");
+}
+
+#[test]
+fn a_program_that_reads_all_first_or_writes_other_lines_is_found() {
+    let late = streaming::check("wc", Duration::from_millis(200)).unwrap_err();
+    assert!(late.starts_with("wc: tick 1: `tick 1 mend 0 c 1") && late.ends_with("in time"));
+    let other = streaming::check("yes", streaming::LIMIT).unwrap_err();
+    assert!(other.starts_with("yes: tick 1: `y`, not `tick 1 mend 0 c 1"));
 }
 
 #[test]
@@ -64,5 +67,5 @@ fn compare_meets_every_number_and_finds_every_fault() {
     let output = output.unwrap();
     let text = String::from_utf8(output.stdout).unwrap();
     assert!(output.status.success(), "{text}");
-    assert_eq!(text.lines().filter(|line| line.starts_with("fault ")).count(), 10);
+    assert_eq!(text.lines().filter(|line| line.starts_with("fault ")).count(), 11);
 }

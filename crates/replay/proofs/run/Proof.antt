@@ -111,17 +111,20 @@ slice-aggregate-write-all c = sym (length-take-le _ _ (result-within _ _ _ (c .b
 write-all-requires : tie.Need-write-all-requires Inv-loop μ-loop
 write-all-requires c κs = search needs
 
+returns-3 : tie.Need-returns-3 Inv-loop μ-loop
+returns-3 c = search needs
+
 add-i : tie.Need-add-i Inv-loop μ-loop
-add-i c = omega (arith, c .before .before .before .before .before .before .before .before .before .before .before .before .before .before .before .before .before .before .before .loop-test .taken, c .before .before .before .before .before .before .before .before .before .before .before .before .before .before .before .before .before .before .before .before .before .before .before .before .before .before .before .before .before .tick-count .ok)
+add-i c = omega (arith, c .before .before .before .before .before .before .before .before .before .before .before .before .before .before .before .before .before .before .before .before .loop-test .taken, c .before .before .before .before .before .before .before .before .before .before .before .before .before .before .before .before .before .before .before .before .before .before .before .before .before .before .before .before .before .before .tick-count .ok)
 
 loop-less : tie.Need-loop-less Inv-loop μ-loop
 loop-less c = search needs
 
 loop-again : tie.Need-loop-again Inv-loop μ-loop
 loop-again c =
-    let inv = c .before .before .before .before .before .before .before .before .before .before .before .before .before .before .before .before .before .before .before .before .loop .inv in
-    let played = c .before .before .before .before .before .before .before .before .before .play in
-    (played .kept .1 .1 .0 ∙ inv .0, (omega (arith, inv .1 .0, c .before .before .before .before .before .before .before .before .before .before .before .before .before .before .before .before .before .read-tick .kept .0), omega (arith, inv .1 .1, played .kept .1 .1 .1 .1 .0)))
+    let inv = c .before .before .before .before .before .before .before .before .before .before .before .before .before .before .before .before .before .before .before .before .before .loop .inv in
+    let played = c .before .before .before .before .before .before .before .before .before .before .play in
+    (played .kept .1 .1 .0 ∙ inv .0, (omega (arith, inv .1 .0, c .before .before .before .before .before .before .before .before .before .before .before .before .before .before .before .before .before .before .read-tick .kept .0), omega (arith, inv .1 .1, played .kept .1 .1 .1 .1 .0)))
 
 slice-aggregate-read-full-2 : tie.Need-slice-aggregate-read-full-2 Inv-loop μ-loop
 slice-aggregate-read-full-2 c = search needs
@@ -129,11 +132,11 @@ slice-aggregate-read-full-2 c = search needs
 read-full-requires-2 : tie.Need-read-full-requires-2 Inv-loop μ-loop
 read-full-requires-2 c κs = search needs
 
-returns-3 : tie.Need-returns-3 Inv-loop μ-loop
-returns-3 c = search needs
-
 returns-4 : tie.Need-returns-4 Inv-loop μ-loop
 returns-4 c = search needs
+
+returns-5 : tie.Need-returns-5 Inv-loop μ-loop
+returns-5 c = search needs
 
 pub run-spec : {M : Type 1} → statement M
 run-spec =
@@ -167,10 +170,11 @@ run-spec =
     slice-reshare-prefix-write-all
     slice-aggregate-write-all
     write-all-requires
+    returns-3
     add-i
     loop-less
     loop-again
     slice-aggregate-read-full-2
     read-full-requires-2
-    returns-3
-    returns-4)
+    returns-4
+    returns-5)

@@ -3,18 +3,27 @@
 use std::collections::BTreeMap;
 use std::fmt;
 
+/// What a number was the answer to, and the numbers that a run should meet there.
+type Row = (&'static str, &'static [u8]);
+
 /// Every number that a run should meet must be met this often.
 const LEAST: u64 = 100;
+/// In a run of few traces one in so many is enough for what only traces meet.
+const TRACES: u64 = 40;
 
-/// What a number was the answer to, and the numbers that a run should meet there. 17 is not
-/// among them: no queue ever gets full.
-const EXPECTED: [(&str, &[u8]); 5] = [
+/// Of calls. 17 is not among the numbers of frames: no queue ever gets full. For `sent` and
+/// `gave` (was a frame sent, was one handed out) 1 is yes.
+const OF_CALLS: [Row; 7] = [
     ("call", &[0, 1, 2, 3, 4, 5, 6]),
     ("frame", &[0, 10, 11, 12, 13, 14, 15, 16]),
+    ("gave", &[0, 1]),
     ("mend", &[0, 1, 2, 3]),
     ("reader", &[0, 1, 10, 11, 12]),
+    ("sent", &[0, 1]),
     ("writer", &[0, 1, 4, 6, 11, 12]),
 ];
+/// Of traces. 3 and 6 are not among them: the program's own buffers are right.
+const OF_TRACES: [Row; 2] = [("trace", &[0, 1, 2, 4, 5]), ("trace gave", &[0, 1])];
 
 /// The counts.
 #[derive(Default)]
@@ -30,12 +39,18 @@ impl Coverage {
         self.0.get(&(what, number)).copied().unwrap_or(0)
     }
 
-    /// The numbers that were met too rarely.
-    pub fn gaps(&self) -> Vec<String> {
+    /// The numbers that were met too rarely in a run of this many traces.
+    pub fn gaps(&self, traces: u64) -> Vec<String> {
+        let few = LEAST.min(traces / TRACES);
+        [self.below(LEAST, &OF_CALLS), self.below(few, &OF_TRACES)].concat()
+    }
+
+    /// The numbers of some rows that were met less often than this.
+    fn below(&self, least: u64, rows: &[Row]) -> Vec<String> {
         let pairs =
-            EXPECTED.iter().flat_map(|&(what, numbers)| numbers.iter().map(move |&n| (what, n)));
+            rows.iter().flat_map(|&(what, numbers)| numbers.iter().map(move |&n| (what, n)));
         pairs
-            .filter(|&(what, number)| self.count(what, number) < LEAST)
+            .filter(|&(what, number)| self.count(what, number) < least)
             .map(|(what, number)| format!("{what} {number}"))
             .collect()
     }
@@ -46,7 +61,7 @@ impl fmt::Display for Coverage {
         let mut last = "";
         for (&(what, number), count) in &self.0 {
             if what != last {
-                write!(f, "{}{what:<7}", if last.is_empty() { "" } else { "\n" })?;
+                write!(f, "{}{what:<11}", if last.is_empty() { "" } else { "\n" })?;
                 last = what;
             }
             write!(f, " {number}:{count}")?;

@@ -9,7 +9,6 @@
 //! oracle, and the comparison should then fail. The second form (feature `plant`) needs no
 //! library: it compares the oracle with itself, and then with itself and each fault in turn.
 
-mod abi;
 mod coverage;
 mod run;
 mod subject;
@@ -112,7 +111,7 @@ fn compare_alike(
     println!("{}", done.coverage);
     let (seconds, seed) = (start.elapsed().as_secs_f64(), options.seed);
     println!("{} calls and {} traces alike, seed {seed}, {seconds:.1} s", done.calls, done.traces);
-    match done.coverage.gaps() {
+    match done.coverage.gaps(done.traces) {
         gaps if gaps.is_empty() => Ok(()),
         gaps => Err(format!("met too rarely: {}", gaps.join(", "))),
     }
@@ -126,6 +125,13 @@ fn compare_with_library(options: &Options) -> Result<(), String> {
         None => return Err("--replay is missing".into()),
     };
     let mut oracle = Oracle { fault: options.fault };
+    if !replay.is_empty() {
+        oracle::streaming::check(&replay, oracle::streaming::LIMIT)?;
+        oracle::streaming::check_full(&replay, oracle::streaming::LIMIT)?;
+        println!(
+            "the proved replay writes each tick's lines before the next, and ends where it cannot"
+        );
+    }
     compare_alike(options, &mut oracle, &mut subject::Proved { replay })
 }
 

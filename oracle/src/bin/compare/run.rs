@@ -1,8 +1,8 @@
 //! Makes the same random calls to two programs and compares all they leave.
 
-use crate::abi;
 use crate::coverage::Coverage;
 use crate::subject::Subject;
+use oracle::abi;
 use oracle::generate::{self, spoil, Group, Habits, Prng, ReadCase, TickCase, WriteCase};
 use oracle::replay::hex;
 use oracle::Answer;
@@ -127,6 +127,8 @@ impl<'s> Comparison<'s> {
         self.coverage.meet("call", answer.number);
         if answer.number == 0 {
             self.coverage.meet("mend", answer.repair);
+            self.coverage.meet("sent", u8::from(answer.outgoing > 0));
+            self.coverage.meet("gave", u8::from(answer.delivered > 0));
             for &number in &case.verdicts[..case.batch[0].into()] {
                 self.coverage.meet("frame", number);
             }
@@ -165,6 +167,7 @@ impl<'s> Comparison<'s> {
             let last = left.lines().last().unwrap_or_default();
             let number = last.strip_prefix("refused ").map_or(Ok(0), str::parse);
             self.coverage.meet("trace", number.expect("a number after refused"));
+            self.coverage.meet("trace gave", u8::from(left.contains("\ngive ")));
         }
         Ok(())
     }

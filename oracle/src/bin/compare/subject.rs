@@ -1,6 +1,6 @@
 //! The programs that are compared.
 
-use crate::abi;
+use oracle::abi;
 use oracle::generate::{ReadCase, TickCase, WriteCase};
 use oracle::{fault, replay};
 

@@ -1,21 +1,15 @@
--- `holdback::change::cut_prefix` meets its contract: the frames behind the prefix move to the front, zeros follow to the end, and the count falls. Assumes nothing.
+-- `holdback::change::cut_prefix` meets its contract: the prefix is cut out, zeros follow to the end, and the count falls. Assumes nothing.
 use native.Mathlib.Omega.{arith}
 use Rattle.holdback.proofs.Changes.{located, prefix-cut}
 use borrow.Author.Needs.{needs}
 use Rattle.holdback.proofs.change.cut_prefix.Statement.{statement}
 use Rattle.holdback.proofs.change.cut_prefix.Tie as tie
 
-sub-move-left : tie.Need-sub-move-left
-sub-move-left c = omega (arith, located (c .before .before .pre .0) (λ i. omega (arith, c .before .slice-known .given i)))
+sub-cut : tie.Need-sub-cut
+sub-cut c = omega (arith, located (c .before .before .pre .0) (λ i. omega (arith, c .before .slice-known .given i)))
 
-move-left-requires : tie.Need-move-left-requires
-move-left-requires c κs = let place = located (c .before .before .pre .0) (λ i. omega (arith, c .before .slice-known .given i)) in (place .0, omega arith)
-
-sub-clear : tie.Need-sub-clear
-sub-clear c = let place = located (c .before .before .before .before .before .before .pre .0) (λ i. omega (arith, c .before .before .before .before .before .slice-known .given i)) in omega arith
-
-add-clear : tie.Need-add-clear
-add-clear c = let place = located (c .before .before .before .before .before .before .pre .0) (λ i. omega (arith, c .before .before .before .before .before .slice-known .given i)) in omega arith
+cut-requires : tie.Need-cut-requires
+cut-requires c κs = let place = located (c .before .before .pre .0) (λ i. omega (arith, c .before .slice-known .given i)) in omega arith
 
 clear-requires : tie.Need-clear-requires
 clear-requires c κs = let place = located (c .before .before .before .before .before .before .pre .0) (λ i. omega (arith, c .before .before .before .before .before .slice-known .given i)) in omega arith
@@ -32,19 +26,17 @@ same-length c = search needs
 returns : tie.Need-returns
 returns c = let counted = c .before .before in
     let cleared = counted .before .before .before .before .before in
-    let moved = cleared .before .before .before .before in
-    let entry = moved .before .before in
+    let out = cleared .before .before .before .before in
+    let entry = out .before .before in
     let start = entry .before in
-    prefix-cut (start .pre .0) (λ i. omega (arith, entry .slice-known .given i)) _ _ _ (moved .move-left .ensures) (cleared .clear .ensures) (counted .put-u16 .ensures)
+    prefix-cut (start .pre .0) (λ i. omega (arith, entry .slice-known .given i)) _ _ _ (out .cut .ensures) (cleared .clear .ensures) (counted .put-u16 .ensures)
 
 pub cut-prefix-spec : {M : Type 1} → statement M
 cut-prefix-spec =
     tie.close
     (tie.spec
-    sub-move-left
-    move-left-requires
-    sub-clear
-    add-clear
+    sub-cut
+    cut-requires
     clear-requires
     sub-put-u16
     put-u16-requires

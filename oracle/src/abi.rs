@@ -1,6 +1,6 @@
 //! The proved static library behind safe functions, and how its answers are packed.
 
-use oracle::Answer;
+use crate::Answer;
 
 /// Where a number lies in an answer: its lowest bit and how many bits it has.
 pub struct Field {
@@ -81,8 +81,8 @@ pub fn pack_refusal(number: u8) -> u64 {
 pub mod library {
     //! The calls themselves.
 
-    use oracle::generate::{ReadCase, TickCase, WriteCase};
-    use oracle::{ClockState, Setup};
+    use crate::generate::{ReadCase, TickCase, WriteCase};
+    use crate::{ClockState, Setup};
 
     #[link(name = "abi", kind = "static")]
     extern "C" {
@@ -136,12 +136,13 @@ pub mod library {
     }
 
     /// A setup's numbers as the calls take them: n, ε, δ, B, own.
-    fn numbers(setup: &Setup) -> [u32; 5] {
+    pub fn numbers(setup: &Setup) -> [u32; 5] {
         let Setup { n, epsilon, delta, modulus, own } = *setup;
         [n, epsilon, delta, modulus, own].map(narrow)
     }
 
-    fn narrow(number: i64) -> u32 {
+    /// A number as the calls take it.
+    pub fn narrow(number: i64) -> u32 {
         u32::try_from(number).expect("a number that a call can take")
     }
 
