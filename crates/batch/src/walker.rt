@@ -32,7 +32,7 @@ pub fn walk_step(batch: &[u8], at: usize) -> Step
     ensures { λ r. ⌜ r ≡ stepAt (now (batch .entry)) at ⌝ }
 {
     let w = Walker { src: batch, at };
-    let start = step(w).start;
     let end = advance(w).at;
+    let start = step(w).start;
     Step { start, end }
 }

@@ -1,4 +1,4 @@
--- `batch::walker::walk_step` meets its contract: a walk of its MIR, by hand. A `Walker` is made of the slice and the number, in a local, and copies of it are passed to `step` and to `advance`. All that the proof knows of the two is that they meet their contracts.
+-- `batch::walker::walk_step` meets its contract: a walk of its MIR, by hand. A `Walker` is made of the slice and the number, in a local, and copies of it are passed to `advance` and to `step`. All that the proof knows of the two is that they meet their contracts.
 -- In a local of a body MIR erases the lifetime of the struct's type. A `&[u8]` is Copy, so what it owns is had twice: once inside each struct passed, and once for the exit.
 -- Assumes nothing.
 use mathlib.Core.Path.{_≡_, refl, sym, ap, subst, _∙_}
@@ -150,25 +150,25 @@ module _ {M : Type 1} (𝓤 : URA M) (H : Heap 𝓤) (A : Atoms 𝓤) (W : Given
         -- [room for _9; …; room for _3; …; _2; …; _1; …; room for _0; …; the entry]
         assigns ! (agg ! (and-then ! (load ! (from ! (stop !)) (look ! 16 refl)) (and-then ! (load ! (from ! (stop !)) (look ! 14 refl)) (no-more !)))) (from ! (stop !)) (init ! 12 refl (tt, wt)) $
         assigns ! (of-opd ! (load ! (from ! (stop !)) (look ! 12 refl))) (from ! (stop !)) (init ! 4 refl (tt, wt)) $
-        move ! (20 ∷ []) $ use1 W ((‵ (flft κ q) ⊛ ‵ ftrue) ⊛ ‵ Own) enters $ split ! $ use2 W (raw (OneStep 𝓤 H A mem run .pre to) ⊛ ‵ Own) goes $ split ! $
-        calls-at ! fm (OneStep 𝓤 H A mem run) known to (and-then ! (load ! (from ! (stop !)) (look ! 6 refl)) (no-more !)) (λ u.
-        told ! tt step.ended (step.clauses 𝓤 H A mem run) to u (λ r. r ≡ found) (λ r e. id⊢ 𝓤 _) (λ r e.
-        -- [the step; the token; what s owns; room for _9; …; room for _0; …]
-        peeks ! S.the-row (Is S.the-row) (shows 𝓤 H A S.the-row) r (u ∷ []) (λ is.
-        land ! (from ! (stop !)) (init ! 9 refl (LL.lawful S.the-type S′.the-laws 𝓤 H A W .typed r _ is .0)) $ rewrite ! 9 (λ (x : Val). ‵ (fat fullShare S′.mir l₆ 0 x)) (ap only (step-is r u is)) refl $
-        assigns ! (of-opd ! (load ! (from ! (fld ! refl (stop !))) (look-in ! 9 (sub ! 0 refl (whole !))))) (from ! (stop !)) (init ! 13 refl (tt, step-wt r u is .0)) $
+        move ! (20 ∷ []) $ use1 W ((‵ (flft κ q) ⊛ ‵ ftrue) ⊛ ‵ Own) enters $ split ! $ use2 W (raw (Onward 𝓤 H A mem run .pre to) ⊛ ‵ Own) goes $ split ! $
+        calls-at ! fm (Onward 𝓤 H A mem run) known′ to (and-then ! (load ! (from ! (stop !)) (look ! 6 refl)) (no-more !)) (λ u.
+        told ! tt advance.ended (advance.clauses 𝓤 H A mem run) to u (λ g. g ≡ advanced d) (λ g f. id⊢ 𝓤 _) (λ g f.
+        -- [the walker; the token; what s owns; room for _9; …; room for _0; …]
+        peeks ! (B (κ, tt)) (Is (B (κ, tt))) (shows 𝓤 H A (B (κ, tt))) g (u ∷ []) (λ is.
+        land ! (from ! (stop !)) (init ! 9 refl (subst (λ (x : Val). Holds (hasTy (T′.mir erased) x) × WT x) (sym (ap only (walker-is g u is))) (tt, walker-wt g u is))) $ rewrite ! 9 (λ (x : Val). ‵ (fat fullShare (T′.mir erased) l₆ 0 x)) (ap only (walker-is g u is)) refl $
+        assigns ! (of-opd ! (load ! (from ! (fld ! refl (stop !))) (look-in ! 9 (sub ! 1 refl (whole !))))) (from ! (stop !)) (init ! 13 refl (tt, walker-wt g u is .1 .0)) $
         drop ! $ assigns ! (of-opd ! (load ! (from ! (stop !)) (look ! 14 refl))) (from ! (stop !)) (init ! 2 refl (tt, wt)) $
-        use2 W (raw (Onward 𝓤 H A mem run .pre to) ⊛ ‵ Own) goes $ split ! $
-        calls-at ! fm (Onward 𝓤 H A mem run) known′ to (and-then ! (load ! (from ! (stop !)) (look ! 2 refl)) (no-more !)) (λ u′.
-        told ! tt advance.ended (advance.clauses 𝓤 H A mem run) to u′ (λ g. g ≡ advanced d) (λ g f. id⊢ 𝓤 _) (λ g f.
-        -- [the walker; the token; what s owns; _9; …; room for _8; …; _0; …]
-        peeks ! (B (κ, tt)) (Is (B (κ, tt))) (shows 𝓤 H A (B (κ, tt))) g (u′ ∷ []) (λ is′.
-        land ! (from ! (stop !)) (init ! 5 refl (subst (λ (x : Val). Holds (hasTy (T′.mir erased) x) × WT x) (sym (ap only (walker-is g u′ is′))) (tt, walker-wt g u′ is′))) $ rewrite ! 5 (λ (x : Val). ‵ (fat fullShare (T′.mir erased) l₈ 0 x)) (ap only (walker-is g u′ is′)) refl $
-        assigns ! (of-opd ! (load ! (from ! (fld ! refl (stop !))) (look-in ! 5 (sub ! 1 refl (whole !))))) (from ! (stop !)) (init ! 11 refl (tt, walker-wt g u′ is′ .1 .0)) $
-        drop ! $ assigns ! (agg ! (and-then ! (load ! (from ! (stop !)) (look ! 12 refl)) (and-then ! (load ! (from ! (stop !)) (look ! 10 refl)) (no-more !)))) (from ! (stop !)) (init ! 20 refl (tt, (step-wt r u is .0, (walker-wt g u′ is′ .1 .0, tt)))) $
+        use2 W (raw (OneStep 𝓤 H A mem run .pre to) ⊛ ‵ Own) goes $ split ! $
+        calls-at ! fm (OneStep 𝓤 H A mem run) known to (and-then ! (load ! (from ! (stop !)) (look ! 2 refl)) (no-more !)) (λ u′.
+        told ! tt step.ended (step.clauses 𝓤 H A mem run) to u′ (λ r. r ≡ found) (λ r e. id⊢ 𝓤 _) (λ r e.
+        -- [the step; the token; what s owns; _9; …; room for _8; …; room for _0; …]
+        peeks ! S.the-row (Is S.the-row) (shows 𝓤 H A S.the-row) r (u′ ∷ []) (λ is′.
+        land ! (from ! (stop !)) (init ! 5 refl (LL.lawful S.the-type S′.the-laws 𝓤 H A W .typed r _ is′ .0)) $ rewrite ! 5 (λ (x : Val). ‵ (fat fullShare S′.mir l₈ 0 x)) (ap only (step-is r u′ is′)) refl $
+        assigns ! (of-opd ! (load ! (from ! (fld ! refl (stop !))) (look-in ! 5 (sub ! 0 refl (whole !))))) (from ! (stop !)) (init ! 11 refl (tt, step-wt r u′ is′ .0)) $
+        drop ! $ assigns ! (agg ! (and-then ! (load ! (from ! (stop !)) (look ! 10 refl)) (and-then ! (load ! (from ! (stop !)) (look ! 12 refl)) (no-more !)))) (from ! (stop !)) (init ! 20 refl (tt, (step-wt r u′ is′ .0, (walker-wt g u is .1 .0, tt)))) $
         returns ! (look ! 20 refl) $ forget ! 2 refl $ forget ! 4 refl $ forget ! 6 refl $ forget ! 8 refl $ forget ! 10 refl $ forget ! 12 refl $ forget ! 14 refl $ forget ! 16 refl $ forget ! 18 refl $ forget ! 20 refl $
         move ! (20 ∷ 21 ∷ []) $ free1 ! $ move ! (18 ∷ 19 ∷ []) $ free1 ! $ move ! (16 ∷ 17 ∷ []) $ free1 ! $ move ! (14 ∷ 15 ∷ []) $ free1 ! $ move ! (12 ∷ 13 ∷ []) $ free1 ! $ move ! (10 ∷ 11 ∷ []) $ free1 ! $ move ! (8 ∷ 9 ∷ []) $ free1 ! $ move ! (6 ∷ 7 ∷ []) $ free1 ! $ move ! (4 ∷ 5 ∷ []) $ free1 ! $ move ! (2 ∷ 3 ∷ []) $ free1 ! $ free0 ! $
-        by ! (exits (record { start = r .start; end = g .at }) (together d g r e f) (step-wt r u is .0 .fits) (walker-wt g u′ is′ .1 .0 .fits))))))))))))))))))
+        by ! (exits (record { start = r .start; end = g .at }) (together d g r e f) (step-wt r u′ is′ .0 .fits) (walker-wt g u is .1 .0 .fits))))))))))))))))))
 
 pub walk-step-spec : {M : Type 1} → stated.statement M
 unfolding code.routine
