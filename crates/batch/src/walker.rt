@@ -1,21 +1,14 @@
-// A batch and a position in it. Each function takes the walker apart and calls a function of the crate on the slice and the number.
+// A batch and a position in it. step and advance take the walker apart and call a function of the crate on the slice and the number.
 use crate::Step;
 use crate::next_at;
 use crate::step_at;
 ghost use mathlib.Core.Path.{_≡_};
-ghost use Rattle.batch.specs.Walk.{firstAt, stepAt, advanced};
+ghost use Rattle.batch.specs.Walk.{stepAt, advanced};
 
 // 01: "A walk over a bundle remembers the bundle and its position".
 pub struct Walker<'a> {
     pub src: &'a [u8],
     pub at: usize,
-}
-
-// At the first entry.
-pub fn new<'a>(src: &'a [u8]) -> Walker<'a>
-    ensures { λ r. ⌜ (r .src ≡ src .entry) × (r .at ≡ firstAt) ⌝ }
-{
-    Walker { src, at: 1 }
 }
 
 // Where the entry at the walker's position starts and ends.
@@ -33,9 +26,13 @@ pub fn advance<'a>(w: Walker<'a>) -> Walker<'a>
     Walker { src: w.src, at }
 }
 
-// The step of a walker at a position of a batch. Its contract says nothing of a walker, so a caller needs no walk by hand.
+// The step of a walker at a position of a batch, which ends where the walker goes on. Its contract says nothing of a walker, so
+// a caller needs no walk by hand.
 pub fn walk_step(batch: &[u8], at: usize) -> Step
     ensures { λ r. ⌜ r ≡ stepAt (now (batch .entry)) at ⌝ }
 {
-    step(Walker { src: batch, at })
+    let w = Walker { src: batch, at };
+    let end = advance(w).at;
+    let start = step(w).start;
+    Step { start, end }
 }

@@ -6,16 +6,17 @@ use native.Mathlib.Omega.{arith}
 use mathlib.Core.Path.{_≡_, refl, sym}
 use mathlib.Core.List.{List, [], _∷_, _++_, append-assoc}
 use lib.ListN.{length, take, drop, getD, set, replicate, length-append, length-set, length-replicate, length-drop, drop-of-length-le, replicate-append-replicate}
-use mathlib.Core.Bool.{Bool, true, false, _&&_}
+use mathlib.Core.Bool.{Bool, true, false, _&&_, cond}
 use mathlib.Core.Logic.{_⊎_, inl, inr}
 use borrow.Author.Tests.{le-leb, lt-leb}
 use lib.Dec.{leb}
-use lib.Seq.{set-append-seam, set-append-left, length-take-le, take-nil, take-suc, getD-drop, slice, slice-cons}
+use lib.Seq.{set-append-seam, set-append-left, drop-append-le, length-take-le, take-nil, take-suc, getD-drop, slice, slice-cons}
 use Rattle.laws.specs.Lists.{every, padded}
 use Rattle.laws.proofs.Numbers.{lt-or-ge}
-use Rattle.laws.proofs.Lists.{tab-take}
+use Rattle.laws.proofs.Lists.{tab-take, every-append}
 use Rattle.model.specs.Setup.{width}
 use Rattle.model.specs.Timestamp.{Timestamp, atMost, trimmed}
+use Rattle.timestamp.specs.Views.{withinLimits}
 
 -- a number less what it has of another, and one more
 sub-next : (w n : ℕ) → n < w → w - n ≡ suc (w - suc n)
@@ -113,3 +114,77 @@ unfolding atMost every
 at-most-end bound i to most l h k =
     let e : length (take to l) ≤ i = omega (arith, length-take-le to l k) in
     rw (drop-of-length-le (take to l) e, and-true (leb most bound))
+
+pub and-false : (b : Bool) → (b && false) ≡ false
+and-false true = refl
+and-false false = refl
+
+-- the last of a conjunction's answers asked first
+and-last : (a b : Bool) → (a && (b && true)) ≡ (b && a)
+and-last true b = refl
+and-last false b = sym (and-false b)
+
+-- counts are within their limits if those before the last are, and the last is within its own
+limits-append : (n top : ℕ) (l : List ℕ) (x : ℕ)
+    → withinLimits n top (l ++ (x ∷ [])) ≡ (leb x (cond (leb (length l) top) n 0) && withinLimits n top l)
+unfolding atMost every
+limits-append n top l x = go (lt-or-ge top (length l)) (lt-or-ge 0 x)
+  where
+    go : (top < length l) ⊎ (length l ≤ top) → (0 < x) ⊎ (x ≤ 0)
+        → withinLimits n top (l ++ (x ∷ [])) ≡ (leb x (cond (leb (length l) top) n 0) && withinLimits n top l)
+    go (inr h) _ =
+        let long : length l ≤ top + 1 = omega arith in
+        let longer : length (l ++ (x ∷ [])) ≤ top + 1 = omega (arith, length-append l (x ∷ [])) in
+        rw (
+          le-leb (length l) top h,
+          drop-of-length-le l long,
+          drop-of-length-le (l ++ (x ∷ [])) longer,
+          every-append (λ y. leb y n) l (x ∷ []),
+          and-last (every (λ y. leb y n) l) (leb x n),
+          and-true (leb x n && every (λ y. leb y n) l),
+          and-true (every (λ y. leb y n) l),
+        )
+    go (inl h) k =
+        let short : top + 1 ≤ length l = omega arith in
+        rw (
+          lt-leb (length l) top h,
+          drop-append-le (top + 1) l (x ∷ []) short,
+          every-append (λ y. leb y n) l (x ∷ []),
+          every-append (λ y. leb y 0) (drop (top + 1) l) (x ∷ []),
+        )
+        (above k)
+      where
+        above : (0 < x) ⊎ (x ≤ 0)
+            → ((every (λ y. leb y n) l && (leb x n && true)) && (every (λ y. leb y 0) (drop (top + 1) l) && (leb x 0 && true)))
+            ≡ (leb x 0 && (every (λ y. leb y n) l && every (λ y. leb y 0) (drop (top + 1) l)))
+        above (inl p) =
+            rw (
+              lt-leb x 0 p,
+              and-false (every (λ y. leb y 0) (drop (top + 1) l)),
+              and-false (every (λ y. leb y n) l && (leb x n && true)),
+            )
+        above (inr p) =
+            let q : x ≤ n = omega arith in
+            rw (
+              le-leb x 0 p,
+              le-leb x n q,
+              and-true (every (λ y. leb y n) l),
+              and-true (every (λ y. leb y 0) (drop (top + 1) l)),
+            )
+
+-- what a loop that asks for each count's limit knows at its start, after one turn more, and at its end
+module _ (n top : ℕ) where
+  pub limits-start : true ≡ withinLimits n top []
+  unfolding atMost every
+  limits-start = let e : length {A = ℕ} [] ≤ top + 1 = omega arith in rw (drop-of-length-le [] e)
+
+  pub limits-next : (i place limit : ℕ) (fine answer : Bool) (kn : List ℕ) → i < length kn → place ≡ i
+      → limit ≡ cond (leb place top) n 0 → fine ≡ withinLimits n top (take i kn) → answer ≡ (leb (getD kn i 0) limit && fine)
+      → answer ≡ withinLimits n top (take (i + 1) kn)
+  limits-next i place limit fine answer kn h e l f a =
+      let passed : length (take i kn) ≡ i = length-take-le i kn (omega arith) in
+      rw (a, f, l, e, add-one i, take-suc kn i 0 h, limits-append n top (take i kn) (getD kn i 0), passed)
+
+  pub limits-end : (i width : ℕ) (fine : Bool) (kn : List ℕ) → i ≤ width → width ≤ i → fine ≡ withinLimits n top (take i kn)
+      → fine ≡ withinLimits n top (take width kn)
+  limits-end i width fine kn h k f = let e : width ≡ i = omega arith in rw e f

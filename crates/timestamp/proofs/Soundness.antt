@@ -6,39 +6,33 @@ use mathlib.Core.Path.{_≡_}
 use mathlib.Core.Bool.{true, false, _&&_}
 use mathlib.Core.List.{List}
 use lib.ListN.{length, take, getD}
-use lib.Dec.{leb, ltb, eqb}
+use lib.Dec.{ltb, eqb}
 use lib.Seq.{slice, take-all}
 use borrow.Author.Tests.{le-leb, lt-leb, lt-ltb, le-ltb, eq-eqb, ne-eqb}
 use Rattle.model.specs.Timestamp.{Timestamp, atMost, trimmed, soundTimestamp, soundTables}
-use Rattle.timestamp.specs.Views.{counted}
+use Rattle.timestamp.specs.Views.{counted, withinLimits}
+use Rattle.timestamp.proofs.Counts.{and-false}
 use Rattle.timestamp.proofs.Steps.{trimmed-all}
 
-module _ (n epsilon c : ℕ) (kn : List ℕ) (long : length kn ≡ 2 * epsilon) where
-  -- the soundness of 2ε counts, as the code asks for it
-  sound-is : c < epsilon
-      → soundTimestamp n epsilon (counted c kn)
-      ≡ (atMost n (take (2 * epsilon) kn) && (leb 1 (getD kn (epsilon + c) 0)
-      && atMost 0 (slice (epsilon + c + 1) (2 * epsilon) kn)))
-  unfolding soundTimestamp
-  sound-is h =
-      let low : c ≤ epsilon - 1 = omega arith in
-      let whole : take (2 * epsilon) kn ≡ kn = take-all (2 * epsilon) kn (omega arith) in
-      rw (whole, le-leb c (epsilon - 1) low)
-
+module _ (n epsilon c : ℕ) (kn : List ℕ) where
   pub unsound-lead : 1 ≤ epsilon → epsilon ≤ c → false ≡ soundTimestamp n epsilon (counted c kn)
   unfolding soundTimestamp
   unsound-lead h k = let high : epsilon - 1 < c = omega arith in rw (lt-leb c (epsilon - 1) high)
 
-  pub unsound-counts : c < epsilon → atMost n (take (2 * epsilon) kn) ≡ false → false ≡ soundTimestamp n epsilon (counted c kn)
-  unsound-counts h e = rw (sound-is h, e)
+  pub unsound-none : c < epsilon → getD kn (epsilon + c) 0 < 1 → false ≡ soundTimestamp n epsilon (counted c kn)
+  unfolding soundTimestamp
+  unsound-none h k =
+      let low : c ≤ epsilon - 1 = omega arith in
+      rw (le-leb c (epsilon - 1) low, lt-leb 1 (getD kn (epsilon + c) 0) k, and-false (atMost n kn))
 
-  pub unsound-none : c < epsilon → atMost n (take (2 * epsilon) kn) ≡ true → getD kn (epsilon + c) 0 < 1
-      → false ≡ soundTimestamp n epsilon (counted c kn)
-  unsound-none h e k = rw (sound-is h, e, lt-leb 1 (getD kn (epsilon + c) 0) k)
-
-  pub sound-above : c < epsilon → atMost n (take (2 * epsilon) kn) ≡ true → 1 ≤ getD kn (epsilon + c) 0
-      → atMost 0 (slice (epsilon + c + 1) (2 * epsilon) kn) ≡ soundTimestamp n epsilon (counted c kn)
-  sound-above h e k = rw (sound-is h, e, le-leb 1 (getD kn (epsilon + c) 0) k)
+  -- with a count at offset c, the limits of the counts decide
+  pub sound-within : length kn ≡ 2 * epsilon → c < epsilon → 1 ≤ getD kn (epsilon + c) 0
+      → withinLimits n (epsilon + c) (take (2 * epsilon) kn) ≡ soundTimestamp n epsilon (counted c kn)
+  unfolding soundTimestamp
+  sound-within long h k =
+      let low : c ≤ epsilon - 1 = omega arith in
+      let whole : take (2 * epsilon) kn ≡ kn = take-all (2 * epsilon) kn (omega arith) in
+      rw (whole, le-leb c (epsilon - 1) low, le-leb 1 (getD kn (epsilon + c) 0) k)
 
 module _ (epsilon : ℕ) (t : Timestamp) (small : epsilon ≤ 16) (long : length (t .kn) ≡ 32) (n : ℕ) where
   -- r is not looked at, and no place past the 2ε counts

@@ -36,10 +36,6 @@ module _ (epsilon : ℕ) (t : Timestamp) (small : epsilon ≤ 16) (long : length
   unfolding width
   trimmed-all = trimmed-take epsilon t (omega arith)
 
-  pub trim-widened : (kn : List ℕ) → kn ≡ padded 32 (take (2 * epsilon) (t .kn)) → stamp (t .r) (t .c) kn ≡ widened (trimmed epsilon t)
-  unfolding widened
-  trim-widened kn e = rw (trimmed-all, e)
-
   pub step-widened : (v c : ℕ) (kn : List ℕ) → 1 ≤ epsilon → c ≡ t .c - 1 → kn ≡ padded 32 (take (2 * epsilon - 1) (drop 1 (t .kn)))
       → stamp v c kn ≡ widened (step v (trimmed epsilon t))
   unfolding widened step shift

@@ -1,9 +1,10 @@
 -- What the code's values say in the model's terms.
 -- Assumes nothing.
 use Prim.Native.Nat.{ℕ, _+_, max}
+use mathlib.Core.Bool.{Bool, _&&_}
 use mathlib.Core.List.{List}
-use lib.ListN.{getD}
-use Rattle.model.specs.Timestamp.{countAt}
+use lib.ListN.{drop, getD}
+use Rattle.model.specs.Timestamp.{countAt, atMost}
 use Rattle.model.specs.Setup as setups
 use Rattle.model.specs.Timestamp as stamps
 use Rattle.timestamp.specs.declared.limits.Setup.{Setup}
@@ -20,6 +21,10 @@ stampOf t = record { r = t .r; c = t .c; kn = t .kn }
 -- a timestamp with that c and those counts, where r is not looked at
 abbrev pub counted : ℕ → List ℕ → stamps.Timestamp
 counted c kn = record { r = 0; c = c; kn = kn }
+
+-- 01: "each count ≤ n" and "all counts above" the place top "are 0"
+abbrev pub withinLimits : ℕ → ℕ → List ℕ → Bool
+withinLimits n top kn = atMost n kn && atMost 0 (drop (top + 1) kn)
 
 -- 01, tick 3: "each count" becomes "the larger of own and frame's, both placed relative to v": the count at a place
 abbrev pub largerAt : ℕ → ℕ → List ℕ → List ℕ → ℕ → ℕ

@@ -1,12 +1,14 @@
 // 01: the stamp, its soundness, the steps of one tick that change it, and reading a clock near v.
 ghost use mathlib.Core.Path.{_≡_};
+ghost use mathlib.Core.Bool.{_&&_, cond};
 ghost use Prim.Native.Nat.{ℕ, _+_, _-_, _*_, _%_, _≤_, _<_, _^_, max};
 ghost use lib.ListN.{length, take, drop, getD};
+ghost use lib.Dec.{leb};
 ghost use Rattle.laws.specs.Lists.{tab, padded};
 ghost use Rattle.model.specs.Setup.{widest};
 ghost use Rattle.model.specs.Timestamp.{atMost, soundTimestamp, soundTables, trimmed, widened};
 ghost use Rattle.model.specs.Timestamp as model;
-ghost use Rattle.timestamp.specs.Views.{stampOf, counted, largerAt, raisedAt};
+ghost use Rattle.timestamp.specs.Views.{stampOf, counted, withinLimits, largerAt, raisedAt};
 
 // 01: the stamp.
 pub struct Timestamp {
@@ -38,20 +40,6 @@ impl Timestamp {
     {
         let kn = [0u8; Timestamp::WIDTH];
         Timestamp { r: clock, c: 0, kn }
-    }
-
-    // 01: places past the 2ε counts "come back 0".
-    pub fn trim(self, epsilon: usize) -> Self
-        requires { ⌜ epsilon ≤ 16 ⌝ }
-        ensures { λ s. ⌜ stampOf s ≡ widened (trimmed epsilon (stampOf self)) ⌝ }
-    {
-        let own = self.kn;
-        let kn = counts_of(&own, 0, 2 * epsilon);
-        Timestamp {
-            r: self.r,
-            c: self.c,
-            kn,
-        }
     }
 
     // 01, tick 2: "c drops by one, not below 0, and counts move one offset down".
@@ -101,7 +89,7 @@ impl Timestamp {
 
     // 01: "A stamp is sound if c ≤ ε − 1, each count ≤ n, the count at offset c is at least 1, and all counts above offset c are 0".
     pub fn is_sound(self, n: usize, epsilon: usize) -> bool
-        requires { ⌜ (1 ≤ epsilon) × (epsilon ≤ 16) ⌝ }
+        requires { ⌜ (n ≤ 16) × ((1 ≤ epsilon) × (epsilon ≤ 16)) ⌝ }
         ensures { λ b. ⌜ b ≡ soundTimestamp n epsilon (trimmed epsilon (stampOf self)) ⌝ }
     {
         let kn = self.kn;
@@ -111,7 +99,7 @@ impl Timestamp {
     // 01: "sound for a new clock v if the stamp is sound, r is below B and one before v modulo B, and counts at offsets 1
     // and up are at most n − 1".
     pub fn is_sound_for(self, n: usize, epsilon: usize, modulus: usize, v: usize) -> bool
-        requires { ⌜ (1 ≤ n) × ((1 ≤ epsilon) × (epsilon ≤ 16)) ⌝ }
+        requires { ⌜ (1 ≤ n) × ((n ≤ 16) × ((1 ≤ epsilon) × (epsilon ≤ 16))) ⌝ }
         ensures { λ b. ⌜ b ≡ soundTables n epsilon modulus v (trimmed epsilon (stampOf self)) ⌝ }
     {
         let kn = self.kn;
@@ -131,19 +119,49 @@ impl Timestamp {
 
 // The soundness of a stamp with that c and those 2ε counts.
 pub fn sound_counts(kn: &[u8], c: usize, n: usize, epsilon: usize) -> bool
-    requires { ⌜ (1 ≤ epsilon) × ((epsilon ≤ 16) × (length (now kn) ≡ 2 * epsilon)) ⌝ }
+    requires { ⌜ (n ≤ 16) × ((1 ≤ epsilon) × ((epsilon ≤ 16) × (length (now kn) ≡ 2 * epsilon))) ⌝ }
     ensures { λ b. ⌜ b ≡ soundTimestamp n epsilon (counted c (now (kn .entry))) ⌝ }
 {
     if epsilon <= c {
         return false;
     }
-    if !counts_at_most(kn, 0, 2 * epsilon, n) {
-        return false;
-    }
     if kn[epsilon + c] < 1 {
         return false;
     }
-    counts_at_most(kn, epsilon + c + 1, 2 * epsilon, 0)
+    within_limits(kn, 2 * epsilon, epsilon + c, n)
+}
+
+// 01: "each count ≤ n" and "all counts above" the place top "are 0", in one pass. A place is held as a byte too, so that the
+// compiler can take 16 counts at a time.
+fn within_limits(kn: &[u8], width: usize, top: usize, n: usize) -> bool
+    requires { ⌜ (width ≤ length (now kn)) × ((width ≤ 32) × ((top < width) × (n ≤ 16))) ⌝ }
+    ensures { λ b. ⌜ b ≡ withinLimits n top (take width (now (kn .entry))) ⌝ }
+{
+    let most = n as u8;
+    let last = top as u8;
+    let mut fine = true;
+    let mut i = 0;
+    let mut place = 0u8;
+    while i < width {
+        fine = both(kn[i] <= limit_at(place, last, most), fine);
+        i += 1;
+        place += 1;
+    }
+    fine
+}
+
+// The most that the count at a place may be: n up to the place top, 0 above it.
+fn limit_at(place: u8, top: u8, n: u8) -> u8
+    ensures { λ x. ⌜ x ≡ cond (leb place top) n 0 ⌝ }
+{
+    if place <= top { n } else { 0 }
+}
+
+// Both answers are yes.
+fn both(a: bool, b: bool) -> bool
+    ensures { λ x. ⌜ x ≡ (a && b) ⌝ }
+{
+    if a { b } else { false }
 }
 
 // Every count from one place up to, not including, another is at most the bound: the largest of them is.

@@ -104,7 +104,7 @@ part-sound-counts-end c =
 sound-counts-requires : tie.Need-sound-counts-requires
 sound-counts-requires c κs =
     let start = c .before .before .before .before .before .before .before .before .before .before .before .before in
-    (limits start .epsilon-pos, (limits start .epsilon-most, counts-long (start .args .setup .epsilon) (start .args .s .now) (form (c .before .before .before .before .before .before))))
+    (limits start .n-most, (limits start .epsilon-pos, (limits start .epsilon-most, counts-long (start .args .setup .epsilon) (start .args .s .now) (form (c .before .before .before .before .before .before)))))
 
 returns-4 : tie.Need-returns-4
 returns-4 c =

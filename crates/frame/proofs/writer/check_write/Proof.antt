@@ -80,7 +80,7 @@ unfolding frameOf trimmed
 returns-4 c = sym (asked-range (c .before .before .before) ∙ r-no (setup (c .before .before .before .before .before .before .before .before .before .before .before)) (frame (c .before .before .before .before .before .before .before .before .before .before .before)) (fromStamp (setup (c .before .before .before .before .before .before .before .before .before .before .before)) (frame (c .before .before .before .before .before .before .before .before .before .before .before)) (room (c .before .before .before .before .before .before .before .before .before .before .before))) (c .before .before .if3 .left) (c .if4 .taken))
 
 is-sound-requires : tie.Need-is-sound-requires
-is-sound-requires c κs = (limits (c .before .before .before .before .before .before .before) .epsilon-pos, limits (c .before .before .before .before .before .before .before) .epsilon-most)
+is-sound-requires c κs = let l = limits (c .before .before .before .before .before .before .before) in (l .n-most, (l .epsilon-pos, l .epsilon-most))
 
 returns-5 : tie.Need-returns-5
 unfolding frameOf

@@ -22,7 +22,7 @@ cast-modulus : tie.Need-cast-modulus
 cast-modulus c = search needs
 
 is-sound-for-requires : tie.Need-is-sound-for-requires
-is-sound-for-requires c κs = (limits (c .before .before .before) .n-pos, (limits (c .before .before .before) .epsilon-pos, limits (c .before .before .before) .epsilon-most))
+is-sound-for-requires c κs = let l = limits (c .before .before .before) in (l .n-pos, (l .n-most, (l .epsilon-pos, l .epsilon-most)))
 
 step-requires : tie.Need-step-requires
 step-requires c κs = (limits (c .before .before .before .before .before) .epsilon-pos, limits (c .before .before .before .before .before) .epsilon-most)

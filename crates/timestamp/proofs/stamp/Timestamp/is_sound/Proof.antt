@@ -28,12 +28,12 @@ slice-aggregate-sound-counts c =
 sound-counts-requires : tie.Need-sound-counts-requires
 sound-counts-requires c κs =
     let start = c .before .before in
-    (start .pre .0, (start .pre .1, length-take-le (2 * start .args .epsilon) (start .args .self .kn) (omega (arith, long start))))
+    (start .pre .0, (start .pre .1 .0, (start .pre .1 .1, length-take-le (2 * start .args .epsilon) (start .args .self .kn) (omega (arith, long start)))))
 
 returns : tie.Need-returns
 returns c =
     let start = c .before .before .before in
-    c .sound-counts .ensures ∙ sound-trimmed (start .args .epsilon) (stampOf (start .args .self)) (start .pre .1) (long start) (start .args .n)
+    c .sound-counts .ensures ∙ sound-trimmed (start .args .epsilon) (stampOf (start .args .self)) (start .pre .1 .1) (long start) (start .args .n)
 
 pub is-sound-spec : {M : Type 1} → statement M
 is-sound-spec =

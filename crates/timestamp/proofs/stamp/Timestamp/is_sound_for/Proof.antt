@@ -25,12 +25,12 @@ is-sound-requires c κs = search needs
 returns : tie.Need-returns
 returns c =
     let start = c .before .before .before in
-    unsound-tables _ _ (start .pre .1 .1) (long start) _ _ _ (sym (c .before .is-sound .ensures) ∙ not-true _ (c .if1 .taken))
+    unsound-tables _ _ (start .pre .1 .1 .1) (long start) _ _ _ (sym (c .before .is-sound .ensures) ∙ not-true _ (c .if1 .taken))
 
 returns-2 : tie.Need-returns-2
 returns-2 c =
     let start = c .before .before .before .before in
-    tables-past _ _ (start .pre .1 .1) (long start) _ _ _ (sound (c .before)) (c .if2 .taken)
+    tables-past _ _ (start .pre .1 .1 .1) (long start) _ _ _ (sound (c .before)) (c .if2 .taken)
 
 next-clock-requires : tie.Need-next-clock-requires
 next-clock-requires c κs = c .if2 .left
@@ -38,7 +38,7 @@ next-clock-requires c κs = c .if2 .left
 returns-3 : tie.Need-returns-3
 returns-3 c =
     let start = c .before .before .before .before .before .before in
-    tables-other _ _ (start .pre .1 .1) (long start) _ _ _ (sound (c .before .before .before)) (c .before .before .if2 .left) (λ e. c .if3 .taken (c .before .next-clock .ensures ∙ e))
+    tables-other _ _ (start .pre .1 .1 .1) (long start) _ _ _ (sound (c .before .before .before)) (c .before .before .if2 .left) (λ e. c .if3 .taken (c .before .next-clock .ensures ∙ e))
 
 slice-aggregate-counts-at-most : tie.Need-slice-aggregate-counts-at-most
 slice-aggregate-counts-at-most c = search needs
@@ -59,7 +59,7 @@ returns-4 : tie.Need-returns-4
 returns-4 c =
     let start = c .before .before .before .before .before .before .before .before in
     c .counts-at-most .ensures
-    ∙ tables-above _ _ (start .pre .1 .1) (long start) _ _ _ (sound (c .before .before .before .before .before)) (c .before .before .before .before .if2 .left)
+    ∙ tables-above _ _ (start .pre .1 .1 .1) (long start) _ _ _ (sound (c .before .before .before .before .before)) (c .before .before .before .before .if2 .left)
     (sym (c .before .before .before .next-clock .ensures) ∙ c .before .before .if3 .left)
 
 pub is-sound-for-spec : {M : Type 1} → statement M
