@@ -16,7 +16,7 @@ use Rattle.model.specs.Holdback.{heldBytes}
 use Rattle.model.specs.Tick.{Input, Output, heardOf, newStamp, deliveredOf, takenCount, acceptance, tick}
 use Rattle.theory.specs.Demand2.{heardBefore, AnyState, Demand2Any}
 use Rattle.lemmas.proofs.Counts.{trimmed-widened}
-use Rattle.lemmas.proofs.OneTick.{Accepted, accepted-call, opening, hear-length, new-sound, new-tables, tables-are, verdicts-are, verdict-byte, delivered-bytes}
+use Rattle.lemmas.proofs.OneTick.{Accepted, accepted-call, opening, hear-length, new-sound, new-tables, tables-are, verdicts-are, verdict-byte, sent-is, delivered-bytes, sent-bytes}
 
 taken-is : (i : Input) → Accepted i → tick i .answer .taken ≡ takenCount (heardOf i .verdicts)
 unfolding acceptance
@@ -50,6 +50,9 @@ demand2-any i h =
     record {
       verdict = λ k entry e. verdict-byte i a k entry e;
       taken = taken-is i a ∙ ap takenCount (sym (verdicts-front i a));
-      delivered = delivered-is i a ∙ sym (ap length (delivered-bytes i a) ∙ length-map (deliveredOf i) encode);
+      delivered = delivered-is i a;
+      delivery = delivered-bytes i a;
+      sent = sent-is i a;
+      outgoing = sent-bytes i a;
       bounded = bounds-kept i a;
     }

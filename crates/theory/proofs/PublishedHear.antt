@@ -24,7 +24,7 @@ use Rattle.model.specs.Judge.{Heard, hear, hearOne, judge, judgeQuestions, plac
 use Rattle.model.specs.Tick.{takenCount}
 use Rattle.model.specs.Published.{Message, sameMessage, newOnes}
 use Rattle.model.specs.Run.{Origin, sentBy}
-use Rattle.theory.specs.Demand2.{reduced, reducedFrame, messagesHeard}
+use Rattle.theory.specs.Demand2.{reduced, reducedFrame, messagesHeard, verdictsOn}
 use Rattle.theory.specs.Demand3.{isFrom}
 use Rattle.lemmas.proofs.Bounds.{FrameOk}
 use Rattle.lemmas.proofs.RoundTrip.{decode-encode}
@@ -287,3 +287,37 @@ new-ones-again seen m ms e = rw e
 pub new-ones-new : (seen : List Message) (m : Message) (ms : List Message) → any (sameMessage m) seen ≡ false → newOnes seen (m ∷ ms) ≡ m ∷ newOnes (m ∷ seen) ms
 unfolding newOnes
 new-ones-new seen m ms e = rw e
+
+pub verdicts-again : (seen : List Message) (m : Message) (ms : List Message) → any (sameMessage m) seen ≡ true → verdictsOn seen (m ∷ ms) ≡ 16 ∷ verdictsOn seen ms
+unfolding verdictsOn
+verdicts-again seen m ms e = rw e
+
+pub verdicts-new : (seen : List Message) (m : Message) (ms : List Message) → any (sameMessage m) seen ≡ false → verdictsOn seen (m ∷ ms) ≡ 0 ∷ verdictsOn (m ∷ seen) ms
+unfolding verdictsOn
+verdicts-new seen m ms e = rw e
+
+-- general: one element more between two lists
+one-more : (l : List ℕ) (x : ℕ) (rest l′ all : List ℕ) → l′ ≡ l ++ (x ∷ []) → all ≡ x ∷ rest → l′ ++ rest ≡ l ++ all
+one-more l x rest l′ all e e′ = rw (e, e′) (append-assoc l (x ∷ []) rest)
+
+-- the verdicts: 0 for what is new, 16 for what is not
+pub news-verdicts :
+    (s : Setup) (v : ℕ) (sent : List (Option Message)) {heard : ℕ → Bool} {h : Heard} {entries : List (List ℕ)} {origins : List Origin} {fresh : List Message}
+    (seen : List Message) → Told sent → News s v sent heard h entries origins fresh → SeenIs sent heard seen
+    → hear s (v % s .modulus) h entries .verdicts ≡ h .verdicts ++ verdictsOn seen (messagesHeard sent origins)
+unfolding hear messagesHeard verdictsOn
+news-verdicts s v sent {h} seen told none-left is = sym (append-nil (h .verdicts))
+news-verdicts s v sent {heard} {h} seen told (again {bytes} {origins} k m a old e rest) is =
+    news-verdicts s v sent seen told rest (seen-again sent heard seen k old is)
+    ∙ one-more (h .verdicts) 16 (verdictsOn seen (messagesHeard sent origins)) (hearOne s (v % s .modulus) h bytes .verdicts)
+    (verdictsOn seen (messagesHeard sent (sentBy k ∷ origins)))
+    (hear-one-verdict s (v % s .modulus) h bytes ∙ ap (λ (n : ℕ). h .verdicts ++ (n ∷ [])) e)
+    (ap (verdictsOn seen) (heard-cons sent k m origins (a .at))
+    ∙ verdicts-again seen m (messagesHeard sent origins) (seen-any sent heard seen told is k m (a .at) ∙ old))
+news-verdicts s v sent {heard} {h} seen told (new {bytes} {origins} k m a old e rest) is =
+    news-verdicts s v sent (m ∷ seen) told rest (seen-new sent heard seen k m (a .at) is)
+    ∙ one-more (h .verdicts) 0 (verdictsOn (m ∷ seen) (messagesHeard sent origins)) (hearOne s (v % s .modulus) h bytes .verdicts)
+    (verdictsOn seen (messagesHeard sent (sentBy k ∷ origins)))
+    (hear-one-verdict s (v % s .modulus) h bytes ∙ ap (λ (n : ℕ). h .verdicts ++ (n ∷ [])) e)
+    (ap (verdictsOn seen) (heard-cons sent k m origins (a .at))
+    ∙ verdicts-new seen m (messagesHeard sent origins) (seen-any sent heard seen told is k m (a .at) ∙ old))

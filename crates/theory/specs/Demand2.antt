@@ -5,16 +5,16 @@ use mathlib.Core.Bool.{Bool, true, false, cond}
 use mathlib.Core.List.{List, [], _∷_, _++_, map}
 use mathlib.Core.Option.{Option, none, some}
 use lib.ListN.{length, take, getD, set, getElem?}
-use Rattle.laws.specs.Lists.{overlay}
+use Rattle.laws.specs.Lists.{any, overlay}
 use Rattle.model.specs.Setup.{Setup}
 use Rattle.model.specs.Timestamp.{Timestamp, trimmed, widened, soundTables}
 use Rattle.model.specs.Frame.{Frame, encode}
 use Rattle.model.specs.Batch.{batchEntries}
-use Rattle.model.specs.Holdback.{heldBytes, encodeFrames}
+use Rattle.model.specs.Holdback.{heldBytes, encodeFrames, encodeHoldback}
 use Rattle.model.specs.Question.{firstNo}
 use Rattle.model.specs.Judge.{Heard, hear, judgeQuestions}
-use Rattle.model.specs.Tick.{Input, openingStamp, openingQueue, takenCount, tick}
-use Rattle.model.specs.Published.{Event, Message, Process, newOnes, eventOf, messageOf, deliveredAt, advanced, started}
+use Rattle.model.specs.Tick.{Input, holdbackSize, openingStamp, openingQueue, sentBytes, deliveredOf, takenCount, tick}
+use Rattle.model.specs.Published.{Event, Message, Process, inOrder, sameMessage, newOnes, eventOf, messageOf, deliveredAt, advanced, started}
 use Rattle.model.specs.Run.{Node, Origin, sentBy, stale, Call, Done, isAccepted, runFrom, atStart}
 use Rattle.theory.specs.Premises.{goodStart, largestClock, keeps, Fresh, noneStale}
 
@@ -32,7 +32,12 @@ pub record AnyState (i : Input) : Type 0 where
       → getD (tick i .verdicts) k 0 ≡ firstNo (judgeQuestions (i .setup) (i .clock) (heardBefore i k .queue) entry)
   -- "the figures count what they say": taken counts the 0s, handed out the frames of the hand-out
   pub taken : tick i .answer .taken ≡ takenCount (take (length (batchEntries (i .batch))) (tick i .verdicts))
-  pub delivered : tick i .answer .delivered ≡ length (heldBytes (i .setup .epsilon) (tick i .delivery))
+  pub delivered : tick i .answer .delivered ≡ length (deliveredOf i)
+  -- and these are, byte for byte, the frames that are due
+  pub delivery : heldBytes (i .setup .epsilon) (tick i .delivery) ≡ map encode (deliveredOf i)
+  -- "outgoing length (0 if none)": the bytes of the frame sent, none where nothing is to be sent
+  pub sent : tick i .answer .sent ≡ length (sentBytes i)
+  pub outgoing : take (tick i .answer .sent) (tick i .outgoing) ≡ sentBytes i
   -- "Stamps stay within their bounds after every tick"
   pub bounded :
       soundTables (i .setup .n) (i .setup .epsilon) (i .setup .modulus) ((i .clock + 1) % i .setup .modulus)
@@ -57,20 +62,31 @@ messagesHeard sent [] = []
 messagesHeard sent (sentBy k ∷ os) = messagesFrom (getElem? sent k) (messagesHeard sent os)
 messagesHeard sent (stale ∷ os) = messagesHeard sent os
 
--- what one call makes of a process of the published program
+-- 01: "verdict 0" for a message that is new to the process, 16 for a repeat, which it passes over; in the order heard
+unfoldable pub verdictsOn : List Message → List Message → List ℕ
+verdictsOn seen [] = []
+verdictsOn seen (m ∷ ms) = cond (any (sameMessage m) seen) (16 ∷ verdictsOn seen ms) (0 ∷ verdictsOn (m ∷ seen) ms)
+
+-- what one call makes of a process of the published program: the messages that are new to it and the verdicts on all that it hears,
+-- its event, the message that it would send with the call's payload, what it delivers, and what it still holds
 pub record Outcome : Type 0 where
-  pub fresh : List Message
+  pub newMessages : List Message
+  pub verdicts : List ℕ
   pub last : Event
   pub message : Message
   pub delivered : List Message
+  pub buffer : List Message
 
+-- the same, for the messages that the call's entries come from
 unfoldable pub outcomeOf : Setup → List (Option Message) → Process → Done → Outcome
 outcomeOf s sent p d =
     record {
-      fresh = newOnes (p .received) (messagesHeard sent (d .call .origins));
+      newMessages = newOnes (p .received) (messagesHeard sent (d .call .origins));
+      verdicts = verdictsOn (p .received) (messagesHeard sent (d .call .origins));
       last = eventOf (s .epsilon) (d .clock) p (messagesHeard sent (d .call .origins));
       message = messageOf (s .epsilon) (d .clock) p (messagesHeard sent (d .call .origins)) (d .call .payload);
       delivered = deliveredAt (s .epsilon) (s .delta) (d .clock) p (messagesHeard sent (d .call .origins));
+      buffer = advanced (s .epsilon) (s .delta) (d .clock) p (messagesHeard sent (d .call .origins)) .buffer;
     }
 
 -- an accepted call is an event of its process, a refused one is none
@@ -109,7 +125,12 @@ pub record SameAs (s : Setup) (o : Outcome) (d : Done) : Type 0 where
   pub tables : d .output .answer .tables ≡ widened (reduced (s .modulus) (o .last))
   pub repair : d .output .answer .repair ≡ 0
   -- each message heard is taken once: "the published program passes over a repeat"
-  pub taken : d .output .answer .taken ≡ length (o .fresh)
+  pub taken : d .output .answer .taken ≡ length (o .newMessages)
+  pub verdicts : d .output .verdicts ≡ overlay (o .verdicts) (d .call .verdicts)
+  -- the shelf holds what the process still holds, in order
+  pub holdback :
+      d .output .holdback
+      ≡ encodeHoldback (holdbackSize s) (map (reducedFrame (s .modulus)) (inOrder (s .epsilon) (o .buffer)))
   pub outgoing :
       d .output .outgoing
       ≡ overlay (cond (d .call .send) (encode (reducedFrame (s .modulus) (o .message))) []) (d .call .outgoing)
