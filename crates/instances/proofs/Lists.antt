@@ -1,21 +1,20 @@
 -- The premises can be met: a list of calls from damage in every memory, and one from fresh stations, by computation.
 -- Assumes nothing.
-use Prim.Native.Nat.{ℕ, zero, suc, _%_}
-use native.Mathlib.Omega.{arith}
-use mathlib.Core.Path.{_≡_, refl, subst}
+use Prim.Native.Nat.{ℕ, _-_, _%_}
+use mathlib.Core.Path.{_≡_, refl}
 use mathlib.Core.Bool.{Bool, true, false}
 use mathlib.Core.List.{List, [], _∷_, _++_, map}
-use mathlib.Core.Option.{Option, none, some, Option·some-injective}
+use mathlib.Core.Option.{Option, none, some}
 use lib.ListN.{length, take, replicate, getElem?}
 use Rattle.laws.specs.Lists.{largest, select, sameList, joined}
 use Rattle.model.specs.Setup.{Setup}
-use Rattle.model.specs.Timestamp.{Timestamp, fresh, widened}
+use Rattle.model.specs.Timestamp.{Timestamp}
 use Rattle.model.specs.Frame.{Frame, encode}
 use Rattle.model.specs.Holdback.{heldBytes, encodeHoldback}
 use Rattle.model.specs.Tick.{holdbackSize}
 use Rattle.model.specs.Run.{Node, Origin, sentBy, stale, Call, Done, World, inputOf, isAccepted, movedClock, nodeAfter, outputOf, doneOf, act, atStart, runFrom, sends, messageBytes}
 use Rattle.model.proofs.Computing.{computing}
-use Rattle.theory.specs.Premises.{withOwn, sameSetup, together, distinct, goodStart, largestClock, staleUntil, entriesAllowed, acceptedWell, allowed, keeps, noneStale, isSent, Fresh}
+use Rattle.theory.specs.Premises.{withOwn, sameSetup, together, distinct, goodStart, largestClock, staleUntil, entriesAllowed, acceptedWell, allowed, keeps, noneStale, isSent, sameTimestamp, isFresh, allFresh}
 use Rattle.theory.specs.Demand2.{publishAll, publishedStart, Matched}
 use Rattle.theory.specs.Demand3.{coveredFrom, coveredFrame, Promised}
 use Rattle.theory.proofs.Demand2.{demand2-fresh}
@@ -23,7 +22,7 @@ use Rattle.theory.proofs.Demand3.{demand3}
 
 -- every definition of the runs and the premises, opened at once
 unfoldable running : Unit {0}
-unfolding keeps allowed acceptedWell sameSetup withOwn together distinct goodStart entriesAllowed staleUntil largestClock largest sameList noneStale isSent coveredFrame coveredFrom act atStart runFrom doneOf outputOf nodeAfter movedClock isAccepted inputOf sends messageBytes computing
+unfolding keeps allowed acceptedWell sameSetup withOwn together distinct goodStart entriesAllowed staleUntil largestClock largest sameList noneStale isSent sameTimestamp isFresh allFresh coveredFrame coveredFrom act atStart runFrom doneOf outputOf nodeAfter movedClock isAccepted inputOf sends messageBytes computing
 running = tt
 
 -- n 2, ε 1, δ 1 and the least B
@@ -187,10 +186,15 @@ damaged-delivers = refl
 pub damaged-promised : Promised group (largestClock damagedNodes) (runFrom (atStart damagedNodes) damagedCalls .past)
 damaged-promised = demand3 group damagedNodes damagedCalls damaged-start damaged-keeps
 
--- the same stations, fresh
+-- the same stations, fresh, with nonsense past the 2ε counts and behind the count of the shelf
 abbrev freshNode : ℕ → Node
 freshNode own =
-    record { own = own; clock = 0; tables = widened (fresh 1 0); holdback = encodeHoldback (holdbackSize group) [] }
+    record {
+      own = own;
+      clock = 0;
+      tables = record { r = 0; c = 0; kn = 0 ∷ 1 ∷ replicate 30 255 };
+      holdback = 0 ∷ 0 ∷ replicate (holdbackSize group - 2) 170;
+    }
 
 abbrev freshNodes : List Node
 freshNodes = freshNode 0 ∷ freshNode 1 ∷ []
@@ -217,15 +221,9 @@ pub fresh-start : goodStart group freshNodes ≡ true
 unfolding running
 fresh-start = refl
 
--- what is fresh of a node
-abbrev IsFresh : Node → Type 0
-IsFresh node =
-    (node .tables ≡ widened (fresh 1 (node .clock % 8))) × (node .holdback ≡ encodeHoldback (holdbackSize group) [])
-
-pub fresh-nodes : Fresh group freshNodes
-fresh-nodes zero node e = subst IsFresh (Option·some-injective (freshNode 0) node e) (refl, refl)
-fresh-nodes (suc zero) node e = subst IsFresh (Option·some-injective (freshNode 1) node e) (refl, refl)
-fresh-nodes (suc (suc i)) node e = absurd (let z : _≡_ {A = ℕ} 0 1 = cc in omega arith)
+pub fresh-nodes : allFresh group freshNodes ≡ true
+unfolding running
+fresh-nodes = refl
 
 pub fresh-keeps : keeps group (largestClock freshNodes) (atStart freshNodes) freshCalls ≡ true
 unfolding running

@@ -16,7 +16,7 @@ use Rattle.model.specs.Judge.{Heard, hear, judgeQuestions}
 use Rattle.model.specs.Tick.{Input, holdbackSize, openingStamp, openingQueue, sentBytes, deliveredOf, takenCount, tick}
 use Rattle.model.specs.Published.{Event, Message, Process, inOrder, sameMessage, newOnes, eventOf, messageOf, deliveredAt, advanced, started}
 use Rattle.model.specs.Run.{Node, Origin, sentBy, stale, Call, Done, isAccepted, runFrom, atStart}
-use Rattle.theory.specs.Premises.{goodStart, largestClock, keeps, Fresh, noneStale}
+use Rattle.theory.specs.Premises.{goodStart, largestClock, keeps, allFresh, noneStale}
 
 -- what a tick has heard before its entry k
 unfoldable pub heardBefore : Input → ℕ → Heard
@@ -148,7 +148,7 @@ Matched s w d =
 -- From fresh stations: of every accepted call of the list
 abbrev pub Demand2Fresh : Type 0
 Demand2Fresh =
-    (s : Setup) (nodes : List Node) (calls : List Call) → goodStart s nodes ≡ true → Fresh s nodes
+    (s : Setup) (nodes : List Node) (calls : List Call) → goodStart s nodes ≡ true → allFresh s nodes ≡ true
     → keeps s (largestClock nodes) (atStart nodes) calls ≡ true → noneStale (runFrom (atStart nodes) calls .past) ≡ true
     → (j : ℕ) (d : Done) → getElem? (runFrom (atStart nodes) calls .past) j ≡ some d → isAccepted (d .output) ≡ true
     → Matched s (publishAll s (publishedStart s nodes) (take j (runFrom (atStart nodes) calls .past))) d

@@ -1,6 +1,5 @@
 -- 01, "Premises of demands 2 and 3". Each is a test, so that a given list can be tried.
 use Prim.Native.Nat.{ℕ, _+_, _%_}
-use mathlib.Core.Path.{_≡_}
 use mathlib.Core.Bool.{Bool, true, false, _&&_, _||_, not}
 use mathlib.Core.List.{List, [], _∷_, map}
 use mathlib.Core.Option.{Option, none, some}
@@ -8,8 +7,8 @@ use lib.Dec.{leb, eqb}
 use lib.ListN.{length, getElem?}
 use Rattle.laws.specs.Lists.{every, apart, largest, sameList}
 use Rattle.model.specs.Setup.{Setup, inLimits}
-use Rattle.model.specs.Timestamp.{fresh, widened}
-use Rattle.model.specs.Holdback.{encodeHoldback}
+use Rattle.model.specs.Timestamp.{Timestamp, fresh, trimmed}
+use Rattle.model.specs.Frame.{twoAt}
 use Rattle.model.specs.Batch.{batchEntries}
 use Rattle.model.specs.Tick.{holdbackSize}
 use Rattle.model.specs.Run.{Node, Origin, sentBy, stale, Call, Done, World, act, doneOf, isAccepted, sends, messageBytes}
@@ -91,12 +90,20 @@ unfoldable pub keeps : Setup → ℕ → World → List Call → Bool
 keeps s x w [] = true
 keeps s x w (call ∷ calls) = allowed s x w call && keeps s x (act w call) calls
 
+-- the same r, c and counts
+unfoldable pub sameTimestamp : Timestamp → Timestamp → Bool
+sameTimestamp t u = eqb (t .r) (u .r) && (eqb (t .c) (u .c) && sameList (t .kn) (u .kn))
+
+-- 01, demand 2: a "station is fresh at its own clock, its shelf empty". The places past the 2ε counts, and the bytes behind the
+-- count of the shelf, are ignored
+unfoldable pub isFresh : Setup → Node → Bool
+isFresh s node =
+    sameTimestamp (trimmed (s .epsilon) (node .tables)) (fresh (s .epsilon) (node .clock % s .modulus))
+    && eqb (twoAt (node .holdback) 0) 0
+
 -- 01, demand 2: "every station is fresh at its own clock, its shelf empty"
-abbrev pub Fresh : Setup → List Node → Type 0
-Fresh s nodes =
-    (i : ℕ) (node : Node) → getElem? nodes i ≡ some node
-    → (node .tables ≡ widened (fresh (s .epsilon) (node .clock % s .modulus)))
-    × (node .holdback ≡ encodeHoldback (holdbackSize s) [])
+unfoldable pub allFresh : Setup → List Node → Bool
+allFresh s nodes = every (isFresh s) nodes
 
 -- 01, demand 2: "no older frame exists"
 unfoldable pub isSent : Origin → Bool
