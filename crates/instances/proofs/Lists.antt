@@ -12,7 +12,7 @@ use Rattle.model.specs.Timestamp.{Timestamp}
 use Rattle.model.specs.Frame.{Frame, encode}
 use Rattle.model.specs.Holdback.{heldBytes, encodeHoldback}
 use Rattle.model.specs.Tick.{holdbackSize}
-use Rattle.model.specs.Run.{Node, Origin, sentBy, stale, Call, Done, World, inputOf, isAccepted, movedClock, nodeAfter, outputOf, doneOf, act, atStart, runFrom, sends, messageBytes}
+use Rattle.model.specs.Run.{Node, Source, sentBy, stale, Call, Done, World, inputOf, isAccepted, movedClock, nodeAfter, outputOf, doneOf, act, atStart, runFrom, sends, messageBytes}
 use Rattle.model.proofs.Computing.{computing}
 use Rattle.theory.specs.Premises.{withOwn, sameSetup, together, distinct, goodStart, largestClock, staleUntil, entriesAllowed, acceptedWell, allowed, keeps, noneStale, isSent, sameTimestamp, isFresh, allFresh}
 use Rattle.theory.specs.Demand2.{publishAll, publishedStart, Matched}
@@ -52,10 +52,10 @@ damagedNodes =
     ∷ record { own = 1; clock = 0; tables = likelyTables; holdback = badQueue }
     ∷ []
 
--- what a call hears: an entry and its origin
+-- what a call hears: an entry and its source
 pub record Entry : Type 0 where
   pub bytes : List ℕ
-  pub origin : Origin
+  pub source : Source
 
 abbrev batchOf : List Entry → List ℕ
 batchOf entries = length entries ∷ joined (λ (e : Entry). length (e .bytes) ∷ e .bytes) entries
@@ -68,7 +68,7 @@ calling node clock send payload entries =
       setup = withOwn group node;
       clock = clock % 8;
       batch = batchOf entries;
-      origins = map (λ (e : Entry). e .origin) entries;
+      sources = map (λ (e : Entry). e .source) entries;
       send = send;
       payload = payload;
       outgoing = replicate 71 3;
@@ -87,7 +87,7 @@ failing node s clock =
       setup = s;
       clock = clock;
       batch = [];
-      origins = [];
+      sources = [];
       send = true;
       payload = [];
       outgoing = [];
@@ -101,18 +101,18 @@ bytesOf none = []
 bytesOf (some d) = messageBytes d
 
 abbrev from : World → ℕ → Entry
-from w k = record { bytes = bytesOf (getElem? (w .past) k); origin = sentBy k }
+from w k = record { bytes = bytesOf (getElem? (w .past) k); source = sentBy k }
 
 -- an older frame that is taken, and one that is not
 abbrev old : Entry
 old =
     record {
       bytes = encode (record { station = 0; stamp = record { r = 1; c = 0; kn = 1 ∷ 1 ∷ [] }; payload = 7 ∷ [] });
-      origin = stale;
+      source = stale;
     }
 
 abbrev scrap : Entry
-scrap = record { bytes = 1 ∷ 2 ∷ []; origin = stale }
+scrap = record { bytes = 1 ∷ 2 ∷ []; source = stale }
 
 -- calls up to clock 3: older frames, and two calls that fail a check (clock 99; a setup of no nodes)
 abbrev early : List Call

@@ -215,7 +215,7 @@ leaves-queue s node call c =
 written-is :
     (s : Setup) (node : Node) (call : Call) → Due-call s node call
     → written s (doneOf node call) ≡ writeBy 0 (eventFrame s (doneOf node call)) (call .outgoing)
-unfolding written eventFrame doneOf width
+unfolding written eventFrame doneOf width withOwn
 written-is s node call c =
     written-to (withOwn s (node .own)) (eventFrame s (doneOf node call)) (call .outgoing)
     (record {

@@ -44,10 +44,10 @@ use Rattle.theory.proofs.PublishedRun.{SentAs, Ranked, Waits, Twin, hea
 
 -- the messages heard in a call, and the new ones among them
 abbrev pub heardHere : List (Option Message) → Call → List Message
-heardHere sent call = messagesHeard sent (call .origins)
+heardHere sent call = messagesHeard sent (call .sources)
 
 abbrev pub newHere : List (Option Message) → Call → Process → List Message
-newHere sent call p = newOnes (p .received) (messagesHeard sent (call .origins))
+newHere sent call p = newOnes (p .received) (messagesHeard sent (call .sources))
 
 -- what the hearing starts from
 abbrev pub startHere : Setup → Node → Heard
@@ -84,11 +84,11 @@ module _ (s : Setup) (w : World) (sent : List (Option Message)) (call : Call) (n
   unfolding any
   heard-start k = or-false (heardAt (w .past) (call .node) k)
 
-  news-here : News (withOwn s (node .own)) (suc (node .clock)) sent (heardTo (w .past) call 0) (startHere s node) (batchEntries (call .batch)) (call .origins) (newHere sent call p)
+  news-here : News (withOwn s (node .own)) (suc (node .clock)) sent (heardTo (w .past) call 0) (startHere s node) (batchEntries (call .batch)) (call .sources) (newHere sent call p)
   unfolding stateAt hear
   news-here =
       news-of s w sent good sent-as (node .own) (suc (node .clock)) (nextStamp s node) (around s 0 0 (settles-fresh s) w call node good legal)
-      (batchEntries (call .batch)) (call .origins) (heardTo (w .past) call 0) (startHere s node) (p .received)
+      (batchEntries (call .batch)) (call .sources) (heardTo (w .past) call 0) (startHere s node) (p .received)
       (loop-at s 0 0 (settles-fresh s) w call node good legal 0 (omega arith))
       (seen-same sent (heardAt (w .past) (call .node)) (heardTo (w .past) call 0) (p .received) heard-start (twin .received)) (legal .lengths)
       (entry-at s 0 0 (settles-fresh s) w call node good legal)
@@ -329,7 +329,7 @@ module _ (s : Setup) (w : World) (sent : List (Option Message)) (call : Call) (n
           (ap (λ (x : ℕ). suc x % s .modulus) (after-clock s node call due-call)
           ∙ sym (rw (setup-at s node call due-call, clock-at s node call due-call, mod-add-left, add-one) refl))
 
-  heard-here : (k : ℕ) → heardAt (w .past ++ (doneOf node call ∷ [])) (call .node) k ≡ (heardAt (w .past) (call .node) k || any (isFrom k) (call .origins))
+  heard-here : (k : ℕ) → heardAt (w .past ++ (doneOf node call ∷ [])) (call .node) k ≡ (heardAt (w .past) (call .node) k || any (isFrom k) (call .sources))
   heard-here k =
       heard-snoc (w .past) (doneOf node call) (call .node) k
       ∙ ap (λ (b : Bool). heardAt (w .past) (call .node) k || b) (unfold heardIn doneOf in (rw (legal .accepted, eq-eqb (call .node) (call .node) refl) refl))
@@ -340,12 +340,12 @@ module _ (s : Setup) (w : World) (sent : List (Option Message)) (call : Call) (n
       record {
         into = λ m t.
             elim (List·Memᴰ·append-cases (p .received) t) [
-              | inl q ↦ let (k, at, e) = twin .received .into m q in (k, grown-at sent x k at, heard-here k ∙ or-left (any (isFrom k) (call .origins)) e)
+              | inl q ↦ let (k, at, e) = twin .received .into m q in (k, grown-at sent x k at, heard-here k ∙ or-left (any (isFrom k) (call .sources)) e)
               | inr q ↦
                   let (k, bytes, a, first, there) = news-from (withOwn s (node .own)) (suc (node .clock)) sent news-here m q in
                   (k, grown-at sent x k (a .at), heard-here k ∙ or-right (heardAt (w .past) (call .node) k) there)
             ];
-        back = λ k m at e. back k m at (or-cases (heardAt (w .past) (call .node) k) (any (isFrom k) (call .origins)) (sym (heard-here k) ∙ e));
+        back = λ k m at e. back k m at (or-cases (heardAt (w .past) (call .node) k) (any (isFrom k) (call .sources)) (sym (heard-here k) ∙ e));
       }
     where
       known-before : (k : ℕ) (m : Message) → k < length sent → getElem? (sent ++ (x ∷ [])) k ≡ some (some m) → getElem? sent k ≡ some (some m)
@@ -353,7 +353,7 @@ module _ (s : Setup) (w : World) (sent : List (Option Message)) (call : Call) (n
 
       back :
           (k : ℕ) (m : Message) → getElem? (sent ++ (x ∷ [])) k ≡ some (some m)
-          → (heardAt (w .past) (call .node) k ≡ true) ⊎ (any (isFrom k) (call .origins) ≡ true) → List·Memᴰ m (p .received ++ newHere sent call p)
+          → (heardAt (w .past) (call .node) k ≡ true) ⊎ (any (isFrom k) (call .sources) ≡ true) → List·Memᴰ m (p .received ++ newHere sent call p)
       back k m at (inl h) =
           Memᴰ·append-left (newHere sent call p)
           (twin .received .back k m (known-before k m (omega (arith, good .heard-before (call .node) k h, sent-as .same-length)) at) h)

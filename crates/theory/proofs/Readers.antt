@@ -16,7 +16,7 @@ use Rattle.model.specs.Setup.{Setup, width, inLimits, depth, holdbackLength, lo
 use Rattle.model.specs.Timestamp.{Timestamp, trimmed, widened}
 use Rattle.model.specs.Frame.{Frame, encode, decode, wellFormed, frameEnd, twoAt, twoBytes}
 use Rattle.model.specs.Question.{ask, firstNo, askSetup, askRange, askStamp, frameQuestions}
-use Rattle.model.specs.Codec.{askPayload, readQuestions, readBy, read, frameOf, writeQuestions, writeBy, write}
+use Rattle.model.specs.Codec.{askPayload, readQuestions, readBy, read, frameOf, writeFrameQuestions, writeBy, writeFrame, write}
 use Rattle.model.specs.Holdback.{cutFrames, heldBytes, held, passes, soundHoldback, encodeFrames, encodeHoldback}
 use Rattle.model.specs.Tick.{holdbackSize}
 use Rattle.lemmas.proofs.Bounds.{FrameOk}
@@ -30,8 +30,8 @@ pub record Written (s : Setup) (f : Frame) (buffer : List ℕ) : Type 0 where
   pub frame : FrameOk s f
   pub fits : length (encode f) ≤ length buffer
 
-pub written-from : (s : Setup) (f : Frame) (buffer : List ℕ) → length (f .stamp .kn) ≡ width (s .epsilon) → firstNo (writeQuestions s f buffer) ≡ 0 → Written s f buffer
-unfolding writeQuestions askSetup askPayload askRange askStamp
+pub written-from : (s : Setup) (f : Frame) (buffer : List ℕ) → length (f .stamp .kn) ≡ width (s .epsilon) → firstNo (writeFrameQuestions s f buffer) ≡ 0 → Written s f buffer
+unfolding writeFrameQuestions askSetup askPayload askRange askStamp
 written-from s f buffer wide e =
     let room = ask (leb (length (encode f)) (length buffer)) 6 in
     let q1 = none-no (inLimits s) 0 (askPayload (f .payload) ∷ askRange s f ∷ askStamp s f ∷ room ∷ []) e in
@@ -43,8 +43,8 @@ written-from s f buffer wide e =
       fits = leb-true (length (encode f)) (length buffer) (first-yes (leb (length (encode f)) (length buffer)) 5 [] (q12 .1));
     }
 
-pub written-to : (s : Setup) (f : Frame) (buffer : List ℕ) → Written s f buffer → write s f buffer ≡ writeBy 0 f buffer
-unfolding write writeQuestions askSetup askPayload askRange askStamp firstNo
+pub written-to : (s : Setup) (f : Frame) (buffer : List ℕ) → Written s f buffer → writeFrame s f buffer ≡ writeBy 0 f buffer
+unfolding writeFrame writeFrameQuestions askSetup askPayload askRange askStamp firstNo
 written-to s f buffer o =
     rw (
       o .setup,
@@ -56,9 +56,9 @@ written-to s f buffer o =
     )
 
 -- a number 0 says that no question got a no
-write-number : (s : Setup) (f : Frame) (buffer : List ℕ) → write s f buffer .number ≡ 0 → firstNo (writeQuestions s f buffer) ≡ 0
-unfolding write
-write-number s f buffer = go (firstNo (writeQuestions s f buffer))
+write-number : (s : Setup) (f : Frame) (buffer : List ℕ) → writeFrame s f buffer .number ≡ 0 → firstNo (writeFrameQuestions s f buffer) ≡ 0
+unfolding writeFrame
+write-number s f buffer = go (firstNo (writeFrameQuestions s f buffer))
   where
     go : (k : ℕ) → writeBy k f buffer .number ≡ 0 → k ≡ 0
     go zero e = refl
@@ -80,8 +80,8 @@ read-encoded s f setup ok =
 
 -- a written frame reads back the same
 pub read-written :
-    (s : Setup) (f : Frame) (buffer : List ℕ) → length (f .stamp .kn) ≡ width (s .epsilon) → write s f buffer .number ≡ 0
-    → read s (take (write s f buffer .size) (write s f buffer .buffer)) ≡ readBy 0 f
+    (s : Setup) (f : Frame) (buffer : List ℕ) → length (f .stamp .kn) ≡ width (s .epsilon) → writeFrame s f buffer .number ≡ 0
+    → read s (take (writeFrame s f buffer .size) (writeFrame s f buffer .buffer)) ≡ readBy 0 f
 read-written s f buffer wide e =
     let o = written-from s f buffer wide (write-number s f buffer e) in
     rw (written-to s f buffer o, take-overlay (encode f) buffer) (read-encoded s f (o .setup) (o .frame))
@@ -89,8 +89,8 @@ read-written s f buffer wide e =
 -- the writer's station, stamp and ticket come back; the places past the 2ε counts come back 0
 pub read-of-write :
     (s : Setup) (station : ℕ) (t : Timestamp) (payload buffer : List ℕ)
-    → write s (frameOf (s .epsilon) station t payload) buffer .number ≡ 0
-    → read s (take (write s (frameOf (s .epsilon) station t payload) buffer .size) (write s (frameOf (s .epsilon) station t payload) buffer .buffer))
+    → write s station t payload buffer .number ≡ 0
+    → read s (take (write s station t payload buffer .size) (write s station t payload buffer .buffer))
     ≡ record { number = 0; station = station; stamp = widened (trimmed (s .epsilon) t); payload = payload }
 unfolding frameOf
 read-of-write s station t payload buffer e =
@@ -99,7 +99,7 @@ read-of-write s station t payload buffer e =
 -- an accepted frame, its bytes below 256, is what the writer makes of its contents, in any buffer that is long enough
 pub write-of-read :
     (s : Setup) (bytes buffer : List ℕ) → every (λ b. ltb b 256) bytes ≡ true → read s bytes .number ≡ 0 → length bytes ≤ length buffer
-    → write s (frameOf (s .epsilon) (read s bytes .station) (read s bytes .stamp) (read s bytes .payload)) buffer
+    → write s (read s bytes .station) (read s bytes .stamp) (read s bytes .payload) buffer
     ≡ record { number = 0; size = length bytes; buffer = overlay bytes buffer }
 unfolding read readQuestions askSetup frameQuestions frameOf
 write-of-read s bytes buffer below e fits =

@@ -15,7 +15,7 @@ use Rattle.model.specs.Question.{firstNo}
 use Rattle.model.specs.Judge.{Heard, hear, judgeQuestions}
 use Rattle.model.specs.Tick.{Input, holdbackSize, openingStamp, openingQueue, sentBytes, deliveredOf, takenCount, tick}
 use Rattle.model.specs.Published.{Event, Message, Process, inOrder, sameMessage, newOnes, eventOf, messageOf, deliveredAt, advanced, started}
-use Rattle.model.specs.Run.{Node, Origin, sentBy, stale, Call, Done, isAccepted, runFrom, atStart}
+use Rattle.model.specs.Run.{Node, Source, sentBy, stale, Call, Done, isAccepted, runFrom, atStart}
 use Rattle.theory.specs.Premises.{goodStart, largestClock, keeps, allFresh, noneStale}
 
 -- what a tick has heard before its entry k
@@ -57,7 +57,7 @@ messagesFrom none rest = rest
 messagesFrom (some none) rest = rest
 messagesFrom (some (some m)) rest = m ∷ rest
 
-unfoldable pub messagesHeard : List (Option Message) → List Origin → List Message
+unfoldable pub messagesHeard : List (Option Message) → List Source → List Message
 messagesHeard sent [] = []
 messagesHeard sent (sentBy k ∷ os) = messagesFrom (getElem? sent k) (messagesHeard sent os)
 messagesHeard sent (stale ∷ os) = messagesHeard sent os
@@ -81,12 +81,12 @@ pub record Outcome : Type 0 where
 unfoldable pub outcomeOf : Setup → List (Option Message) → Process → Done → Outcome
 outcomeOf s sent p d =
     record {
-      newMessages = newOnes (p .received) (messagesHeard sent (d .call .origins));
-      verdicts = verdictsOn (p .received) (messagesHeard sent (d .call .origins));
-      last = eventOf (s .epsilon) (d .clock) p (messagesHeard sent (d .call .origins));
-      message = messageOf (s .epsilon) (d .clock) p (messagesHeard sent (d .call .origins)) (d .call .payload);
-      delivered = deliveredAt (s .epsilon) (s .delta) (d .clock) p (messagesHeard sent (d .call .origins));
-      buffer = advanced (s .epsilon) (s .delta) (d .clock) p (messagesHeard sent (d .call .origins)) .buffer;
+      newMessages = newOnes (p .received) (messagesHeard sent (d .call .sources));
+      verdicts = verdictsOn (p .received) (messagesHeard sent (d .call .sources));
+      last = eventOf (s .epsilon) (d .clock) p (messagesHeard sent (d .call .sources));
+      message = messageOf (s .epsilon) (d .clock) p (messagesHeard sent (d .call .sources)) (d .call .payload);
+      delivered = deliveredAt (s .epsilon) (s .delta) (d .clock) p (messagesHeard sent (d .call .sources));
+      buffer = advanced (s .epsilon) (s .delta) (d .clock) p (messagesHeard sent (d .call .sources)) .buffer;
     }
 
 -- an accepted call is an event of its process, a refused one is none
@@ -97,7 +97,7 @@ publishOn s w d true (some p) =
     record {
       processes =
           set (w .processes) (d .node)
-          (advanced (s .epsilon) (s .delta) (d .clock) p (messagesHeard (w .sent) (d .call .origins)));
+          (advanced (s .epsilon) (s .delta) (d .clock) p (messagesHeard (w .sent) (d .call .sources)));
       sent = w .sent ++ (cond (d .call .send) (some (outcomeOf s (w .sent) p d .message)) none ∷ []);
     }
 

@@ -11,7 +11,7 @@ use Rattle.model.specs.Timestamp.{Timestamp, fresh, trimmed}
 use Rattle.model.specs.Frame.{twoAt}
 use Rattle.model.specs.Batch.{batchEntries}
 use Rattle.model.specs.Tick.{holdbackSize}
-use Rattle.model.specs.Run.{Node, Origin, sentBy, stale, Call, Done, World, act, doneOf, isAccepted, sends, messageBytes}
+use Rattle.model.specs.Run.{Node, Source, sentBy, stale, Call, Done, World, act, doneOf, isAccepted, sends, messageBytes}
 
 -- 01: "One valid setup, the own number aside"
 unfoldable pub withOwn : Setup → ℕ → Setup
@@ -51,18 +51,18 @@ clockAt (some node) = node .clock
 
 -- 01: "a frame heard is one sent since, unaltered and not before its sending", and
 -- "a frame is heard while its sender's clock is at most δ past the sending", with the clocks as they stand after the call
-abbrev pub soundlySent : Setup → List Node → List ℕ → Option Done → Bool
-soundlySent s nodes entry none = false
-soundlySent s nodes entry (some d) =
+abbrev pub heardInTime : Setup → List Node → List ℕ → Option Done → Bool
+heardInTime s nodes entry none = false
+heardInTime s nodes entry (some d) =
     sends d && (sameList entry (messageBytes d) && leb (clockAt (getElem? nodes (d .node))) (d .clock + s .delta))
 
--- one entry of the batch of a call for v, by its origin: the calls before it, and the nodes after it
-abbrev pub entryAllowed : Setup → ℕ → List Done → List Node → ℕ → List ℕ → Origin → Bool
-entryAllowed s x past nodes v entry (sentBy k) = soundlySent s nodes entry (getElem? past k)
+-- one entry of the batch of a call for v, by its source: the calls before it, and the nodes after it
+abbrev pub entryAllowed : Setup → ℕ → List Done → List Node → ℕ → List ℕ → Source → Bool
+entryAllowed s x past nodes v entry (sentBy k) = heardInTime s nodes entry (getElem? past k)
 entryAllowed s x past nodes v entry stale = leb v (staleUntil s x)
 
 -- 01: "Each bundle entry of an accepted call comes from one earlier call, or is an older frame of any bytes"
-unfoldable pub entriesAllowed : Setup → ℕ → List Done → List Node → ℕ → List (List ℕ) → List Origin → Bool
+unfoldable pub entriesAllowed : Setup → ℕ → List Done → List Node → ℕ → List (List ℕ) → List Source → Bool
 entriesAllowed s x past nodes v [] [] = true
 entriesAllowed s x past nodes v [] (o ∷ os) = false
 entriesAllowed s x past nodes v (e ∷ es) [] = false
@@ -74,7 +74,7 @@ unfoldable pub acceptedWell : Setup → ℕ → World → Call → Done → Bool
 acceptedWell s x w call d =
     sameSetup (call .setup) (withOwn s (d .own)) && (eqb (call .clock) (d .clock % s .modulus)
     && (together (s .epsilon) (act w call .nodes)
-    && entriesAllowed s x (w .past) (act w call .nodes) (d .clock) (batchEntries (call .batch)) (call .origins)))
+    && entriesAllowed s x (w .past) (act w call .nodes) (d .clock) (batchEntries (call .batch)) (call .sources)))
 
 -- 01: "A refused call may stand anywhere, given its station's tables and shelf and whatever else"
 abbrev pub allowedFor : Setup → ℕ → World → Call → Option Node → Bool
@@ -106,9 +106,9 @@ unfoldable pub allFresh : Setup → List Node → Bool
 allFresh s nodes = every (isFresh s) nodes
 
 -- 01, demand 2: "no older frame exists"
-unfoldable pub isSent : Origin → Bool
+unfoldable pub isSent : Source → Bool
 isSent (sentBy k) = true
 isSent stale = false
 
 unfoldable pub noneStale : List Done → Bool
-noneStale past = every (λ d. not (isAccepted (d .output)) || every isSent (d .call .origins)) past
+noneStale past = every (λ d. not (isAccepted (d .output)) || every isSent (d .call .sources)) past
