@@ -1,13 +1,12 @@
 -- Demand 2 from fresh stations: every accepted call does what the published program does, reduced modulo B.
 -- Assumes nothing.
-use Prim.Native.Nat.{ℕ, zero, suc, _+_, _<_}
+use Prim.Native.Nat.{ℕ, suc, _+_, _<_}
 use native.Mathlib.Omega.{arith}
 use mathlib.Core.Path.{_≡_, refl, sym, ap, subst, _∙_}
 use mathlib.Core.Logic.{_⊎_, inl, inr}
 use mathlib.Core.Bool.{Bool, true, false, _&&_, _||_, not, cond}
 use mathlib.Core.List.{List, [], _∷_, _++_}
 use mathlib.Core.Option.{Option, none, some}
-use lib.Dec.{eqb·suc-zero}
 use lib.ListN.{length, take, set, getElem?}
 use lib.Seq.{take-append-le, take-append-seam}
 use borrow.Author.Tests.{ne-eqb}
@@ -15,10 +14,8 @@ use Rattle.laws.specs.Lists.{every}
 use Rattle.laws.proofs.Numbers.{eq-or-ne, clash, and-intro, and-left, and-right, or-cases, false-of-not}
 use Rattle.laws.proofs.Lists.{every-mem, every-append-left, every-append-right, getElem?-mem, getElem?-lt, getElem?-set-same, getElem?-set-other, getElem?-snoc-cases}
 use Rattle.model.specs.Setup.{Setup}
-use Rattle.model.specs.Question.{firstNo}
-use Rattle.model.specs.Tick.{callQuestions, refusal, acceptance, tickBy, tick}
 use Rattle.model.specs.Published.{Message, Process, advanced, eventOf, nextEvent, messageOf}
-use Rattle.model.specs.Run.{Node, Source, sentBy, stale, Call, Done, World, inputOf, isAccepted, outputOf, doneOf, nodeAfter, movedClock, act, actOn, runFrom, atStart, sends}
+use Rattle.model.specs.Run.{Node, Source, sentBy, stale, Call, Done, World, isAccepted, outputOf, doneOf, nodeAfter, act, actOn, runFrom, atStart, sends}
 use Rattle.theory.specs.Premises.{largestClock, staleUntil, allowed, keeps, isSent, noneStale}
 use Rattle.theory.specs.Demand2.{Published, outcomeOf, publish, publishAll, publishedStart, Matched, Demand2Fresh}
 use Rattle.theory.specs.Demand3.{heardIn}

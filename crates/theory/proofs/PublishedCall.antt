@@ -25,7 +25,7 @@ use Rattle.model.specs.Codec.{frameOf}
 use Rattle.model.specs.Batch.{batchEntries}
 use Rattle.model.specs.Holdback.{encodeFrames, encodeHoldback}
 use Rattle.model.specs.Judge.{Heard, hear}
-use Rattle.model.specs.Tick.{Output, holdbackSize, ownStamp, tablesSound, queueSound, repairOf, heardOf, newStamp, sentBytes, dueNow, deliveredOf, keptOf, takenCount, acceptance, tick}
+use Rattle.model.specs.Tick.{Output, holdbackSize, ownStamp, tablesSound, queueSound, repairOf, heardOf, newStamp, sentBytes, dueNow, deliveredOf, keptOf, takenCount, acceptance}
 use Rattle.model.specs.Published.{Event, Message, Process, known, rank, sameMessage, newOnes, nextEvent, eventOf, deliverable, inOrder, buffered, deliveredAt, advanced, messageOf}
 use Rattle.model.specs.Run.{Node, Call, Done, World, inputOf, outputOf, doneOf, nodeAfter}
 use Rattle.theory.specs.Premises.{withOwn}

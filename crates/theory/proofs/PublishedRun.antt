@@ -4,7 +4,7 @@ use Prim.Native.Nat.{ℕ, suc, _+_, _%_, _≤_, _<_}
 use native.Mathlib.Omega.{arith}
 use mathlib.Core.Path.{_≡_, refl, sym, ap, subst, _∙_}
 use mathlib.Core.Logic.{inl, inr}
-use mathlib.Core.Bool.{Bool, true, false, _||_, not, cond, or-false}
+use mathlib.Core.Bool.{Bool, true, false, _||_, cond, or-false}
 use mathlib.Core.List.{List, [], _∷_, _++_}
 use mathlib.Core.List.{List·Memᴰ}
 use mathlib.Core.Option.{Option, some}
@@ -22,7 +22,7 @@ use Rattle.model.specs.Codec.{frameOf}
 use Rattle.model.specs.Question.{firstNo}
 use Rattle.model.specs.Judge.{Heard, hearOne, judgeQuestions}
 use Rattle.model.specs.Tick.{repairOf}
-use Rattle.model.specs.Published.{Message, Process, rank, sameMessage, newOnes, buffered}
+use Rattle.model.specs.Published.{Message, Process, rank, sameMessage, newOnes}
 use Rattle.model.specs.Run.{Node, Source, sentBy, stale, Done, World, sends, messageBytes}
 use Rattle.theory.specs.Premises.{withOwn}
 use Rattle.theory.specs.Demand2.{reduced, reducedFrame, messagesHeard, Published}

@@ -8,10 +8,10 @@ use mathlib.Core.List.{List, [], _∷_, _++_, map, append-assoc, List·Memᴰ}
 use lib.Dec.{leb, ltb}
 use lib.ListN.{length, take, drop, replicate, length-map, take-append-drop}
 use lib.Seq.{drop-append-seam}
-use borrow.Author.Tests.{le-leb, lt-ltb, leb-true, ltb-true}
+use borrow.Author.Tests.{le-leb, lt-ltb, leb-true, ltb-true, eqb-true}
 use Rattle.laws.specs.Lists.{every, joined, overlay, padded}
 use Rattle.laws.proofs.Numbers.{and-left, and-right}
-use Rattle.laws.proofs.Lists.{every-take, every-drop, every-mono, take-overlay}
+use Rattle.laws.proofs.Lists.{every-mem, every-take, every-drop, every-mono, take-overlay}
 use Rattle.model.specs.Setup.{Setup, width, inLimits, depth, holdbackLength, longestPayload}
 use Rattle.model.specs.Timestamp.{Timestamp, trimmed, widened}
 use Rattle.model.specs.Frame.{Frame, encode, decode, wellFormed, frameEnd, twoAt, twoBytes}
@@ -19,10 +19,11 @@ use Rattle.model.specs.Question.{ask, firstNo, askSetup, askRange, askStamp, fr
 use Rattle.model.specs.Codec.{askPayload, readQuestions, readBy, read, frameOf, writeFrameQuestions, writeBy, writeFrame, write}
 use Rattle.model.specs.Holdback.{cutFrames, heldBytes, held, passes, soundHoldback, encodeFrames, encodeHoldback}
 use Rattle.model.specs.Tick.{holdbackSize}
+use Rattle.theory.specs.Demand2.{areBytes, hasWidth, Demand2Codec}
 use Rattle.lemmas.proofs.Bounds.{FrameOk}
 use Rattle.lemmas.proofs.Questions.{limits-from, first-yes}
 use Rattle.lemmas.proofs.Counts.{sound-to, trimmed-wide, trimmed-widened}
-use Rattle.lemmas.proofs.RoundTrip.{none-no, bounds-passed, form-passed, passes-formed, decode-encode, encode-decode, frame-passes, frame-passed, held-frames}
+use Rattle.lemmas.proofs.RoundTrip.{none-no, bounds-passed, form-passed, passes-formed, decode-encode, encode-decode, frame-passes, frame-passed, held-frames, held-holdback}
 
 -- the writer accepts what is in its bounds and fits, and nothing else
 pub record Written (s : Setup) (f : Frame) (buffer : List ℕ) : Type 0 where
@@ -199,3 +200,22 @@ pub held-delivery :
     → held epsilon (overlay (encodeFrames queue) old) ≡ queue
 unfolding overlay
 held-delivery epsilon queue old wide few = held-frames epsilon queue (drop (length (encodeFrames queue)) old) wide few
+
+-- the test for 2ε counts, as the lemmas say it
+all-wide :
+    (epsilon : ℕ) (queue : List Frame) → every (hasWidth epsilon) queue ≡ true
+    → (f : Frame) → List·Memᴰ f queue → length (f .stamp .kn) ≡ width epsilon
+unfolding hasWidth
+all-wide epsilon queue h f m = eqb-true (length (f .stamp .kn)) (width epsilon) (every-mem (hasWidth epsilon) h m)
+
+pub demand2-codec : Demand2Codec
+unfolding areBytes
+demand2-codec s =
+    record {
+      frameRead = read-of-write s;
+      frameWritten = write-of-read s;
+      holdbackRead = λ size queue wide few. held-holdback (s .epsilon) size queue (all-wide (s .epsilon) queue wide) few;
+      holdbackWritten = holdback-whole s;
+      deliveryRead = λ queue old wide few. held-delivery (s .epsilon) queue old (all-wide (s .epsilon) queue wide) few;
+      deliveryWritten = frames-front (s .epsilon);
+    }

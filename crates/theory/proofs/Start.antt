@@ -18,7 +18,7 @@ use Rattle.model.specs.Setup.{Setup, inLimits}
 use Rattle.model.specs.Batch.{batchEntries}
 use Rattle.model.specs.Tick.{holdbackSize}
 use Rattle.model.specs.Run.{Node, Source, sentBy, stale, Call, Done, World, isAccepted, outputOf, doneOf, movedClock, act, atStart, sends, messageBytes}
-use Rattle.theory.specs.Premises.{withOwn, sameSetup, together, distinct, goodStart, largestClock, staleUntil, heardInTime, entryAllowed, entriesAllowed, acceptedWell, allowedFor, allowed}
+use Rattle.theory.specs.Premises.{withOwn, sameSetup, together, distinct, validFor, exactHoldback, goodStart, largestClock, staleUntil, heardInTime, entryAllowed, entriesAllowed, oneSetup, trueClock, hearsAllowed, acceptedWell, allowedFor, allowed}
 use Rattle.lemmas.proofs.Questions.{limits-from}
 use Rattle.lemmas.proofs.Bounds.{Limits}
 use Rattle.lemmas.proofs.Reading.{near-high}
@@ -50,7 +50,7 @@ distinct-fact nodes h i j a b p q o =
         clash (eq-eqb (getD nodes i a .own) (getD nodes j a .own) (ap (λ (x : Node). x .own) (getElem?-getD nodes i a p) ∙ (o ∙ sym (ap (λ (x : Node). x .own) (getElem?-getD nodes j a q))))) e
 
 pub group-start : (s : Setup) (nodes : List Node) → goodStart s nodes ≡ true → Group s nodes
-unfolding goodStart
+unfolding goodStart validFor exactHoldback
 group-start s nodes h =
     record {
       limits = limits;
@@ -180,7 +180,7 @@ moved node call acc = rw acc
 legal-fact :
     (s : Setup) (x floor : ℕ) (w : World) (call : Call) (node : Node) → ((v : ℕ) → v ≤ staleUntil s x → v + s .epsilon ≤ floor)
     → getElem? (w .nodes) (call .node) ≡ some node → isAccepted (outputOf node call) ≡ true → acceptedWell s x w call (doneOf node call) ≡ true → Legal s floor w call node
-unfolding acceptedWell
+unfolding acceptedWell oneSetup trueClock hearsAllowed
 legal-fact s x floor w call node early at acc h =
     record {
       at = at;

@@ -1,17 +1,19 @@
--- Demand 2: from any state, and from fresh stations.
-use Prim.Native.Nat.{ℕ, _+_, _%_}
+-- Demand 2: from any state, the codec, and from fresh stations.
+use Prim.Native.Nat.{ℕ, _+_, _-_, _%_, _≤_, _<_}
 use mathlib.Core.Path.{_≡_}
 use mathlib.Core.Bool.{Bool, true, false, cond}
 use mathlib.Core.List.{List, [], _∷_, _++_, map}
 use mathlib.Core.Option.{Option, none, some}
-use lib.ListN.{length, take, getD, set, getElem?}
-use Rattle.laws.specs.Lists.{any, overlay}
-use Rattle.model.specs.Setup.{Setup}
+use lib.Dec.{ltb, eqb}
+use lib.ListN.{length, take, drop, getD, set, replicate, getElem?}
+use Rattle.laws.specs.Lists.{every, any, overlay}
+use Rattle.model.specs.Setup.{Setup, width}
 use Rattle.model.specs.Timestamp.{Timestamp, trimmed, widened, soundTables}
-use Rattle.model.specs.Frame.{Frame, encode}
+use Rattle.model.specs.Frame.{Frame, encode, wellFormed}
 use Rattle.model.specs.Batch.{batchEntries}
-use Rattle.model.specs.Holdback.{heldBytes, encodeFrames, encodeHoldback}
+use Rattle.model.specs.Holdback.{heldBytes, held, soundHoldback, encodeFrames, encodeHoldback}
 use Rattle.model.specs.Question.{firstNo}
+use Rattle.model.specs.Codec.{ReadAnswer, WriteAnswer, read, write}
 use Rattle.model.specs.Judge.{Heard, hear, judgeQuestions}
 use Rattle.model.specs.Tick.{Input, holdbackSize, openingStamp, openingQueue, sentBytes, deliveredOf, takenCount, tick}
 use Rattle.model.specs.Published.{Event, Message, Process, inOrder, sameMessage, newOnes, eventOf, messageOf, deliveredAt, advanced, started}
@@ -43,20 +45,66 @@ pub record AnyState (i : Input) : Type 0 where
       soundTables (i .setup .n) (i .setup .epsilon) (i .setup .modulus) ((i .clock + 1) % i .setup .modulus)
       (trimmed (i .setup .epsilon) (tick i .answer .tables)) ≡ true
 
+-- Demand 2 from any state, of every accepted call
 abbrev pub Demand2Any : Type 0
 Demand2Any = (i : Input) → tick i .answer .number ≡ 0 → AnyState i
 
--- The published program, run over the same calls: all processes, and what each call sent
+-- bytes: numbers below 256
+unfoldable pub areBytes : List ℕ → Bool
+areBytes bytes = every (λ b. ltb b 256) bytes
+
+-- a frame of 2ε counts
+unfoldable pub hasWidth : ℕ → Frame → Bool
+hasWidth epsilon f = eqb (length (f .stamp .kn)) (width epsilon)
+
+-- "the codec round-trips": the frame, the shelf and the hand-out
+pub record RoundTrips (s : Setup) : Type 0 where
+  -- a written frame reads back the same; the places past the 2ε counts come back 0
+  pub frameRead :
+      (station : ℕ) (t : Timestamp) (payload buffer : List ℕ) → write s station t payload buffer .number ≡ 0
+      → read s (take (write s station t payload buffer .size) (write s station t payload buffer .buffer))
+      ≡ record { number = 0; station = station; stamp = widened (trimmed (s .epsilon) t); payload = payload }
+  -- an accepted frame is the one that the writer makes of its contents, in any buffer that is long enough
+  pub frameWritten :
+      (bytes buffer : List ℕ) → areBytes bytes ≡ true → read s bytes .number ≡ 0 → length bytes ≤ length buffer
+      → write s (read s bytes .station) (read s bytes .stamp) (read s bytes .payload) buffer
+      ≡ record { number = 0; size = length bytes; buffer = overlay bytes buffer }
+  -- a shelf holds the frames of which it was made
+  pub holdbackRead :
+      (size : ℕ) (queue : List Frame) → every (hasWidth (s .epsilon)) queue ≡ true → length queue < 65536
+      → held (s .epsilon) (encodeHoldback size queue) ≡ queue
+  -- a sound shelf with zeros behind its frames is what is made of these frames
+  pub holdbackWritten :
+      (v : ℕ) (bytes : List ℕ) → length bytes ≡ holdbackSize s → areBytes bytes ≡ true → soundHoldback s v bytes ≡ true
+      → drop (length (encodeFrames (held (s .epsilon) bytes))) bytes
+      ≡ replicate (holdbackSize s - length (encodeFrames (held (s .epsilon) bytes))) 0
+      → encodeHoldback (holdbackSize s) (held (s .epsilon) bytes) ≡ bytes
+  -- a hand-out holds the frames of which it was made, whatever the buffer held
+  pub deliveryRead :
+      (queue : List Frame) (old : List ℕ) → every (hasWidth (s .epsilon)) queue ≡ true → length queue < 65536
+      → held (s .epsilon) (overlay (encodeFrames queue) old) ≡ queue
+  -- bytes that hold well-formed frames begin with the hand-out that is made of these frames
+  pub deliveryWritten :
+      (bytes : List ℕ) → 2 ≤ length bytes → areBytes bytes ≡ true
+      → every (wellFormed (s .epsilon)) (heldBytes (s .epsilon) bytes) ≡ true
+      → overlay (encodeFrames (held (s .epsilon) bytes)) bytes ≡ bytes
+
+-- Demand 2, the codec, of every setup
+abbrev pub Demand2Codec : Type 0
+Demand2Codec = (s : Setup) → RoundTrips s
+
+-- The published program, run over the same calls: the process of each station, and for each call made the message that it sent, if any
 pub record Published : Type 0 where
   pub processes : List Process
   pub sent : List (Option Message)
 
--- the message that an entry is from
+-- the message that an entry is from, if it is from one, before the rest
 abbrev pub messagesFrom : Option (Option Message) → List Message → List Message
 messagesFrom none rest = rest
 messagesFrom (some none) rest = rest
 messagesFrom (some (some m)) rest = m ∷ rest
 
+-- the messages that the entries of a call come from, in the bundle's order
 unfoldable pub messagesHeard : List (Option Message) → List Source → List Message
 messagesHeard sent [] = []
 messagesHeard sent (sentBy k ∷ os) = messagesFrom (getElem? sent k) (messagesHeard sent os)
@@ -101,9 +149,11 @@ publishOn s w d true (some p) =
       sent = w .sent ++ (cond (d .call .send) (some (outcomeOf s (w .sent) p d .message)) none ∷ []);
     }
 
+-- what a call makes of the published program
 unfoldable pub publish : Setup → Published → Done → Published
 publish s w d = publishOn s w d (isAccepted (d .output)) (getElem? (w .processes) (d .node))
 
+-- what a list of calls makes of it
 unfoldable pub publishAll : Setup → Published → List Done → Published
 publishAll s w [] = w
 publishAll s w (d ∷ ds) = publishAll s (publish s w d) ds
@@ -113,10 +163,11 @@ unfoldable pub publishedStart : Setup → List Node → Published
 publishedStart s nodes =
     record { processes = map (λ (node : Node). started (s .epsilon) (node .own) (node .clock)) nodes; sent = [] }
 
--- "reduced modulo B"
+-- "reduced modulo B": the timestamp of an event
 unfoldable pub reduced : ℕ → Event → Timestamp
 reduced modulus e = record { r = e .r % modulus; c = e .c; kn = e .kn }
 
+-- "reduced modulo B": the frame of a message
 unfoldable pub reducedFrame : ℕ → Message → Frame
 reducedFrame modulus m = record { station = m .sender; stamp = reduced modulus (m .event); payload = m .content }
 

@@ -1,8 +1,8 @@
 -- Demand 3 in full: one statement about the whole list of calls.
-use Prim.Native.Nat.{ℕ, _+_, _-_, _*_, _%_, _<_}
+use Prim.Native.Nat.{ℕ, _+_, _*_, _%_, _<_}
 use mathlib.Core.Path.{_≡_}
 use mathlib.Core.Bool.{Bool, true, false, _&&_, _||_, cond}
-use mathlib.Core.List.{List, [], _∷_, map}
+use mathlib.Core.List.{List, map}
 use mathlib.Core.Option.{some}
 use lib.Dec.{leb, eqb}
 use lib.ListN.{take, getD, getElem?}
@@ -42,6 +42,7 @@ dueAt s v m = eqb (due (s .epsilon) (s .delta) (m .clock) (messageFrame m .stamp
 unfoldable pub messageKey : Setup → Done → List ℕ
 messageKey s m = key (s .epsilon) (m .clock) (messageFrame m)
 
+-- the first "comes first in the order of two stamps"
 unfoldable pub earlier : Setup → Done → Done → Bool
 earlier s m m′ = isLess (lexCompare (messageKey s m) (messageKey s m′))
 

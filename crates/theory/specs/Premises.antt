@@ -17,6 +17,7 @@ use Rattle.model.specs.Run.{Node, Source, sentBy, stale, Call, Done, World, act
 unfoldable pub withOwn : Setup → ℕ → Setup
 withOwn s own = record { n = s .n; epsilon = s .epsilon; delta = s .delta; modulus = s .modulus; own = own }
 
+-- the two setups are the same
 unfoldable pub sameSetup : Setup → Setup → Bool
 sameSetup s t =
     eqb (s .n) (t .n) && (eqb (s .epsilon) (t .epsilon) && (eqb (s .delta) (t .delta)
@@ -30,11 +31,19 @@ together epsilon nodes = every (λ a. every (λ b. leb (a .clock) (b .clock + ep
 unfoldable pub distinct : List Node → Bool
 distinct nodes = apart (λ a b. eqb (a .own) (b .own)) nodes
 
--- 01: "The list starts from a clock for each station, any tables, and any shelf bytes of the exact length"
+-- 01: "One valid setup", with each station's own number
+unfoldable pub validFor : Setup → Node → Bool
+validFor s node = inLimits (withOwn s (node .own))
+
+-- 01: "any shelf bytes of the exact length"
+unfoldable pub exactHoldback : Setup → Node → Bool
+exactHoldback s node = eqb (length (node .holdback)) (holdbackSize s)
+
+-- 01: "The list starts from a clock for each station, any tables, and any shelf bytes of the exact length": the setup is valid, the
+-- stations are distinct, their clocks keep the drift limit, and their shelves have their length
 unfoldable pub goodStart : Setup → List Node → Bool
 goodStart s nodes =
-    every (λ node. inLimits (withOwn s (node .own))) nodes && (distinct nodes && (together (s .epsilon) nodes
-    && every (λ node. eqb (length (node .holdback)) (holdbackSize s)) nodes))
+    every (validFor s) nodes && (distinct nodes && (together (s .epsilon) nodes && every (exactHoldback s) nodes))
 
 -- 01: "X is the largest of these clocks"
 unfoldable pub largestClock : List Node → ℕ
@@ -56,7 +65,7 @@ heardInTime s nodes entry none = false
 heardInTime s nodes entry (some d) =
     sends d && (sameList entry (messageBytes d) && leb (clockAt (getElem? nodes (d .node))) (d .clock + s .delta))
 
--- one entry of the batch of a call for v, by its source: the calls before it, and the nodes after it
+-- one entry of the batch of a call for v, by its source: past are the calls before this one, nodes the stations after it
 abbrev pub entryAllowed : Setup → ℕ → List Done → List Node → ℕ → List ℕ → Source → Bool
 entryAllowed s x past nodes v entry (sentBy k) = heardInTime s nodes entry (getElem? past k)
 entryAllowed s x past nodes v entry stale = leb v (staleUntil s x)
@@ -69,12 +78,23 @@ entriesAllowed s x past nodes v (e ∷ es) [] = false
 entriesAllowed s x past nodes v (e ∷ es) (o ∷ os) =
     entryAllowed s x past nodes v e o && entriesAllowed s x past nodes v es os
 
--- 01: an accepted call has the one setup, "the true clock modulo B", keeps the drift limit, and hears what it may
+-- 01: an accepted call has "One valid setup, the own number aside"
+unfoldable pub oneSetup : Setup → Call → Done → Bool
+oneSetup s call d = sameSetup (call .setup) (withOwn s (d .own))
+
+-- 01: "the true clock modulo B"
+unfoldable pub trueClock : Setup → Call → Done → Bool
+trueClock s call d = eqb (call .clock) (d .clock % s .modulus)
+
+-- what it hears, with the stations as they stand after it
+unfoldable pub hearsAllowed : Setup → ℕ → World → Call → Done → Bool
+hearsAllowed s x w call d =
+    entriesAllowed s x (w .past) (act w call .nodes) (d .clock) (batchEntries (call .batch)) (call .sources)
+
+-- 01: an accepted call: the one setup, the true clock, the drift limit kept after it ("limits ε and δ kept"), and what it may hear
 unfoldable pub acceptedWell : Setup → ℕ → World → Call → Done → Bool
 acceptedWell s x w call d =
-    sameSetup (call .setup) (withOwn s (d .own)) && (eqb (call .clock) (d .clock % s .modulus)
-    && (together (s .epsilon) (act w call .nodes)
-    && entriesAllowed s x (w .past) (act w call .nodes) (d .clock) (batchEntries (call .batch)) (call .sources)))
+    oneSetup s call d && (trueClock s call d && (together (s .epsilon) (act w call .nodes) && hearsAllowed s x w call d))
 
 -- 01: "A refused call may stand anywhere, given its station's tables and shelf and whatever else"
 abbrev pub allowedFor : Setup → ℕ → World → Call → Option Node → Bool
@@ -82,6 +102,7 @@ allowedFor s x w call none = false
 allowedFor s x w call (some node) =
     not (isAccepted (doneOf node call .output)) || acceptedWell s x w call (doneOf node call)
 
+-- a call that the list may have next; one to no node it may not
 unfoldable pub allowed : Setup → ℕ → World → Call → Bool
 allowed s x w call = allowedFor s x w call (getElem? (w .nodes) (call .node))
 
@@ -105,10 +126,11 @@ isFresh s node =
 unfoldable pub allFresh : Setup → List Node → Bool
 allFresh s nodes = every (isFresh s) nodes
 
--- 01, demand 2: "no older frame exists"
+-- the entry comes from an earlier call
 unfoldable pub isSent : Source → Bool
 isSent (sentBy k) = true
 isSent stale = false
 
+-- 01, demand 2: "no older frame exists"
 unfoldable pub noneStale : List Done → Bool
 noneStale past = every (λ d. not (isAccepted (d .output)) || every isSent (d .call .sources)) past
