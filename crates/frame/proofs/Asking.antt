@@ -14,7 +14,7 @@ use Rattle.model.specs.Setup.{Setup, inLimits, width}
 use Rattle.model.specs.Timestamp.{Timestamp, soundTimestamp, trimmed, widened}
 use Rattle.model.specs.Frame.{Frame, wellFormed, decode, encode, payloadCountAt}
 use Rattle.model.specs.Question.{Question, ask, firstNo, askSetup, askForm, askRange, askStamp, frameQuestions}
-use Rattle.model.specs.Codec.{readQuestions, noTimestamp, readBy, read, frameOf, askPayload, writeFrameQuestions, writeBy, write}
+use Rattle.model.specs.Codec.{readQuestions, noTimestamp, readBy, read, frameOf, askPayload, writeFrameQuestions, writeBy, writeFrame, writeQuestions}
 use Rattle.lemmas.proofs.Bounds.{Limits}
 use Rattle.lemmas.proofs.Questions.{yes-cons, no-cons, limits-from}
 use Rattle.lemmas.proofs.Counts.{trimmed-widened}
