@@ -62,9 +62,10 @@ writeBy (suc k) f buffer = record { number = suc k; size = 0; buffer = buffer }
 unfoldable pub writeFrame : Setup → Frame → List ℕ → WriteAnswer
 writeFrame s f buffer = writeBy (firstNo (writeFrameQuestions s f buffer)) f buffer
 
--- 01: the writer, of a station, a stamp and a ticket, into its buffer: its questions, and its answer
+-- the questions of the writer
 abbrev pub writeQuestions : Setup → ℕ → Timestamp → List ℕ → List ℕ → List Question
 writeQuestions s station t payload buffer = writeFrameQuestions s (frameOf (s .epsilon) station t payload) buffer
 
+-- 01: the writer, of a station, a stamp and a ticket, into its buffer
 abbrev pub write : Setup → ℕ → Timestamp → List ℕ → List ℕ → WriteAnswer
 write s station t payload buffer = writeFrame s (frameOf (s .epsilon) station t payload) buffer
