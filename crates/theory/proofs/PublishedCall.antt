@@ -29,7 +29,7 @@ use Rattle.model.specs.Tick.{Output, holdbackSize, ownStamp, tablesSound, queue
 use Rattle.model.specs.Published.{Event, Message, Process, known, rank, sameMessage, newOnes, nextEvent, eventOf, deliverable, inOrder, buffered, deliveredAt, advanced, messageOf}
 use Rattle.model.specs.Run.{Node, Call, Done, World, inputOf, outputOf, doneOf, nodeAfter}
 use Rattle.theory.specs.Premises.{withOwn}
-use Rattle.theory.specs.Demand2.{reduced, reducedFrame, messagesHeard, verdictsOn, Outcome, outcomeOf, SameAs}
+use Rattle.theory.specs.Demand2.{reduced, reducedFrame, messagesHeard, verdictsOn, outcomeOf, SameAs}
 use Rattle.theory.specs.Demand3.{isFrom, heardIn}
 use Rattle.lemmas.proofs.Bounds.{Limits, Sound}
 use Rattle.lemmas.proofs.OneTick.{hearing-end, tables-are, holdback-is, delivery-is, outgoing-is, sent-is, verdicts-are, next-repair}
@@ -241,26 +241,12 @@ module _ (s : Setup) (w : World) (sent : List (Option Message)) (call : Call) (n
       ∙ news-verdicts (withOwn s (node .own)) (suc (node .clock)) sent (p .received) (told s w sent good sent-as) news-here
       (seen-same sent (heardAt (w .past) (call .node)) (heardTo (w .past) call 0) (p .received) heard-start (twin .received))
 
-  -- the outcome at the clock that the call moves to
-  outcome-is :
-      outcomeOf s sent p (doneOf node call)
-      ≡ record {
-        newMessages = newHere sent call p;
-        verdicts = verdictsOn (p .received) (heardHere sent call);
-        last = eventOf (s .epsilon) (suc (node .clock)) p (heardHere sent call);
-        message = messageOf (s .epsilon) (suc (node .clock)) p (heardHere sent call) (call .payload);
-        delivered = deliveredAt (s .epsilon) (s .delta) (suc (node .clock)) p (heardHere sent call);
-        buffer = advanced (s .epsilon) (s .delta) (suc (node .clock)) p (heardHere sent call) .buffer;
-      }
-  unfolding outcomeOf doneOf
-  outcome-is = rw (done-clock s node call due-call) refl
-
-  pub same-as : SameAs s (outcomeOf s sent p (doneOf node call)) (doneOf node call)
-  unfolding doneOf outputOf acceptance inputOf withOwn
+  pub same-as : SameAs s (outcomeOf s sent p (doneOf node call .clock) call) (doneOf node call)
+  unfolding outcomeOf doneOf outputOf acceptance inputOf withOwn
   same-as =
       let i = inputOf node call in
       let a = accepted-input node call (legal .accepted) in
-      subst (λ (o : Outcome). SameAs s o (doneOf node call)) (sym outcome-is)
+      subst (λ (n : ℕ). SameAs s (outcomeOf s sent p n call) (doneOf node call)) (sym (done-clock s node call due-call))
       (record {
         tables = tables-are i a ∙ ap widened stamp-is;
         repair = ap (λ (o : Output). o .answer .repair) (a .accepted) ∙ no-repair;

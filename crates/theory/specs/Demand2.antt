@@ -125,16 +125,16 @@ pub record Outcome : Type 0 where
   pub delivered : List Message
   pub buffer : List Message
 
--- the same, for the messages that the call's entries come from
-unfoldable pub outcomeOf : Setup → List (Option Message) → Process → Done → Outcome
-outcomeOf s sent p d =
+-- the same for a call for a clock, with the messages that its entries come from
+unfoldable pub outcomeOf : Setup → List (Option Message) → Process → ℕ → Call → Outcome
+outcomeOf s sent p clock call =
     record {
-      newMessages = newOnes (p .received) (messagesHeard sent (d .call .sources));
-      verdicts = verdictsOn (p .received) (messagesHeard sent (d .call .sources));
-      last = eventOf (s .epsilon) (d .clock) p (messagesHeard sent (d .call .sources));
-      message = messageOf (s .epsilon) (d .clock) p (messagesHeard sent (d .call .sources)) (d .call .payload);
-      delivered = deliveredAt (s .epsilon) (s .delta) (d .clock) p (messagesHeard sent (d .call .sources));
-      buffer = advanced (s .epsilon) (s .delta) (d .clock) p (messagesHeard sent (d .call .sources)) .buffer;
+      newMessages = newOnes (p .received) (messagesHeard sent (call .sources));
+      verdicts = verdictsOn (p .received) (messagesHeard sent (call .sources));
+      last = eventOf (s .epsilon) clock p (messagesHeard sent (call .sources));
+      message = messageOf (s .epsilon) clock p (messagesHeard sent (call .sources)) (call .payload);
+      delivered = deliveredAt (s .epsilon) (s .delta) clock p (messagesHeard sent (call .sources));
+      buffer = advanced (s .epsilon) (s .delta) clock p (messagesHeard sent (call .sources)) .buffer;
     }
 
 -- an accepted call is an event of its process, a refused one is none
@@ -146,7 +146,7 @@ publishOn s w d true (some p) =
       processes =
           set (w .processes) (d .node)
           (advanced (s .epsilon) (s .delta) (d .clock) p (messagesHeard (w .sent) (d .call .sources)));
-      sent = w .sent ++ (cond (d .call .send) (some (outcomeOf s (w .sent) p d .message)) none ∷ []);
+      sent = w .sent ++ (cond (d .call .send) (some (outcomeOf s (w .sent) p (d .clock) (d .call) .message)) none ∷ []);
     }
 
 -- what a call makes of the published program
@@ -173,20 +173,24 @@ reducedFrame modulus m = record { station = m .sender; stamp = reduced modulus (
 
 -- "every tick does exactly what the published program does with clocks that never wrap, reduced modulo B"
 pub record SameAs (s : Setup) (o : Outcome) (d : Done) : Type 0 where
+  -- the tables are the stamp of the process's event, and there was nothing to mend
   pub tables : d .output .answer .tables ≡ widened (reduced (s .modulus) (o .last))
   pub repair : d .output .answer .repair ≡ 0
   -- each message heard is taken once: "the published program passes over a repeat"
   pub taken : d .output .answer .taken ≡ length (o .newMessages)
+  -- the verdict bytes: 0 for what is new to the process, 16 for a repeat; "Bytes beyond those written stay"
   pub verdicts : d .output .verdicts ≡ overlay (o .verdicts) (d .call .verdicts)
-  -- the shelf holds what the process still holds, in order
+  -- the shelf is what the process still holds, in order, then zeros
   pub holdback :
       d .output .holdback
       ≡ encodeHoldback (holdbackSize s) (map (reducedFrame (s .modulus)) (inOrder (s .epsilon) (o .buffer)))
+  -- the outgoing frame is the process's message, if a ticket is to be sent
   pub outgoing :
       d .output .outgoing
       ≡ overlay (cond (d .call .send) (encode (reducedFrame (s .modulus) (o .message))) []) (d .call .outgoing)
   pub sent :
       d .output .answer .sent ≡ length (cond (d .call .send) (encode (reducedFrame (s .modulus) (o .message))) [])
+  -- the hand-out is what the process delivers
   pub delivery :
       d .output .delivery ≡ overlay (encodeFrames (map (reducedFrame (s .modulus)) (o .delivered))) (d .call .delivery)
   pub delivered : d .output .answer .delivered ≡ length (o .delivered)
@@ -194,7 +198,7 @@ pub record SameAs (s : Setup) (o : Outcome) (d : Done) : Type 0 where
 -- the process of the call's station, as the calls before it left it, does the same
 abbrev pub Matched : Setup → Published → Done → Type 0
 Matched s w d =
-    (p : Process) × (getElem? (w .processes) (d .node) ≡ some p) × SameAs s (outcomeOf s (w .sent) p d) d
+    (p : Process) × (getElem? (w .processes) (d .node) ≡ some p) × SameAs s (outcomeOf s (w .sent) p (d .clock) (d .call)) d
 
 -- From fresh stations: of every accepted call of the list
 abbrev pub Demand2Fresh : Type 0
