@@ -13,7 +13,7 @@ use Rattle.model.specs.Frame.{Frame, encode, wellFormed}
 use Rattle.model.specs.Batch.{batchEntries}
 use Rattle.model.specs.Holdback.{heldBytes, held, soundHoldback, encodeFrames, encodeHoldback}
 use Rattle.model.specs.Question.{firstNo}
-use Rattle.model.specs.Codec.{ReadAnswer, WriteAnswer, read, write}
+use Rattle.model.specs.Codec.{read, write}
 use Rattle.model.specs.Judge.{Heard, hear, judgeQuestions}
 use Rattle.model.specs.Tick.{Input, holdbackSize, openingStamp, openingQueue, sentBytes, deliveredOf, takenCount, tick}
 use Rattle.model.specs.Published.{Event, Message, Process, inOrder, sameMessage, newOnes, eventOf, messageOf, deliveredAt, advanced, started}
