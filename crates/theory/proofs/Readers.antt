@@ -174,15 +174,6 @@ holdback-front s v bytes long below h =
     frames-front (s .epsilon) bytes long below
     (every-mono (passes s) (wellFormed (s .epsilon)) (heldBytes (s .epsilon) bytes) (λ b p. passes-formed s b p) all)
 
-pub take-holdback :
-    (s : Setup) (v : ℕ) (bytes : List ℕ) → length bytes ≡ holdbackSize s → every (λ b. ltb b 256) bytes ≡ true → soundHoldback s v bytes ≡ true
-    → take (length (encodeFrames (held (s .epsilon) bytes))) bytes ≡ encodeFrames (held (s .epsilon) bytes)
-unfolding holdbackLength
-take-holdback s v bytes size below h =
-    let front = holdback-front s v bytes (omega arith) below h in
-    let e = encodeFrames (held (s .epsilon) bytes) in
-    rw front at (take-overlay e bytes)
-
 -- and where zeros stand behind them, the whole of it is what the tick writes
 pub holdback-whole :
     (s : Setup) (v : ℕ) (bytes : List ℕ) → length bytes ≡ holdbackSize s → every (λ b. ltb b 256) bytes ≡ true → soundHoldback s v bytes ≡ true
