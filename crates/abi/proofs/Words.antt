@@ -15,7 +15,7 @@ use Rattle.model.specs.Timestamp.{Timestamp, widened, countOwn}
 use Rattle.model.specs.Frame.{Frame, twoBytes, twoAt, encode, decode, payloadCountAt}
 use Rattle.model.specs.Batch.{batchEntries}
 use Rattle.model.specs.Question.{firstNo, askSetup, frameQuestions}
-use Rattle.model.specs.Codec.{ReadAnswer, readQuestions, readBy, read, frameOf, writeQuestions, writeBy, write}
+use Rattle.model.specs.Codec.{ReadAnswer, readQuestions, readBy, read, frameOf, writeQuestions, writeBy, writeFrame, write}
 use Rattle.model.specs.Tick.{Input, Answer, Output, callQuestions, refusal, heardOf, newStamp, sentBytes, takenCount, deliveredOf, acceptance, tick}
 use Rattle.lemmas.proofs.Bounds.{Limits, Sound, FrameOk}
 use Rattle.lemmas.proofs.Questions.{limits-from, first-yes, other-yes}
@@ -228,14 +228,14 @@ module _ (s : Setup) (bytes : List ℕ) where
 
 -- ---- the writer's answer
 
-pub write-small : (s : Setup) (station : ℕ) (t : Timestamp) (payload buffer : List ℕ) → write s (frameOf (s .epsilon) station t payload) buffer .size < 65536
-unfolding write
-write-small s station t payload buffer = go (firstNo (writeQuestions s f buffer)) refl
+pub write-small : (s : Setup) (station : ℕ) (t : Timestamp) (payload buffer : List ℕ) → write s station t payload buffer .size < 65536
+unfolding writeFrame
+write-small s station t payload buffer = go (firstNo (writeQuestions s station t payload buffer)) refl
   where
     f : Frame
     f = frameOf (s .epsilon) station t payload
 
-    go : (k : ℕ) → firstNo (writeQuestions s (frameOf (s .epsilon) station t payload) buffer) ≡ k → writeBy k (frameOf (s .epsilon) station t payload) buffer .size < 65536
+    go : (k : ℕ) → firstNo (writeQuestions s station t payload buffer) ≡ k → writeBy k (frameOf (s .epsilon) station t payload) buffer .size < 65536
     go zero q =
         let room : Room (s .epsilon) station t payload buffer = room-of s station t payload buffer q in
         omega (arith, length-frame (s .epsilon) station t payload, room .narrow, room .payload-fits)

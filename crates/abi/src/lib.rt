@@ -111,12 +111,10 @@ pub extern "C" fn yarngravel_write(
     payload: &[u8],
     out: &mut [u8],
 ) -> u64
-    ensures { λ r. ⌜ r ≡ writeWord (codec.write (setupBy n epsilon delta modulus own)
-        (codec.frameOf epsilon station (tablesAt (now (tables .entry))) (now (payload .entry)))
-        (now (out .entry))) ⌝ }
-    ensures { λ _. ⌜ now (out .exit) ≡ codec.write (setupBy n epsilon delta modulus own)
-        (codec.frameOf epsilon station (tablesAt (now (tables .entry))) (now (payload .entry)))
-        (now (out .entry)) .buffer ⌝ }
+    ensures { λ r. ⌜ r ≡ writeWord (codec.write (setupBy n epsilon delta modulus own) station
+        (tablesAt (now (tables .entry))) (now (payload .entry)) (now (out .entry))) ⌝ }
+    ensures { λ _. ⌜ now (out .exit) ≡ codec.write (setupBy n epsilon delta modulus own) station
+        (tablesAt (now (tables .entry))) (now (payload .entry)) (now (out .entry)) .buffer ⌝ }
 {
     let setup = Setup {
         n,

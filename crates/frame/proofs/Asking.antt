@@ -14,7 +14,7 @@ use Rattle.model.specs.Setup.{Setup, inLimits, width}
 use Rattle.model.specs.Timestamp.{Timestamp, soundTimestamp, trimmed, widened}
 use Rattle.model.specs.Frame.{Frame, wellFormed, decode, encode, payloadCountAt}
 use Rattle.model.specs.Question.{Question, ask, firstNo, askSetup, askForm, askRange, askStamp, frameQuestions}
-use Rattle.model.specs.Codec.{readQuestions, noTimestamp, readBy, read, frameOf, askPayload, writeQuestions, writeBy, write}
+use Rattle.model.specs.Codec.{readQuestions, noTimestamp, readBy, read, frameOf, askPayload, writeFrameQuestions, writeBy, writeFrame, writeQuestions}
 use Rattle.lemmas.proofs.Bounds.{Limits}
 use Rattle.lemmas.proofs.Questions.{yes-cons, no-cons, limits-from}
 use Rattle.lemmas.proofs.Counts.{trimmed-widened}
@@ -134,17 +134,17 @@ module _ (s : Setup) (f : Frame) (buffer : List ℕ) where
   abbrev pub fromRange : List Question
   fromRange = askRange s f ∷ fromStamp
 
-  pub limits-no : inLimits s ≡ false → firstNo (writeQuestions s f buffer) ≡ 1
-  unfolding writeQuestions
+  pub limits-no : inLimits s ≡ false → firstNo (writeFrameQuestions s f buffer) ≡ 1
+  unfolding writeFrameQuestions
   limits-no h = setup-no s (askPayload (f .payload) ∷ fromRange) h
 
   module _ (h : inLimits s ≡ true) where
-    pub payload-no : 32 < length (f .payload) → firstNo (writeQuestions s f buffer) ≡ 4
-    unfolding writeQuestions askPayload
+    pub payload-no : 32 < length (f .payload) → firstNo (writeFrameQuestions s f buffer) ≡ 4
+    unfolding writeFrameQuestions askPayload
     payload-no k = setup-right s (askPayload (f .payload) ∷ fromRange) h ∙ no-cons _ 4 fromRange (lt-leb (length (f .payload)) 32 k)
 
-    pub payload-right : length (f .payload) ≤ 32 → firstNo (writeQuestions s f buffer) ≡ firstNo fromRange
-    unfolding writeQuestions askPayload
+    pub payload-right : length (f .payload) ≤ 32 → firstNo (writeFrameQuestions s f buffer) ≡ firstNo fromRange
+    unfolding writeFrameQuestions askPayload
     payload-right k = setup-right s (askPayload (f .payload) ∷ fromRange) h ∙ yes-cons _ 4 fromRange (le-leb (length (f .payload)) 32 k)
 
   pub room-no : length buffer < length (encode f) → firstNo fromRoom ≡ 6
@@ -155,14 +155,14 @@ module _ (s : Setup) (f : Frame) (buffer : List ℕ) where
   room-right k = yes-cons _ 6 [] (le-leb (length (encode f)) (length buffer) k)
 
   -- its answers
-  module _ (number : ℕ) (e : number ≡ firstNo (writeQuestions s f buffer)) where
+  module _ (number : ℕ) (e : number ≡ firstNo (writeFrameQuestions s f buffer)) where
     pub write-accepted : number ≡ 0
-        → write s f buffer ≡ record { number = 0; size = length (encode f); buffer = overlay (encode f) buffer }
-    unfolding write
+        → writeFrame s f buffer ≡ record { number = 0; size = length (encode f); buffer = overlay (encode f) buffer }
+    unfolding writeFrame
     write-accepted z = rw (← e, z)
 
-    pub write-refused : (number ≡ 0 → ⊥) → write s f buffer ≡ record { number = number; size = 0; buffer = buffer }
-    unfolding write
+    pub write-refused : (number ≡ 0 → ⊥) → writeFrame s f buffer ≡ record { number = number; size = 0; buffer = buffer }
+    unfolding writeFrame
     write-refused z = rw (← e) (go number z)
       where
         go : (k : ℕ) → (k ≡ 0 → ⊥) → writeBy k f buffer ≡ record { number = k; size = 0; buffer = buffer }
@@ -171,8 +171,8 @@ module _ (s : Setup) (f : Frame) (buffer : List ℕ) where
 
 -- what an accepted writer can lay down
 pub room-of : (s : Setup) (station : ℕ) (t : Timestamp) (payload buffer : List ℕ)
-    → firstNo (writeQuestions s (frameOf (s .epsilon) station t payload) buffer) ≡ 0 → Room (s .epsilon) station t payload buffer
-unfolding writeQuestions askSetup askPayload askRange askStamp frameOf trimmed soundTimestamp
+    → firstNo (writeQuestions s station t payload buffer) ≡ 0 → Room (s .epsilon) station t payload buffer
+unfolding writeFrameQuestions askSetup askPayload askRange askStamp frameOf trimmed soundTimestamp
 room-of s station t payload buffer e =
     let f = frameOf (s .epsilon) station t payload in
     let p1 = none-no (inLimits s) 0 (askPayload payload ∷ fromRange s f buffer) e in

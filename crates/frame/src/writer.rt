@@ -76,9 +76,7 @@ pub struct Written {
 
 // 01: "the writer asks 1, 4, 11, 12, then 6 if its buffer is shorter than this frame": the number of the first no, or 0.
 fn check_write(setup: Setup, station: usize, stamp: Timestamp, payload: &[u8], out: &[u8]) -> u8
-    ensures { λ r. ⌜ r ≡ firstNo (writeQuestions (setupOf setup)
-        (frameOf (setup .epsilon) station (stampOf stamp) (now (payload .entry)))
-        (now (out .entry))) ⌝ }
+    ensures { λ r. ⌜ r ≡ firstNo (writeQuestions (setupOf setup) station (stampOf stamp) (now (payload .entry)) (now (out .entry))) ⌝ }
 {
     if !in_limits(setup) {
         return 1;
@@ -113,9 +111,7 @@ pub fn write(
     out: &mut [u8],
 ) -> Written
     ensures { λ r. ⌜ writeAnswer r (now (out .exit))
-        ≡ codec.write (setupOf setup)
-        (frameOf (setup .epsilon) station (stampOf stamp) (now (payload .entry)))
-        (now (out .entry)) ⌝ }
+        ≡ codec.write (setupOf setup) station (stampOf stamp) (now (payload .entry)) (now (out .entry)) ⌝ }
 {
     let number = check_write(setup, station, stamp, payload, out);
     if number != 0 {

@@ -1,21 +1,20 @@
 -- The premises can be met: a list of calls from damage in every memory, and one from fresh stations, by computation.
 -- Assumes nothing.
-use Prim.Native.Nat.{ℕ, zero, suc, _%_}
-use native.Mathlib.Omega.{arith}
-use mathlib.Core.Path.{_≡_, refl, subst}
+use Prim.Native.Nat.{ℕ, _-_, _%_}
+use mathlib.Core.Path.{_≡_, refl}
 use mathlib.Core.Bool.{Bool, true, false}
 use mathlib.Core.List.{List, [], _∷_, _++_, map}
-use mathlib.Core.Option.{Option, none, some, Option·some-injective}
+use mathlib.Core.Option.{Option, none, some}
 use lib.ListN.{length, take, replicate, getElem?}
 use Rattle.laws.specs.Lists.{largest, select, sameList, joined}
 use Rattle.model.specs.Setup.{Setup}
-use Rattle.model.specs.Timestamp.{Timestamp, fresh, widened}
-use Rattle.model.specs.Frame.{Frame, encode}
-use Rattle.model.specs.Holdback.{heldBytes, encodeHoldback}
+use Rattle.model.specs.Timestamp.{Timestamp}
+use Rattle.model.specs.Frame.{encode}
+use Rattle.model.specs.Holdback.{heldBytes}
 use Rattle.model.specs.Tick.{holdbackSize}
-use Rattle.model.specs.Run.{Node, Origin, sentBy, stale, Call, Done, World, inputOf, isAccepted, movedClock, nodeAfter, outputOf, doneOf, act, atStart, runFrom, sends, messageBytes}
+use Rattle.model.specs.Run.{Node, Source, sentBy, stale, Call, Done, inputOf, isAccepted, movedClock, nodeAfter, outputOf, doneOf, act, atStart, runFrom, sends, messageBytes}
 use Rattle.model.proofs.Computing.{computing}
-use Rattle.theory.specs.Premises.{withOwn, sameSetup, together, distinct, goodStart, largestClock, staleUntil, entriesAllowed, acceptedWell, allowed, keeps, noneStale, isSent, Fresh}
+use Rattle.theory.specs.Premises.{withOwn, sameSetup, together, distinct, validFor, exactHoldback, goodStart, largestClock, staleUntil, entriesAllowed, oneSetup, trueClock, hearsAllowed, acceptedWell, allowed, keeps, noneStale, isSent, sameTimestamp, isFresh, allFresh}
 use Rattle.theory.specs.Demand2.{publishAll, publishedStart, Matched}
 use Rattle.theory.specs.Demand3.{coveredFrom, coveredFrame, Promised}
 use Rattle.theory.proofs.Demand2.{demand2-fresh}
@@ -23,12 +22,17 @@ use Rattle.theory.proofs.Demand3.{demand3}
 
 -- every definition of the runs and the premises, opened at once
 unfoldable running : Unit {0}
-unfolding keeps allowed acceptedWell sameSetup withOwn together distinct goodStart entriesAllowed staleUntil largestClock largest sameList noneStale isSent coveredFrame coveredFrom act atStart runFrom doneOf outputOf nodeAfter movedClock isAccepted inputOf sends messageBytes computing
+unfolding keeps allowed acceptedWell oneSetup trueClock hearsAllowed sameSetup withOwn together distinct validFor exactHoldback goodStart entriesAllowed staleUntil largestClock largest sameList noneStale isSent sameTimestamp isFresh allFresh coveredFrame coveredFrom act atStart runFrom doneOf outputOf nodeAfter movedClock isAccepted inputOf sends messageBytes computing
 running = tt
 
--- n 2, ε 1, δ 1 and the least B
+-- n 2, ε 2, δ 1 and the least B
 abbrev group : Setup
-group = record { n = 2; epsilon = 1; delta = 1; modulus = 8; own = 0 }
+group = record { n = 2; epsilon = 2; delta = 1; modulus = 14; own = 0 }
+
+-- a frame's bytes
+abbrev bytesOf : ℕ → ℕ → ℕ → List ℕ → List ℕ → List ℕ
+bytesOf station r c kn payload =
+    encode (record { station = station; stamp = record { r = r; c = c; kn = kn }; payload = payload })
 
 -- tables and a queue of nonsense
 abbrev badTables : Timestamp
@@ -37,26 +41,27 @@ badTables = record { r = 5; c = 9; kn = replicate 32 77 }
 abbrev badQueue : List ℕ
 badQueue = replicate (holdbackSize group) 170
 
--- tables and a queue that were never written by a tick, but look sound for clock 1
+-- tables that were never written by a tick, but look sound for clock 13, and a queue that does for clock 11
 abbrev likelyTables : Timestamp
-likelyTables = record { r = 0; c = 0; kn = 2 ∷ 1 ∷ replicate 30 255 }
+likelyTables = record { r = 12; c = 0; kn = 2 ∷ 1 ∷ 2 ∷ 0 ∷ replicate 28 255 }
 
-abbrev forged : Frame
-forged = record { station = 1; stamp = record { r = 1; c = 0; kn = 0 ∷ 1 ∷ [] }; payload = 9 ∷ [] }
+abbrev forged : List ℕ
+forged = bytesOf 1 11 0 (0 ∷ 1 ∷ 1 ∷ 0 ∷ []) (9 ∷ [])
 
 abbrev likelyQueue : List ℕ
-likelyQueue = encodeHoldback (holdbackSize group) (forged ∷ [])
+likelyQueue = take (holdbackSize group) (1 ∷ 0 ∷ (forged ++ badQueue))
 
+-- the clocks start ε apart, and below B by 4 and 2: X is 12, older frames may be heard up to 15, and messages are covered from 19 on
 abbrev damagedNodes : List Node
 damagedNodes =
-    record { own = 0; clock = 0; tables = badTables; holdback = likelyQueue }
-    ∷ record { own = 1; clock = 0; tables = likelyTables; holdback = badQueue }
+    record { own = 0; clock = 10; tables = badTables; holdback = likelyQueue }
+    ∷ record { own = 1; clock = 12; tables = likelyTables; holdback = badQueue }
     ∷ []
 
--- what a call hears: an entry and its origin
+-- what a call hears: an entry and its source
 pub record Entry : Type 0 where
   pub bytes : List ℕ
-  pub origin : Origin
+  pub source : Source
 
 abbrev batchOf : List Entry → List ℕ
 batchOf entries = length entries ∷ joined (λ (e : Entry). length (e .bytes) ∷ e .bytes) entries
@@ -67,9 +72,9 @@ calling node clock send payload entries =
     record {
       node = node;
       setup = withOwn group node;
-      clock = clock % 8;
+      clock = clock % 14;
       batch = batchOf entries;
-      origins = map (λ (e : Entry). e .origin) entries;
+      sources = map (λ (e : Entry). e .source) entries;
       send = send;
       payload = payload;
       outgoing = replicate 71 3;
@@ -80,6 +85,13 @@ calling node clock send payload entries =
 abbrev quiet : ℕ → ℕ → Call
 quiet node clock = calling node clock false [] []
 
+-- a call that sends one byte and hears these
+abbrev sending : ℕ → ℕ → ℕ → List Entry → Call
+sending node clock byte entries = calling node clock true (byte ∷ []) entries
+
+abbrev hearing : ℕ → ℕ → List Entry → Call
+hearing node clock entries = calling node clock false [] entries
+
 -- a call that fails a check, by its setup and clock
 abbrev failing : ℕ → Setup → ℕ → Call
 failing node s clock =
@@ -88,7 +100,7 @@ failing node s clock =
       setup = s;
       clock = clock;
       batch = [];
-      origins = [];
+      sources = [];
       send = true;
       payload = [];
       outgoing = [];
@@ -96,57 +108,63 @@ failing node s clock =
       delivery = [];
     }
 
--- the message of the call at a position
-abbrev bytesOf : Option Done → List ℕ
-bytesOf none = []
-bytesOf (some d) = messageBytes d
+-- an entry from the call at a position, and an older frame
+abbrev from : ℕ → List ℕ → Entry
+from k bytes = record { bytes = bytes; source = sentBy k }
 
-abbrev from : World → ℕ → Entry
-from w k = record { bytes = bytesOf (getElem? (w .past) k); origin = sentBy k }
+abbrev older : List ℕ → Entry
+older bytes = record { bytes = bytes; source = stale }
 
--- an older frame that is taken, and one that is not
+-- older frames: one that is taken, scraps that get 10, and at clock 13 one each that gets 13, 14 and 15
 abbrev old : Entry
-old =
-    record {
-      bytes = encode (record { station = 0; stamp = record { r = 1; c = 0; kn = 1 ∷ 1 ∷ [] }; payload = 7 ∷ [] });
-      origin = stale;
-    }
+old = older (bytesOf 0 12 0 (1 ∷ 1 ∷ 1 ∷ 0 ∷ []) (7 ∷ []))
 
 abbrev scrap : Entry
-scrap = record { bytes = 1 ∷ 2 ∷ []; origin = stale }
+scrap = older (1 ∷ 2 ∷ [])
 
--- calls up to clock 3: older frames, and two calls that fail a check (clock 99; a setup of no nodes)
-abbrev early : List Call
-early =
-    calling 0 1 true (1 ∷ []) (old ∷ scrap ∷ []) ∷ calling 1 1 false [] (old ∷ []) ∷ failing 0 group 99 ∷ quiet 0 2 ∷ quiet 1 2
-    ∷ failing 1 (record { n = 0; epsilon = 1; delta = 1; modulus = 8; own = 1 }) 3
-    ∷ quiet 0 3 ∷ quiet 1 3 ∷ []
+abbrev tooLate : Entry
+tooLate = older (bytesOf 0 9 0 (1 ∷ 1 ∷ 1 ∷ 0 ∷ []) (7 ∷ []))
 
-abbrev world₇ : World
-world₇ = runFrom (atStart damagedNodes) early
+abbrev tooEarly : Entry
+tooEarly = older (bytesOf 0 0 1 (1 ∷ 1 ∷ 1 ∷ 1 ∷ []) (7 ∷ []))
 
--- clock 4, from which on messages are covered: node 0 sends, and node 1 hears that and sends
-abbrev call₈ : Call
-call₈ = calling 0 4 true (65 ∷ []) []
+abbrev tooFull : Entry
+tooFull = older (bytesOf 0 13 0 (1 ∷ 2 ∷ 2 ∷ 0 ∷ []) (7 ∷ []))
 
-abbrev world₈ : World
-world₈ = act world₇ call₈
+-- older frames at the last clock at which one may be heard, 15: they claim an event at 16 that never was
+abbrev ghost : Entry
+ghost = older (bytesOf 0 1 1 (2 ∷ 2 ∷ 1 ∷ 1 ∷ []) (8 ∷ []))
 
-abbrev call₉ : Call
-call₉ = calling 1 4 true (66 ∷ []) (from world₈ 8 ∷ [])
+abbrev ghost′ : Entry
+ghost′ = older (bytesOf 1 2 0 (2 ∷ 1 ∷ 1 ∷ 0 ∷ []) (8 ∷ []))
 
-abbrev world₉ : World
-world₉ = act world₈ call₉
+-- what node 1 sends at 16 still has that event in its counts, and gets 15
+abbrev haunted : List ℕ
+haunted = bytesOf 1 2 0 (2 ∷ 2 ∷ 2 ∷ 0 ∷ []) (2 ∷ [])
 
--- clock 5: node 0 hears both, one of them twice, and sends a message that is lost; node 1 hears the first one again, and its own
-abbrev late : List Call
-late =
-    calling 0 5 true (67 ∷ []) (from world₉ 8 ∷ from world₉ 9 ∷ from world₉ 8 ∷ [])
-    ∷ calling 1 5 false [] (from world₉ 8 ∷ from world₉ 9 ∷ [])
-    ∷ quiet 0 6 ∷ quiet 1 6 ∷ []
+-- a covered message of node 1 at 20, and one of node 0 at 19, sent because of it: the effect has the smaller r
+abbrev cause : List ℕ
+cause = bytesOf 1 6 0 (1 ∷ 1 ∷ 1 ∷ 0 ∷ []) (66 ∷ [])
 
+abbrev effect : List ℕ
+effect = bytesOf 0 5 1 (1 ∷ 1 ∷ 2 ∷ 1 ∷ []) (65 ∷ [])
+
+-- the calls; B wraps at clock 14, two calls fail a check (clock 99; a setup of no nodes), and the last message sent is lost
 abbrev damagedCalls : List Call
-damagedCalls = early ++ (call₈ ∷ call₉ ∷ late)
+damagedCalls =
+    sending 0 11 1 (old ∷ scrap ∷ [])
+    ∷ hearing 1 13 (old ∷ tooLate ∷ tooEarly ∷ tooFull ∷ [])
+    ∷ failing 0 group 99
+    ∷ quiet 0 12 ∷ quiet 0 13 ∷ quiet 1 14
+    ∷ failing 1 (record { n = 0; epsilon = 2; delta = 1; modulus = 14; own = 1 }) 1
+    ∷ hearing 1 15 (ghost ∷ []) ∷ quiet 0 14 ∷ hearing 0 15 (ghost′ ∷ [])
+    ∷ sending 1 16 2 [] ∷ hearing 0 16 (from 10 haunted ∷ [])
+    ∷ quiet 1 17 ∷ quiet 0 17 ∷ quiet 1 18 ∷ quiet 0 18 ∷ quiet 1 19
+    ∷ sending 1 20 66 [] ∷ sending 0 19 65 (from 17 cause ∷ [])
+    ∷ hearing 0 20 (from 17 cause ∷ from 18 effect ∷ [])
+    ∷ hearing 1 21 (from 18 effect ∷ from 17 cause ∷ from 18 effect ∷ [])
+    ∷ sending 0 21 67 [] ∷ quiet 1 22 ∷ quiet 0 22 ∷ quiet 1 23 ∷ quiet 0 23
+    ∷ []
 
 pub damaged-start : goodStart group damagedNodes ≡ true
 unfolding running
@@ -156,30 +174,54 @@ pub damaged-keeps : keeps group (largestClock damagedNodes) (atStart damagedNode
 unfolding running
 damaged-keeps = refl
 
--- what came of each call: its number, mend, frames taken and handed out
+-- what came of each call: the true clock, the number, mend, frames taken and handed out, bytes sent, and the verdicts
 abbrev figures : Done → List ℕ
-figures d = d .output .answer .number ∷ d .output .answer .repair ∷ d .output .answer .taken ∷ d .output .answer .delivered ∷ []
+figures d =
+    d .clock ∷ d .output .answer .number ∷ d .output .answer .repair ∷ d .output .answer .taken ∷ d .output .answer .delivered
+    ∷ d .output .answer .sent ∷ take (length (d .call .sources)) (d .output .verdicts)
 
--- damage is mended, older frames are taken, calls are refused, repeats are passed over
+-- damage is mended, older frames are taken and refused, calls are refused, repeats are passed over
 pub damaged-figures :
     map figures (runFrom (atStart damagedNodes) damagedCalls .past)
-    ≡ (0 ∷ 1 ∷ 1 ∷ 0 ∷ []) ∷ (0 ∷ 2 ∷ 1 ∷ 0 ∷ []) ∷ (2 ∷ 0 ∷ 0 ∷ 0 ∷ []) ∷ (0 ∷ 0 ∷ 0 ∷ 0 ∷ []) ∷ (0 ∷ 0 ∷ 0 ∷ 0 ∷ [])
-    ∷ (1 ∷ 0 ∷ 0 ∷ 0 ∷ []) ∷ (0 ∷ 0 ∷ 0 ∷ 2 ∷ []) ∷ (0 ∷ 0 ∷ 0 ∷ 1 ∷ []) ∷ (0 ∷ 0 ∷ 0 ∷ 0 ∷ []) ∷ (0 ∷ 0 ∷ 1 ∷ 0 ∷ [])
-    ∷ (0 ∷ 0 ∷ 2 ∷ 0 ∷ []) ∷ (0 ∷ 0 ∷ 1 ∷ 0 ∷ []) ∷ (0 ∷ 0 ∷ 0 ∷ 2 ∷ []) ∷ (0 ∷ 0 ∷ 0 ∷ 2 ∷ []) ∷ []
+    ≡ (11 ∷ 0 ∷ 1 ∷ 1 ∷ 0 ∷ 12 ∷ 0 ∷ 10 ∷ [])
+    ∷ (13 ∷ 0 ∷ 2 ∷ 1 ∷ 0 ∷ 0 ∷ 0 ∷ 13 ∷ 14 ∷ 15 ∷ [])
+    ∷ (11 ∷ 2 ∷ 0 ∷ 0 ∷ 0 ∷ 0 ∷ [])
+    ∷ (12 ∷ 0 ∷ 0 ∷ 0 ∷ 0 ∷ 0 ∷ [])
+    ∷ (13 ∷ 0 ∷ 0 ∷ 0 ∷ 0 ∷ 0 ∷ [])
+    ∷ (14 ∷ 0 ∷ 0 ∷ 0 ∷ 0 ∷ 0 ∷ [])
+    ∷ (14 ∷ 1 ∷ 0 ∷ 0 ∷ 0 ∷ 0 ∷ [])
+    ∷ (15 ∷ 0 ∷ 0 ∷ 1 ∷ 1 ∷ 0 ∷ 0 ∷ [])
+    ∷ (14 ∷ 0 ∷ 0 ∷ 0 ∷ 1 ∷ 0 ∷ [])
+    ∷ (15 ∷ 0 ∷ 0 ∷ 1 ∷ 1 ∷ 0 ∷ 0 ∷ [])
+    ∷ (16 ∷ 0 ∷ 0 ∷ 0 ∷ 0 ∷ 12 ∷ [])
+    ∷ (16 ∷ 0 ∷ 0 ∷ 0 ∷ 0 ∷ 0 ∷ 15 ∷ [])
+    ∷ (17 ∷ 0 ∷ 0 ∷ 0 ∷ 0 ∷ 0 ∷ [])
+    ∷ (17 ∷ 0 ∷ 0 ∷ 0 ∷ 0 ∷ 0 ∷ [])
+    ∷ (18 ∷ 0 ∷ 0 ∷ 0 ∷ 0 ∷ 0 ∷ [])
+    ∷ (18 ∷ 0 ∷ 0 ∷ 0 ∷ 0 ∷ 0 ∷ [])
+    ∷ (19 ∷ 0 ∷ 0 ∷ 0 ∷ 1 ∷ 0 ∷ [])
+    ∷ (20 ∷ 0 ∷ 0 ∷ 0 ∷ 0 ∷ 12 ∷ [])
+    ∷ (19 ∷ 0 ∷ 0 ∷ 1 ∷ 1 ∷ 12 ∷ 0 ∷ [])
+    ∷ (20 ∷ 0 ∷ 0 ∷ 1 ∷ 0 ∷ 0 ∷ 16 ∷ 0 ∷ [])
+    ∷ (21 ∷ 0 ∷ 0 ∷ 2 ∷ 0 ∷ 0 ∷ 0 ∷ 0 ∷ 16 ∷ [])
+    ∷ (21 ∷ 0 ∷ 0 ∷ 0 ∷ 0 ∷ 12 ∷ [])
+    ∷ (22 ∷ 0 ∷ 0 ∷ 0 ∷ 0 ∷ 0 ∷ [])
+    ∷ (22 ∷ 0 ∷ 0 ∷ 0 ∷ 0 ∷ 0 ∷ [])
+    ∷ (23 ∷ 0 ∷ 0 ∷ 0 ∷ 2 ∷ 0 ∷ [])
+    ∷ (23 ∷ 0 ∷ 0 ∷ 0 ∷ 2 ∷ 0 ∷ [])
+    ∷ []
 unfolding running
 damaged-figures = refl
 
 -- the covered frames that a call for a clock handed out
 abbrev coveredAt : ℕ → Option Done → List (List ℕ)
 coveredAt v none = []
-coveredAt v (some d) = select (coveredFrame group 0 v) (heldBytes 1 (d .output .delivery))
+coveredAt v (some d) = select (coveredFrame group 12 v) (heldBytes 2 (d .output .delivery))
 
-abbrev both : List (List ℕ)
-both = bytesOf (getElem? (world₉ .past) 8) ∷ bytesOf (getElem? (world₉ .past) 9) ∷ []
-
--- both boards hand out both covered messages at clock 6, the cause first
+-- both boards hand out both covered messages at clock 23, the cause first
 pub damaged-delivers :
-    map (λ k. coveredAt 6 (getElem? (runFrom (atStart damagedNodes) damagedCalls .past) k)) (12 ∷ 13 ∷ []) ≡ both ∷ both ∷ []
+    map (λ k. coveredAt 23 (getElem? (runFrom (atStart damagedNodes) damagedCalls .past) k)) (24 ∷ 25 ∷ [])
+    ≡ (cause ∷ effect ∷ []) ∷ (cause ∷ effect ∷ []) ∷ []
 unfolding running
 damaged-delivers = refl
 
@@ -187,45 +229,43 @@ damaged-delivers = refl
 pub damaged-promised : Promised group (largestClock damagedNodes) (runFrom (atStart damagedNodes) damagedCalls .past)
 damaged-promised = demand3 group damagedNodes damagedCalls damaged-start damaged-keeps
 
--- the same stations, fresh
-abbrev freshNode : ℕ → Node
-freshNode own =
-    record { own = own; clock = 0; tables = widened (fresh 1 0); holdback = encodeHoldback (holdbackSize group) [] }
+-- the same stations, fresh at clocks 11 and 13, with nonsense past the 2ε counts and behind the count of the shelf
+abbrev freshNode : ℕ → ℕ → Node
+freshNode own clock =
+    record {
+      own = own;
+      clock = clock;
+      tables = record { r = clock; c = 0; kn = 0 ∷ 0 ∷ 1 ∷ 0 ∷ replicate 28 255 };
+      holdback = 0 ∷ 0 ∷ replicate (holdbackSize group - 2) 170;
+    }
 
 abbrev freshNodes : List Node
-freshNodes = freshNode 0 ∷ freshNode 1 ∷ []
+freshNodes = freshNode 0 11 ∷ freshNode 1 13 ∷ []
 
--- a message, heard, answered and heard again, and what is due handed out; a refused call between
-abbrev freshCall₀ : Call
-freshCall₀ = calling 0 1 true (65 ∷ []) []
+-- a message of node 1 at 14, where B wraps, and one of node 0 at 13, sent because of it
+abbrev freshCause : List ℕ
+freshCause = bytesOf 1 0 0 (0 ∷ 1 ∷ 1 ∷ 0 ∷ []) (66 ∷ [])
 
-abbrev freshWorld₁ : World
-freshWorld₁ = act (atStart freshNodes) freshCall₀
+abbrev freshEffect : List ℕ
+freshEffect = bytesOf 0 13 1 (1 ∷ 1 ∷ 2 ∷ 1 ∷ []) (65 ∷ [])
 
-abbrev freshCall₁ : Call
-freshCall₁ = calling 1 1 true (66 ∷ []) (from freshWorld₁ 0 ∷ [])
-
-abbrev freshWorld₂ : World
-freshWorld₂ = act freshWorld₁ freshCall₁
-
+-- both are heard on both boards, some of them again, and handed out when due; a refused call between
 abbrev freshCalls : List Call
 freshCalls =
-    freshCall₀ ∷ freshCall₁ ∷ calling 0 2 false [] (from freshWorld₂ 0 ∷ from freshWorld₂ 1 ∷ from freshWorld₂ 0 ∷ [])
-    ∷ failing 1 group 8 ∷ quiet 1 2 ∷ quiet 0 3 ∷ quiet 1 3 ∷ []
+    quiet 0 12 ∷ sending 1 14 66 [] ∷ sending 0 13 65 (from 1 freshCause ∷ [])
+    ∷ hearing 1 15 (from 2 freshEffect ∷ from 1 freshCause ∷ from 2 freshEffect ∷ [])
+    ∷ failing 1 group 14
+    ∷ hearing 0 14 (from 1 freshCause ∷ from 2 freshEffect ∷ [])
+    ∷ quiet 1 16 ∷ quiet 0 15 ∷ quiet 1 17 ∷ quiet 0 16 ∷ quiet 0 17
+    ∷ []
 
 pub fresh-start : goodStart group freshNodes ≡ true
 unfolding running
 fresh-start = refl
 
--- what is fresh of a node
-abbrev IsFresh : Node → Type 0
-IsFresh node =
-    (node .tables ≡ widened (fresh 1 (node .clock % 8))) × (node .holdback ≡ encodeHoldback (holdbackSize group) [])
-
-pub fresh-nodes : Fresh group freshNodes
-fresh-nodes zero node e = subst IsFresh (Option·some-injective (freshNode 0) node e) (refl, refl)
-fresh-nodes (suc zero) node e = subst IsFresh (Option·some-injective (freshNode 1) node e) (refl, refl)
-fresh-nodes (suc (suc i)) node e = absurd (let z : _≡_ {A = ℕ} 0 1 = cc in omega arith)
+pub fresh-nodes : allFresh group freshNodes ≡ true
+unfolding running
+fresh-nodes = refl
 
 pub fresh-keeps : keeps group (largestClock freshNodes) (atStart freshNodes) freshCalls ≡ true
 unfolding running
@@ -237,8 +277,18 @@ fresh-none-stale = refl
 
 pub fresh-figures :
     map figures (runFrom (atStart freshNodes) freshCalls .past)
-    ≡ (0 ∷ 0 ∷ 0 ∷ 0 ∷ []) ∷ (0 ∷ 0 ∷ 1 ∷ 0 ∷ []) ∷ (0 ∷ 0 ∷ 2 ∷ 0 ∷ []) ∷ (2 ∷ 0 ∷ 0 ∷ 0 ∷ []) ∷ (0 ∷ 0 ∷ 0 ∷ 0 ∷ [])
-    ∷ (0 ∷ 0 ∷ 0 ∷ 2 ∷ []) ∷ (0 ∷ 0 ∷ 0 ∷ 1 ∷ []) ∷ []
+    ≡ (12 ∷ 0 ∷ 0 ∷ 0 ∷ 0 ∷ 0 ∷ [])
+    ∷ (14 ∷ 0 ∷ 0 ∷ 0 ∷ 0 ∷ 12 ∷ [])
+    ∷ (13 ∷ 0 ∷ 0 ∷ 1 ∷ 0 ∷ 12 ∷ 0 ∷ [])
+    ∷ (15 ∷ 0 ∷ 0 ∷ 2 ∷ 0 ∷ 0 ∷ 0 ∷ 0 ∷ 16 ∷ [])
+    ∷ (15 ∷ 2 ∷ 0 ∷ 0 ∷ 0 ∷ 0 ∷ [])
+    ∷ (14 ∷ 0 ∷ 0 ∷ 1 ∷ 0 ∷ 0 ∷ 16 ∷ 0 ∷ [])
+    ∷ (16 ∷ 0 ∷ 0 ∷ 0 ∷ 0 ∷ 0 ∷ [])
+    ∷ (15 ∷ 0 ∷ 0 ∷ 0 ∷ 0 ∷ 0 ∷ [])
+    ∷ (17 ∷ 0 ∷ 0 ∷ 0 ∷ 2 ∷ 0 ∷ [])
+    ∷ (16 ∷ 0 ∷ 0 ∷ 0 ∷ 0 ∷ 0 ∷ [])
+    ∷ (17 ∷ 0 ∷ 0 ∷ 0 ∷ 2 ∷ 0 ∷ [])
+    ∷ []
 unfolding running
 fresh-figures = refl
 

@@ -3,16 +3,15 @@
 use Prim.Native.Nat.{ℕ, zero, suc, _+_, _≤_, _<_, zero-le, suc-le-suc, compare, Ordering, Ordering·lt, Ordering·eq, Ordering·gt}
 use native.Mathlib.Omega.{arith}
 use native.Mathlib.Nat.{suc-inj, not-suc-le-zero, le-of-suc-le-suc}
-use mathlib.Core.Bool.{Bool, true, false, cond}
+use mathlib.Core.Bool.{true}
 use mathlib.Core.List.{List, [], _∷_, _++_}
 use mathlib.Core.Logic.{_⊎_, inl, inr}
 use mathlib.Core.Path.{_≡_, refl, sym, ap, ap₂, _∙_}
-use lib.Dec.{eqb}
-use lib.ListN.{length, getD, take}
-use borrow.Author.Tests.{eqb-true, eqb-false, eq-eqb, ne-eqb}
+use lib.ListN.{length, getD}
+use borrow.Author.Tests.{eq-eqb, ne-eqb}
 use Rattle.laws.specs.Lex.{orElse, isLess, lexCompare, firstDifference}
-use Rattle.laws.proofs.Numbers.{lt-or-ge, eq-or-ne, true-or-false, clash, false-of-no}
-use Rattle.laws.proofs.Numbers.{compare-refl, compare-lt, compare-gt, compare-eq, lt-of-compare, eq-of-compare, gt-of-compare, compare-add}
+use Rattle.laws.proofs.Numbers.{lt-or-ge, eq-or-ne, clash}
+use Rattle.laws.proofs.Numbers.{compare-lt, compare-gt, compare-eq, compare-add}
 
 -- the answer with the two sides exchanged
 abbrev pub flipped : Ordering → Ordering

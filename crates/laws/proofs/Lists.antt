@@ -3,19 +3,19 @@
 use Prim.Native.Nat.{ℕ, zero, suc, _+_, _*_, _-_, _≤_, _<_, max, zero-le, suc-le-suc}
 use native.Mathlib.Omega.{arith}
 use native.Mathlib.Nat.{suc-inj, not-suc-le-zero, le-of-suc-le-suc, zero-add, add-zero, suc-add, add-suc, zero-sub, sub-zero, suc-sub-suc, suc-mul, zero-mul}
-use mathlib.Core.Bool.{Bool, true, false, _&&_, _||_, not, cond}
-use mathlib.Core.List.{List, [], _∷_, _++_, map, append-assoc, append-nil}
-use mathlib.Core.List.{List·Memᴰ, List·Memᴰ·head, List·Memᴰ·tail, List·Memᴰ·not-nil, List·Memᴰ·cases-cons, Memᴰ·append-left, Memᴰ·append-right, List·Memᴰ·append-cases}
+use mathlib.Core.Bool.{Bool, true, false, _&&_, _||_, cond}
+use mathlib.Core.List.{List, [], _∷_, _++_, map, append-assoc}
+use mathlib.Core.List.{List·Memᴰ, List·Memᴰ·head, List·Memᴰ·tail, List·Memᴰ·not-nil, List·Memᴰ·cases-cons, Memᴰ·append-right, List·Memᴰ·append-cases}
 use mathlib.Core.Logic.{_⊎_, inl, inr}
-use mathlib.Core.Option.{Option, none, some}
+use mathlib.Core.Option.{none, some}
 use mathlib.Core.Path.{_≡_, refl, sym, ap, ap₂, _∙_}
-use lib.Dec.{leb, eqb, eqb·zero-suc, eqb·suc-zero, eqb·suc-suc}
+use lib.Dec.{eqb, eqb·zero-suc, eqb·suc-zero, eqb·suc-suc}
 use lib.ListN.{length, take, drop, getD, set, replicate, getElem?}
-use lib.ListN.{length-append, length-drop, length-replicate, take-append-drop, List·getD-eq-default, List·getD-append}
+use lib.ListN.{length-append, length-drop, length-replicate, List·getD-eq-default}
 use borrow.Author.Tests.{eqb-true, eq-eqb}
-use lib.Seq.{take-all, take-append-seam, drop-append-seam, take-append-le, getD-append-add}
+use lib.Seq.{take-append-seam, drop-append-seam, take-append-le}
 use Rattle.laws.specs.Lists.{tab, every, any, select, selectFrom, sameList, leading, insertAt, overlay, joined, largest, padded}
-use Rattle.laws.proofs.Numbers.{lt-or-ge, true-or-false, clash, and-intro, and-left, and-right, or-left, or-right, or-cases, or-false-left, or-false-right, or-false-intro, false-of-no}
+use Rattle.laws.proofs.Numbers.{lt-or-ge, true-or-false, clash, and-intro, and-left, and-right, or-left, or-right, or-cases, or-false-left, or-false-right, false-of-no}
 
 module _ {A : Type 0} where
   -- membership

@@ -1,11 +1,11 @@
 -- Lists in the lexicographic order of a key, lists with no two elements alike, and how long the latter can be.
 -- Assumes nothing.
-use Prim.Native.Nat.{ℕ, zero, suc, _+_, _*_, _-_, _≤_, _<_, zero-le, suc-le-suc, Ordering·lt, Ordering·eq, Ordering·gt}
+use Prim.Native.Nat.{ℕ, zero, suc, _+_, _*_, _-_, _≤_, _<_, zero-le, suc-le-suc}
 use native.Mathlib.Omega.{arith}
 use native.Mathlib.Nat.{add-zero, add-suc, suc-add, not-suc-le-zero, le-of-suc-le-suc, mul-le-mul-right, suc-mul}
-use mathlib.Core.Bool.{Bool, true, false, _&&_, _||_, not, cond}
+use mathlib.Core.Bool.{Bool, true, false, _&&_, not}
 use mathlib.Core.List.{List, [], _∷_, _++_, map}
-use mathlib.Core.List.{List·Memᴰ, List·Memᴰ·head, List·Memᴰ·tail, List·Memᴰ·not-nil, List·Memᴰ·cases-cons, Memᴰ·append-left, Memᴰ·append-right}
+use mathlib.Core.List.{List·Memᴰ, List·Memᴰ·head, List·Memᴰ·tail, List·Memᴰ·not-nil, List·Memᴰ·cases-cons}
 use mathlib.Core.Logic.{_⊎_, inl, inr}
 use mathlib.Core.Path.{_≡_, refl, sym, ap, ap₂, _∙_}
 use mathlib.Core.Option.{some}
@@ -14,10 +14,10 @@ use lib.ListN.{length, take, drop, getD, getElem?, take-append-drop}
 use borrow.Author.Tests.{eqb-true, eqb-false, eq-eqb, ne-eqb}
 use Rattle.laws.specs.Lists.{every, any, select, selectFrom, leading, insertAt, chained, apart}
 use Rattle.laws.specs.Lex.{isLess, lexCompare}
-use Rattle.laws.proofs.Numbers.{lt-or-ge, eq-or-ne, true-or-false, clash, and-intro, and-left, and-right, not-of-true, not-of-false, true-of-not, false-of-not, false-of-no, or-false-left, or-false-right}
-use Rattle.laws.proofs.Lists.{every-index, every-of-index, every-mem, every-of-mem, every-mono, every-mono-mem, every-take, every-drop, every-select, every-append, every-append-intro, every-append-left, every-append-right, every-insertAt, every-map, every-ext}
-use Rattle.laws.proofs.Lists.{any-of-mem, any-false, any-of-false, mem-of-take, mem-of-drop, mem-getD, mem-select, mem-of-select, select-yes, select-no, select-all, select-none, mem-insertAt-new, mem-insertAt-old, mem-of-insertAt, length-insertAt, selectFrom-yes, selectFrom-no, mem-of-selectFrom}
-use Rattle.laws.proofs.Lex.{isLess-lt, lt-isLess, lex-irrefl, lex-trans, lex-asym, lex-total}
+use Rattle.laws.proofs.Numbers.{lt-or-ge, true-or-false, clash, and-intro, and-left, and-right, not-of-true, not-of-false, false-of-not, false-of-no}
+use Rattle.laws.proofs.Lists.{every-index, every-of-index, every-mem, every-of-mem, every-mono, every-mono-mem, every-take, every-select, every-append-intro, every-append-left, every-append-right, every-insertAt, every-map, every-ext}
+use Rattle.laws.proofs.Lists.{any-false, any-of-false, mem-of-take, mem-of-drop, mem-of-select, select-all, select-none, mem-of-selectFrom}
+use Rattle.laws.proofs.Lex.{isLess-lt, lt-isLess, lex-irrefl, lex-trans, lex-total}
 
 module _ {A : Type 0} where
   -- every element stands in the relation to each later one

@@ -11,6 +11,7 @@ orElse Ordering·lt o = Ordering·lt
 orElse Ordering·eq o = o
 orElse Ordering·gt o = Ordering·gt
 
+-- the first is the smaller
 abbrev pub isLess : Ordering → Bool
 isLess Ordering·lt = true
 isLess Ordering·eq = false

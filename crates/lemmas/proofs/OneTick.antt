@@ -4,25 +4,24 @@ use Prim.Native.Nat.{ℕ, zero, suc, _+_, _*_, _-_, _%_, _≤_, _<_}
 use native.Mathlib.Omega.{arith}
 use native.Mathlib.Nat.{mod-lt, mod-eq-of-lt, mul-le-mul-right, add-zero, zero-add}
 use mathlib.Core.Path.{_≡_, refl, sym, ap, subst, _∙_}
-use mathlib.Core.Logic.{_⊎_, inl, inr}
-use mathlib.Core.Bool.{Bool, true, false, _&&_, not, cond}
+use mathlib.Core.Bool.{Bool, true, false, not, cond}
 use mathlib.Core.List.{List, [], _∷_, _++_, map, List·Memᴰ}
-use mathlib.Core.Option.{Option, none, some}
+use mathlib.Core.Option.{some}
 use lib.Dec.{leb, ltb, eqb}
 use lib.ListN.{length, take, drop, getD, getElem?, length-append, List·getD-append}
 use lib.Seq.{getD-append-seam}
 use borrow.Author.Tests.{leb-true, ltb-true}
 use Rattle.laws.specs.Lists.{select, overlay}
-use Rattle.laws.proofs.Numbers.{and-left, and-right, true-or-false}
+use Rattle.laws.proofs.Numbers.{and-left}
 use Rattle.laws.proofs.Lists.{mem-of-select, take-overlay, select-length-le, getElem?-lt}
 use Rattle.model.specs.Setup.{Setup, width, longestFrame, inLimits, depth}
-use Rattle.model.specs.Timestamp.{Timestamp, sum, trimmed, step, widened, replaced, absorb, countOwn, soundTables}
+use Rattle.model.specs.Timestamp.{Timestamp, sum, trimmed, step, widened, replaced, absorb, soundTables}
 use Rattle.model.specs.Frame.{Frame, encode, decode}
 use Rattle.model.specs.Batch.{batchEntries, exactBatch}
 use Rattle.model.specs.Holdback.{heldBytes, held, notEarly, soundHoldback, encodeFrames, encodeHoldback}
-use Rattle.model.specs.Question.{Question, ask, askSetup, firstNo}
+use Rattle.model.specs.Question.{askSetup, firstNo}
 use Rattle.model.specs.Codec.{askPayload}
-use Rattle.model.specs.Judge.{Heard, Verdict, taken, refused, verdictBy, judge, hearBy, hear, hearOne, judgeQuestions, placeFor, readingOf}
+use Rattle.model.specs.Judge.{Heard, taken, verdictBy, judge, hearBy, hear, hearOne, judgeQuestions, placeFor, readingOf}
 use Rattle.model.specs.Tick.{Input, Output, holdbackSize, roomy, callQuestions, ownStamp, tablesSound, queueSound, openingStamp, openingQueue, heardOf, newStamp, sentBytes, deliveredOf, keptOf, dueNow, repairOf, acceptance, refusal, tickBy, tick}
 use Rattle.lemmas.proofs.Bounds.{Limits, Sound, Opened, FrameOk, QueueOk}
 use Rattle.lemmas.proofs.Questions.{first-yes, other-yes, limits-from}

@@ -1,17 +1,17 @@
 -- Every definition of the model, opened at once: a proof by computation says 'unfolding computing'.
 -- Assumes nothing.
 use Rattle.laws.specs.Lists.{within, tab, every, any, select, leading, insertAt, chained, apart, overlay, joined, padded}
-use Rattle.laws.specs.Lex.{isLess, lexCompare, firstDifference}
-use Rattle.model.specs.Setup.{Setup, leastModulus, inLimits, width, longestFrame, depth, holdbackLength}
-use Rattle.model.specs.Timestamp.{Timestamp, countAt, sum, atMost, soundTimestamp, soundTables, trimmed, widened, ahead, near, fresh, replaced, shift, step, absorb, countOwn}
-use Rattle.model.specs.Frame.{Frame, twoBytes, twoAt, section, encode, payloadCountAt, frameEnd, wellFormed, decode}
+use Rattle.laws.specs.Lex.{lexCompare, firstDifference}
+use Rattle.model.specs.Setup.{leastModulus, inLimits, width, longestFrame, depth, holdbackLength}
+use Rattle.model.specs.Timestamp.{countAt, sum, atMost, soundTimestamp, soundTables, trimmed, widened, ahead, near, fresh, replaced, shift, step, absorb, countOwn}
+use Rattle.model.specs.Frame.{twoBytes, twoAt, section, encode, payloadCountAt, frameEnd, wellFormed, decode}
 use Rattle.model.specs.Order.{countsDown, key, keyNear, compareFrames, before, decidedAt, due, dueNear}
 use Rattle.model.specs.Batch.{endsAfter, exactBatch, entriesOf, batchEntries}
-use Rattle.model.specs.Question.{ask, firstNo, askSetup, askForm, askRange, askStamp, frameQuestions}
+use Rattle.model.specs.Question.{firstNo, askSetup, askForm, askRange, askStamp, frameQuestions}
 use Rattle.model.specs.Holdback.{cutFrames, heldBytes, held, sameOrigin, passes, notEarly, notOverdue, soundHoldback, encodeFrames, encodeHoldback}
 use Rattle.model.specs.Codec.{askPayload, frameOf}
-use Rattle.model.specs.Judge.{readingOf, askLate, askEarly, askCounts, askRepeat, askRoom, placeQuestions, judgeQuestions, verdictNumber, placeFor, judge, hearOne, hear}
-use Rattle.model.specs.Tick.{Input, Output, holdbackSize, roomy, callQuestions, refusal, ownStamp, tablesSound, queueSound, repairOf, openingStamp, openingQueue, heardOf, newStamp, sentBytes, dueNow, deliveredOf, keptOf, takenCount, acceptance, tick}
+use Rattle.model.specs.Judge.{readingOf, askLate, askEarly, askCounts, askRepeat, askRoom, placeQuestions, judgeQuestions, placeFor, judge, hearOne, hear}
+use Rattle.model.specs.Tick.{roomy, callQuestions, refusal, ownStamp, tablesSound, queueSound, repairOf, openingStamp, openingQueue, heardOf, newStamp, sentBytes, dueNow, deliveredOf, keptOf, takenCount, acceptance, tick}
 
 unfoldable pub computing : Unit {0}
 unfolding within tab every any select leading insertAt chained apart overlay joined padded lexCompare firstDifference leastModulus inLimits width longestFrame depth holdbackLength countAt sum atMost soundTimestamp soundTables trimmed widened ahead near fresh replaced shift step absorb countOwn twoBytes twoAt section encode payloadCountAt frameEnd wellFormed decode countsDown key keyNear compareFrames before decidedAt due dueNear endsAfter exactBatch entriesOf batchEntries firstNo askSetup askForm askRange askStamp frameQuestions cutFrames heldBytes held sameOrigin passes notEarly notOverdue soundHoldback encodeFrames encodeHoldback askPayload frameOf readingOf askLate askEarly askCounts askRepeat askRoom placeQuestions judgeQuestions placeFor judge hearOne hear roomy callQuestions refusal ownStamp tablesSound queueSound repairOf openingStamp openingQueue heardOf newStamp sentBytes dueNow deliveredOf keptOf takenCount acceptance tick

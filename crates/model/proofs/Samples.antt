@@ -1,24 +1,20 @@
 -- 01, "Sample judgements" and the sample of "The replay program", computed from the definitions.
 -- Assumes nothing.
-use Prim.Native.Nat.{ℕ, _+_, _-_, Ordering}
+use Prim.Native.Nat.{ℕ, _+_, _-_}
 use mathlib.Core.Path.{_≡_, refl}
 use Rattle.model.proofs.Computing.{computing}
 use mathlib.Core.Bool.{Bool, true, false}
 use mathlib.Core.List.{List, [], _∷_, _++_, map}
-use lib.Dec.{ltb}
+use lib.Dec.{leb, ltb}
 use lib.ListN.{length, take, replicate}
-use Rattle.laws.specs.Lists.{within, tab, every, any, select, leading, insertAt, chained, apart, overlay, joined, padded}
-use Rattle.laws.specs.Lex.{isLess, lexCompare, firstDifference}
-use Rattle.model.specs.Setup.{Setup, leastModulus, inLimits, width, longestFrame, depth, holdbackLength}
-use Rattle.model.specs.Timestamp.{Timestamp, countAt, sum, atMost, soundTimestamp, soundTables, trimmed, widened, ahead, near, fresh, replaced, shift, step, absorb, countOwn}
-use Rattle.model.specs.Frame.{Frame, twoBytes, twoAt, section, encode, payloadCountAt, frameEnd, wellFormed, decode}
-use Rattle.model.specs.Order.{countsDown, key, keyNear, compareFrames, before, decidedAt, due, dueNear}
-use Rattle.model.specs.Batch.{endsAfter, exactBatch, entriesOf, batchEntries}
-use Rattle.model.specs.Question.{ask, firstNo, askSetup, askForm, askRange, askStamp, frameQuestions}
-use Rattle.model.specs.Holdback.{cutFrames, heldBytes, held, sameOrigin, passes, notEarly, notOverdue, soundHoldback, encodeFrames, encodeHoldback}
-use Rattle.model.specs.Codec.{askPayload, frameOf}
-use Rattle.model.specs.Judge.{readingOf, askLate, askEarly, askCounts, askRepeat, askRoom, placeQuestions, judgeQuestions, verdictNumber, placeFor, judge, hearOne, hear}
-use Rattle.model.specs.Tick.{Input, Output, holdbackSize, roomy, callQuestions, refusal, ownStamp, tablesSound, queueSound, repairOf, openingStamp, openingQueue, heardOf, newStamp, sentBytes, dueNow, deliveredOf, keptOf, takenCount, acceptance, tick}
+use Rattle.laws.specs.Lists.{every, chained, apart}
+use Rattle.model.specs.Setup.{Setup, depth}
+use Rattle.model.specs.Timestamp.{Timestamp, sum, widened, near, fresh}
+use Rattle.model.specs.Frame.{Frame, twoAt, encode, decode}
+use Rattle.model.specs.Order.{before, decidedAt, dueNear}
+use Rattle.model.specs.Holdback.{heldBytes, held, sameOrigin, passes, notEarly, notOverdue, encodeHoldback}
+use Rattle.model.specs.Judge.{readingOf, verdictNumber, judge}
+use Rattle.model.specs.Tick.{Input, Output, holdbackSize, tick}
 
 -- "n 2, ε 2, δ 1, B 14 unless said"
 abbrev usual : Setup
@@ -39,7 +35,7 @@ frame r c kn = record { station = 1; stamp = stamp r c kn; payload = 0x41 ∷ []
 abbrev A : Frame
 A = frame 2 0 (1 ∷ 1 ∷ 1 ∷ 0 ∷ [])
 
--- a call with an empty shelf and buffers of ones, as long as they must be
+-- a call with buffers of ones, as long as they must be
 abbrev call : Setup → ℕ → Timestamp → List ℕ → Bool → List ℕ → List ℕ → Input
 call s clock tables holdback send payload batch =
     record {
@@ -188,19 +184,37 @@ holding before clock queue = tick (call usual clock (widened (fresh 2 before)) (
 abbrev A′ : Frame
 A′ = frame 2 0 (1 ∷ 2 ∷ 1 ∷ 0 ∷ [])
 
--- what a shelf must be, and when a frame is handed out: the mend, and the frames handed out
+-- the mend of such a tick, and the clauses of "It is sound if" that the shelf meets (1) or not (0): at most n(δ + 3ε) frames;
+-- 10 to 12; in order; no station and r twice; each sum not past v + ε − 1; each due clock not before v
+abbrev judged : ℕ → ℕ → List Frame → List ℕ
+judged before-it v queue =
+    holding before-it v queue .answer .repair
+    ∷ one-if (leb (twoAt (stored queue) 0) (depth 2 2 1))
+    ∷ one-if (every (passes usual) (heldBytes 2 (stored queue)))
+    ∷ one-if (chained (before 2 14 v) (held 2 (stored queue)))
+    ∷ one-if (apart sameOrigin (held 2 (stored queue)))
+    ∷ one-if (every (notEarly usual v) (held 2 (stored queue)))
+    ∷ one-if (every (notOverdue usual v) (held 2 (stored queue)))
+    ∷ []
+
+-- what a shelf must be: each shelf with mend 2 fails the clause that it is for, and no other; and when a frame is handed out.
+-- (No shelf fails the first clause alone: the others leave room for n(δ + 3ε − 1) frames, `queue-bound` in lemmas.)
 pub queues : List Case
 queues =
-    -- "strictly in order": A before the frame sent at ★a's tick
-    says (holding 0 1 (A ∷ S ∷ []) .answer .repair ∷ []) (0 ∷ [])
-    ∷ says (holding 0 1 (S ∷ A ∷ []) .answer .repair ∷ []) (2 ∷ [])
-    ∷ says (holding 0 1 (A ∷ A ∷ []) .answer .repair ∷ []) (2 ∷ [])
+    -- A before the frame sent at ★a's tick
+    says (judged 0 1 (A ∷ S ∷ [])) (0 ∷ 1 ∷ 1 ∷ 1 ∷ 1 ∷ 1 ∷ 1 ∷ [])
+    -- "pass 10 to 12": ★i's frame
+    ∷ says (judged 0 1 (frame 2 0 (1 ∷ 1 ∷ 0 ∷ 0 ∷ []) ∷ [])) (2 ∷ 1 ∷ 0 ∷ 1 ∷ 1 ∷ 1 ∷ 1 ∷ [])
+    -- "in order"
+    ∷ says (judged 0 1 (S ∷ A ∷ [])) (2 ∷ 1 ∷ 1 ∷ 0 ∷ 1 ∷ 1 ∷ 1 ∷ [])
+    -- "strictly": the same frame twice, which is also the same station and r
+    ∷ says (judged 0 1 (A ∷ A ∷ [])) (2 ∷ 1 ∷ 1 ∷ 0 ∷ 0 ∷ 1 ∷ 1 ∷ [])
     -- "no station and r twice", though in order
-    ∷ says (holding 0 1 (A ∷ A′ ∷ []) .answer .repair ∷ []) (2 ∷ [])
-    -- "each sum at most ε − 1 past v"
-    ∷ says (holding 13 0 (A ∷ []) .answer .repair ∷ []) (2 ∷ [])
+    ∷ says (judged 0 1 (A ∷ A′ ∷ [])) (2 ∷ 1 ∷ 1 ∷ 1 ∷ 0 ∷ 1 ∷ 1 ∷ [])
+    -- "each sum at most ε − 1 past v": ★f's frame
+    ∷ says (judged 0 1 (frame 2 1 (1 ∷ 1 ∷ 1 ∷ 1 ∷ []) ∷ [])) (2 ∷ 1 ∷ 1 ∷ 1 ∷ 1 ∷ 0 ∷ 1 ∷ [])
     -- "each sum + δ + ε not before v"
-    ∷ says (holding 5 6 (A ∷ []) .answer .repair ∷ []) (2 ∷ [])
+    ∷ says (judged 5 6 (A ∷ [])) (2 ∷ 1 ∷ 1 ∷ 1 ∷ 1 ∷ 1 ∷ 0 ∷ [])
     -- a frame is handed out in the tick for its due clock, and not before
     ∷ says (holding 3 4 (A ∷ []) .answer .delivered ∷ holding 4 5 (A ∷ []) .answer .delivered ∷ []) (0 ∷ 1 ∷ [])
     -- "Handing out before the bundle of that tick is judged" goes wrong: A is heard and handed out at 5

@@ -1,6 +1,5 @@
 -- 01: "Reader and writer alone". A refused one "answers the number alone and writes nothing".
 use Prim.Native.Nat.{ℕ, zero, suc}
-use mathlib.Core.Bool.{Bool}
 use mathlib.Core.List.{List, [], _∷_}
 use lib.Dec.{leb}
 use lib.ListN.{length, replicate}
@@ -29,20 +28,22 @@ pub record ReadAnswer : Type 0 where
 unfoldable pub noTimestamp : Timestamp
 noTimestamp = record { r = 0; c = 0; kn = replicate widest 0 }
 
+-- the answer by the number of the first no
 abbrev pub readBy : ℕ → Frame → ReadAnswer
 readBy zero f = record { number = 0; station = f .station; stamp = widened (f .stamp); payload = f .payload }
 readBy (suc k) f = record { number = suc k; station = 0; stamp = noTimestamp; payload = [] }
 
+-- 01: the reader
 unfoldable pub read : Setup → List ℕ → ReadAnswer
 read s bytes = readBy (firstNo (readQuestions s bytes)) (decode (s .epsilon) bytes)
 
--- the frame that the writer makes of a station, a stamp and a ticket
+-- the frame that the writer makes of a station, a stamp and a ticket. 01: "Places past the 2ε counts are ignored, by the writer too"
 unfoldable pub frameOf : ℕ → ℕ → Timestamp → List ℕ → Frame
 frameOf epsilon station t payload = record { station = station; stamp = trimmed epsilon t; payload = payload }
 
 -- 01: "the writer asks 1, 4, 11, 12, then 6 if its buffer is shorter than this frame"
-unfoldable pub writeQuestions : Setup → Frame → List ℕ → List Question
-writeQuestions s f buffer =
+unfoldable pub writeFrameQuestions : Setup → Frame → List ℕ → List Question
+writeFrameQuestions s f buffer =
     askSetup s ∷ askPayload (f .payload) ∷ askRange s f ∷ askStamp s f
     ∷ ask (leb (length (encode f)) (length buffer)) 6 ∷ []
 
@@ -52,9 +53,19 @@ pub record WriteAnswer : Type 0 where
   pub size : ℕ
   pub buffer : List ℕ
 
+-- the answer by the number of the first no
 abbrev pub writeBy : ℕ → Frame → List ℕ → WriteAnswer
 writeBy zero f buffer = record { number = 0; size = length (encode f); buffer = overlay (encode f) buffer }
 writeBy (suc k) f buffer = record { number = suc k; size = 0; buffer = buffer }
 
-unfoldable pub write : Setup → Frame → List ℕ → WriteAnswer
-write s f buffer = writeBy (firstNo (writeQuestions s f buffer)) f buffer
+-- the writer of a frame
+unfoldable pub writeFrame : Setup → Frame → List ℕ → WriteAnswer
+writeFrame s f buffer = writeBy (firstNo (writeFrameQuestions s f buffer)) f buffer
+
+-- the questions of the writer
+abbrev pub writeQuestions : Setup → ℕ → Timestamp → List ℕ → List ℕ → List Question
+writeQuestions s station t payload buffer = writeFrameQuestions s (frameOf (s .epsilon) station t payload) buffer
+
+-- 01: the writer, of a station, a stamp and a ticket, into its buffer
+abbrev pub write : Setup → ℕ → Timestamp → List ℕ → List ℕ → WriteAnswer
+write s station t payload buffer = writeFrame s (frameOf (s .epsilon) station t payload) buffer

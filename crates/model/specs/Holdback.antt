@@ -20,10 +20,11 @@ cutFrames epsilon (suc k) s = take (frameEnd epsilon s) s ∷ cutFrames epsilon 
 unfoldable pub heldBytes : ℕ → List ℕ → List (List ℕ)
 heldBytes epsilon s = cutFrames epsilon (twoAt s 0) (drop 2 s)
 
+-- the frames that these bytes hold
 unfoldable pub held : ℕ → List ℕ → List Frame
 held epsilon s = map (decode epsilon) (heldBytes epsilon s)
 
--- 01: "that station and r"
+-- 01: "that station and r": the same origin. (Which call an entry comes from is its source, in Run.)
 unfoldable pub sameOrigin : Frame → Frame → Bool
 sameOrigin f g = eqb (f .station) (g .station) && eqb (f .stamp .r) (g .stamp .r)
 

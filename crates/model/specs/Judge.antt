@@ -1,6 +1,6 @@
 -- 01: the questions "Of each frame", the verdict, and the hearing of a batch.
 use Prim.Native.Nat.{ℕ, zero, suc, _+_, _-_}
-use mathlib.Core.Bool.{Bool, not}
+use mathlib.Core.Bool.{not}
 use mathlib.Core.List.{List, [], _∷_, _++_}
 use lib.Dec.{leb, ltb}
 use lib.ListN.{length, drop}
@@ -63,6 +63,7 @@ verdictPlace (refused number) = 0
 unfoldable pub placeFor : Setup → ℕ → List Frame → Frame → ℕ
 placeFor s v queue f = leading (λ g. before (s .epsilon) (s .modulus) v g f) queue
 
+-- the verdict by the number of the first no
 abbrev pub verdictBy : ℕ → ℕ → Verdict
 verdictBy zero place = taken place
 verdictBy (suc k) place = refused (suc k)
@@ -89,6 +90,7 @@ hearBy s v (taken place) f h =
 hearBy s v (refused number) f h =
     record { stamp = h .stamp; queue = h .queue; verdicts = h .verdicts ++ (number ∷ []) }
 
+-- one entry of the batch heard: judged, and taken or skipped
 unfoldable pub hearOne : Setup → ℕ → Heard → List ℕ → Heard
 hearOne s v h bytes = hearBy s v (judge s v (h .queue) bytes) (decode (s .epsilon) bytes) h
 

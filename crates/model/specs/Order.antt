@@ -20,6 +20,7 @@ key epsilon reading f = sum reading (f .stamp .c) ∷ (countsDown epsilon (f .st
 unfoldable pub keyNear : ℕ → ℕ → ℕ → Frame → List ℕ
 keyNear epsilon modulus v f = key epsilon (near epsilon modulus v (f .stamp .r)) f
 
+-- 01: "first difference decides"
 unfoldable pub compareFrames : ℕ → ℕ → ℕ → Frame → Frame → Ordering
 compareFrames epsilon modulus v f g = lexCompare (keyNear epsilon modulus v f) (keyNear epsilon modulus v g)
 

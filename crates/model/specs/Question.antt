@@ -1,9 +1,9 @@
 -- 01, "The checks, as questions": "in order; a no ends it".
 use Prim.Native.Nat.{ℕ}
 use mathlib.Core.Bool.{Bool, _&&_, cond}
-use mathlib.Core.List.{List, [], _∷_, _++_}
-use lib.Dec.{leb, ltb}
-use Rattle.model.specs.Setup.{Setup, inLimits, longestPayload}
+use mathlib.Core.List.{List, [], _∷_}
+use lib.Dec.{ltb}
+use Rattle.model.specs.Setup.{Setup, inLimits}
 use Rattle.model.specs.Timestamp.{soundTimestamp}
 use Rattle.model.specs.Frame.{Frame, wellFormed, decode}
 
@@ -12,6 +12,7 @@ pub record Question : Type 0 where
   pub holds : Bool
   pub number : ℕ
 
+-- what is asked, and the number of a no
 abbrev pub ask : Bool → ℕ → Question
 ask holds number = record { holds = holds; number = number }
 

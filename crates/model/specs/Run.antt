@@ -17,18 +17,19 @@ pub record Node : Type 0 where
   pub tables : Timestamp
   pub holdback : List ℕ
 
--- 01: "Each bundle entry of an accepted call comes from one earlier call, or is an older frame of any bytes" (here: stale)
-pub data Origin : Type 0 where
-  sentBy : ℕ → Origin
-  stale : Origin
+-- 01: "Each bundle entry of an accepted call comes from one earlier call, or is an older frame of any bytes" (here: stale).
+-- An earlier call is named by its position in the list
+pub data Source : Type 0 where
+  sentBy : ℕ → Source
+  stale : Source
 
--- one call in the list: which node's it is (its position), its arguments but for the tables and the shelf, and its entries' origins
+-- one call in the list: which node's it is (its position), its arguments but for the tables and the shelf, and where its entries come from
 pub record Call : Type 0 where
   pub node : ℕ
   pub setup : Setup
   pub clock : ℕ
   pub batch : List ℕ
-  pub origins : List Origin
+  pub sources : List Source
   pub send : Bool
   pub payload : List ℕ
   pub outgoing : List ℕ
@@ -55,7 +56,8 @@ inputOf node call =
 unfoldable pub isAccepted : Output → Bool
 isAccepted o = eqb (o .answer .number) 0
 
--- a call that has been made: by which node (its position and own number), the true clock it moved to, the call, what came of it
+-- a call that has been made: by which node (its position and own number), the node's true clock after it (which a refused call does
+-- not move), the call, and what came of it
 pub record Done : Type 0 where
   pub node : ℕ
   pub own : ℕ
@@ -82,10 +84,11 @@ nodeAfter node o =
       holdback = o .holdback;
     }
 
--- what a call makes of its node, and the record of it
+-- what comes of a call to a node
 unfoldable pub outputOf : Node → Call → Output
 outputOf node call = tick (inputOf node call)
 
+-- the record of a call to a node
 unfoldable pub doneOf : Node → Call → Done
 doneOf node call =
     record {
@@ -96,7 +99,7 @@ doneOf node call =
       output = outputOf node call;
     }
 
--- what a call does to the stations: its own node changes, no other
+-- the same, given the node that the call names: that node changes, no other
 abbrev pub actOn : Option Node → World → Call → World
 actOn none w call = w
 actOn (some node) w call =
@@ -105,6 +108,7 @@ actOn (some node) w call =
       past = w .past ++ (doneOf node call ∷ []);
     }
 
+-- what a call does to the stations and to the calls made; a call to no node does nothing
 unfoldable pub act : World → Call → World
 act w call = actOn (getElem? (w .nodes) (call .node)) w call
 
@@ -121,6 +125,7 @@ runFrom w (call ∷ calls) = runFrom (act w call) calls
 unfoldable pub sends : Done → Bool
 sends d = isAccepted (d .output) && d .call .send
 
+-- the bytes of that frame
 unfoldable pub messageBytes : Done → List ℕ
 messageBytes d = take (d .output .answer .sent) (d .output .outgoing)
 

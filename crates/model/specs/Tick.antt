@@ -5,7 +5,7 @@ use mathlib.Core.List.{List, [], _∷_}
 use lib.Dec.{leb, ltb, eqb}
 use lib.ListN.{length}
 use Rattle.laws.specs.Lists.{select, overlay}
-use Rattle.model.specs.Setup.{Setup, inLimits, longestFrame, holdbackLength, verdictLength}
+use Rattle.model.specs.Setup.{Setup, longestFrame, holdbackLength, verdictLength}
 use Rattle.model.specs.Timestamp.{Timestamp, trimmed, widened, soundTables, replaced, step, countOwn}
 use Rattle.model.specs.Frame.{Frame, encode}
 use Rattle.model.specs.Order.{dueNear}
@@ -15,7 +15,7 @@ use Rattle.model.specs.Question.{Question, ask, firstNo, askSetup}
 use Rattle.model.specs.Codec.{askPayload, frameOf}
 use Rattle.model.specs.Judge.{Heard, hear}
 
--- the arguments of one call. The tables have 32 counts
+-- the arguments of one call
 pub record Input : Type 0 where
   pub setup : Setup
   pub clock : ℕ
@@ -45,6 +45,7 @@ pub record Output : Type 0 where
   pub verdicts : List ℕ
   pub delivery : List ℕ
 
+-- 01: "a shelf's length"
 abbrev pub holdbackSize : Setup → ℕ
 holdbackSize s = holdbackLength (s .n) (s .epsilon) (s .delta)
 
@@ -80,9 +81,11 @@ refusal i number =
 unfoldable pub ownStamp : Input → Timestamp
 ownStamp i = trimmed (i .setup .epsilon) (i .tables)
 
+-- 01: the tables are "sound for a new clock v"
 unfoldable pub tablesSound : Input → Bool
 tablesSound i = soundTables (i .setup .n) (i .setup .epsilon) (i .setup .modulus) (i .clock) (ownStamp i)
 
+-- 01: the shelf is sound
 unfoldable pub queueSound : Input → Bool
 queueSound i = soundHoldback (i .setup) (i .clock) (i .holdback)
 
@@ -147,6 +150,7 @@ acceptance i =
       delivery = overlay (encodeFrames (deliveredOf i)) (i .delivery);
     }
 
+-- what comes of a call, by the number of the first no
 abbrev pub tickBy : ℕ → Input → Output
 tickBy zero i = acceptance i
 tickBy (suc k) i = refusal i (suc k)

@@ -2,21 +2,17 @@
 -- Assumes nothing.
 use Prim.Native.Nat.{ℕ, _+_, _%_}
 use native.Mathlib.Nat.{zero-add}
-use mathlib.Core.Path.{_≡_, refl, ap, _∙_, sym}
+use mathlib.Core.Path.{_≡_, ap, _∙_, sym}
 use mathlib.Core.Bool.{true}
-use mathlib.Core.List.{List, [], _∷_, map}
-use lib.ListN.{length, take, length-map}
-use lib.Seq.{take-length}
+use lib.ListN.{length, take}
 use Rattle.laws.specs.Lists.{overlay}
 use Rattle.laws.proofs.Lists.{take-overlay}
-use Rattle.model.specs.Timestamp.{Timestamp, trimmed, widened, soundTables}
-use Rattle.model.specs.Frame.{encode}
+use Rattle.model.specs.Timestamp.{Timestamp, trimmed, soundTables}
 use Rattle.model.specs.Batch.{batchEntries}
-use Rattle.model.specs.Holdback.{heldBytes}
 use Rattle.model.specs.Tick.{Input, Output, heardOf, newStamp, deliveredOf, takenCount, acceptance, tick}
-use Rattle.theory.specs.Demand2.{heardBefore, AnyState, Demand2Any}
+use Rattle.theory.specs.Demand2.{heardBefore, Demand2Any}
 use Rattle.lemmas.proofs.Counts.{trimmed-widened}
-use Rattle.lemmas.proofs.OneTick.{Accepted, accepted-call, opening, hear-length, new-sound, new-tables, tables-are, verdicts-are, verdict-byte, delivered-bytes}
+use Rattle.lemmas.proofs.OneTick.{Accepted, accepted-call, opening, hear-length, new-sound, new-tables, tables-are, verdicts-are, verdict-byte, sent-is, delivered-bytes, sent-bytes}
 
 taken-is : (i : Input) → Accepted i → tick i .answer .taken ≡ takenCount (heardOf i .verdicts)
 unfolding acceptance
@@ -50,6 +46,9 @@ demand2-any i h =
     record {
       verdict = λ k entry e. verdict-byte i a k entry e;
       taken = taken-is i a ∙ ap takenCount (sym (verdicts-front i a));
-      delivered = delivered-is i a ∙ sym (ap length (delivered-bytes i a) ∙ length-map (deliveredOf i) encode);
+      delivered = delivered-is i a;
+      delivery = delivered-bytes i a;
+      sent = sent-is i a;
+      outgoing = sent-bytes i a;
       bounded = bounds-kept i a;
     }

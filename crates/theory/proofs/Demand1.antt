@@ -1,7 +1,7 @@
 -- Demand 1: a call that fails a check changes nothing, and every other call is accepted.
 -- Assumes nothing.
 use Prim.Native.Nat.{ℕ, zero, suc}
-use mathlib.Core.Path.{_≡_, refl, ap, _∙_, sym}
+use mathlib.Core.Path.{_≡_, refl, ap, _∙_}
 use Rattle.model.specs.Question.{firstNo}
 use Rattle.model.specs.Tick.{Input, Output, callQuestions, acceptance, tick}
 use Rattle.theory.specs.Demand1.{Demand1}

@@ -1,13 +1,12 @@
 -- Demand 2 from fresh stations: every accepted call does what the published program does, reduced modulo B.
 -- Assumes nothing.
-use Prim.Native.Nat.{ℕ, zero, suc, _+_, _<_}
+use Prim.Native.Nat.{ℕ, suc, _+_, _<_}
 use native.Mathlib.Omega.{arith}
 use mathlib.Core.Path.{_≡_, refl, sym, ap, subst, _∙_}
 use mathlib.Core.Logic.{_⊎_, inl, inr}
 use mathlib.Core.Bool.{Bool, true, false, _&&_, _||_, not, cond}
 use mathlib.Core.List.{List, [], _∷_, _++_}
 use mathlib.Core.Option.{Option, none, some}
-use lib.Dec.{eqb·suc-zero}
 use lib.ListN.{length, take, set, getElem?}
 use lib.Seq.{take-append-le, take-append-seam}
 use borrow.Author.Tests.{ne-eqb}
@@ -15,10 +14,8 @@ use Rattle.laws.specs.Lists.{every}
 use Rattle.laws.proofs.Numbers.{eq-or-ne, clash, and-intro, and-left, and-right, or-cases, false-of-not}
 use Rattle.laws.proofs.Lists.{every-mem, every-append-left, every-append-right, getElem?-mem, getElem?-lt, getElem?-set-same, getElem?-set-other, getElem?-snoc-cases}
 use Rattle.model.specs.Setup.{Setup}
-use Rattle.model.specs.Question.{firstNo}
-use Rattle.model.specs.Tick.{callQuestions, refusal, acceptance, tickBy, tick}
 use Rattle.model.specs.Published.{Message, Process, advanced, eventOf, nextEvent, messageOf}
-use Rattle.model.specs.Run.{Node, Origin, sentBy, stale, Call, Done, World, inputOf, isAccepted, outputOf, doneOf, nodeAfter, movedClock, act, actOn, runFrom, atStart, sends}
+use Rattle.model.specs.Run.{Node, Source, sentBy, stale, Call, Done, World, isAccepted, outputOf, doneOf, nodeAfter, act, actOn, runFrom, atStart, sends}
 use Rattle.theory.specs.Premises.{largestClock, staleUntil, allowed, keeps, isSent, noneStale}
 use Rattle.theory.specs.Demand2.{Published, outcomeOf, publish, publishAll, publishedStart, Matched, Demand2Fresh}
 use Rattle.theory.specs.Demand3.{heardIn}
@@ -191,13 +188,13 @@ module _ (s : Setup) (w : World) (u : Published) (call : Call) (node : Node) (pa
 
 -- without older frames nothing is left out
 sent-entry :
-    (s : Setup) (floor : ℕ) (past : List Done) (nodes : List Node) (v : ℕ) (bytes : List ℕ) (o : Origin) → isSent o ≡ true
+    (s : Setup) (floor : ℕ) (past : List Done) (nodes : List Node) (v : ℕ) (bytes : List ℕ) (o : Source) → isSent o ≡ true
     → EntryOk s floor past nodes v bytes o → EntryOk s 0 past nodes v bytes o
 unfolding isSent
 sent-entry s floor past nodes v bytes (sentBy k) h entry = entry
 sent-entry s floor past nodes v bytes stale h entry = absurd (clash h refl)
 
-legal-fresh : (s : Setup) (floor : ℕ) (w : World) (call : Call) (node : Node) → Legal s floor w call node → every isSent (call .origins) ≡ true → Legal s 0 w call node
+legal-fresh : (s : Setup) (floor : ℕ) (w : World) (call : Call) (node : Node) → Legal s floor w call node → every isSent (call .sources) ≡ true → Legal s 0 w call node
 legal-fresh s floor w call node legal all-sent =
     record {
       at = legal .at;
@@ -207,7 +204,7 @@ legal-fresh s floor w call node legal all-sent =
       together = legal .together;
       lengths = legal .lengths;
       entry = λ e bytes o at o-at.
-          sent-entry s floor (w .past) (act w call .nodes) (suc (node .clock)) bytes o (every-mem isSent all-sent (getElem?-mem (call .origins) e o-at))
+          sent-entry s floor (w .past) (act w call .nodes) (suc (node .clock)) bytes o (every-mem isSent all-sent (getElem?-mem (call .sources) e o-at))
           (legal .entry e bytes o at o-at);
     }
 
@@ -246,17 +243,17 @@ none-stale-before (call ∷ calls) w h = go (getElem? (w .nodes) (call .node)) r
         subst (λ (y : World). noneStale (y .past) ≡ true) idle k
     go (some node) e k =
         unfold noneStale in
-        (every-append-left (λ d. not (isAccepted (d .output)) || every isSent (d .call .origins)) (w .past) (doneOf node call ∷ [])
+        (every-append-left (λ d. not (isAccepted (d .output)) || every isSent (d .call .sources)) (w .past) (doneOf node call ∷ [])
         (subst (λ (y : World). noneStale (y .past) ≡ true) (act-is w call node e) k))
 
 -- the entries of the last call
-last-sent : (w : World) (call : Call) (node : Node) → getElem? (w .nodes) (call .node) ≡ some node → isAccepted (outputOf node call) ≡ true → noneStale (act w call .past) ≡ true → every isSent (call .origins) ≡ true
+last-sent : (w : World) (call : Call) (node : Node) → getElem? (w .nodes) (call .node) ≡ some node → isAccepted (outputOf node call) ≡ true → noneStale (act w call .past) ≡ true → every isSent (call .sources) ≡ true
 unfolding noneStale every doneOf
 last-sent w call node at acc h =
-    let test : ((not (isAccepted (outputOf node call)) || every isSent (call .origins)) && true) ≡ true =
-    every-append-right (λ d. not (isAccepted (d .output)) || every isSent (d .call .origins)) (w .past) (doneOf node call ∷ [])
+    let test : ((not (isAccepted (outputOf node call)) || every isSent (call .sources)) && true) ≡ true =
+    every-append-right (λ d. not (isAccepted (d .output)) || every isSent (d .call .sources)) (w .past) (doneOf node call ∷ [])
     (subst (λ (y : World). noneStale (y .past) ≡ true) (act-is w call node at) h) in
-    elim (or-cases (not (isAccepted (outputOf node call))) (every isSent (call .origins)) (and-left (not (isAccepted (outputOf node call)) || every isSent (call .origins)) true test)) [
+    elim (or-cases (not (isAccepted (outputOf node call))) (every isSent (call .sources)) (and-left (not (isAccepted (outputOf node call)) || every isSent (call .sources)) true test)) [
       | inl q ↦ absurd (clash acc (false-of-not (isAccepted (outputOf node call)) q))
       | inr q ↦ q
     ]

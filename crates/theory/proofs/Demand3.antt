@@ -68,9 +68,9 @@ module _ (s : Setup) (x : ℕ) (past : List Done) (kept : AllKept s (coveredFrom
 
   hears :
       (j : ℕ) (d : Done) → getElem? past j ≡ some d → isAccepted (d .output) ≡ true
-      → (e k : ℕ) (m : Done) → getElem? (d .call .origins) e ≡ some (sentBy k) → getElem? past k ≡ some m → covered s x m ≡ true
+      → (e k : ℕ) (m : Done) → getElem? (d .call .sources) e ≡ some (sentBy k) → getElem? past k ≡ some m → covered s x m ≡ true
       → getD (d .output .verdicts) e 0
-      ≡ cond (any (heardIn (d .node) k) (take j past) || any (isFrom k) (take e (d .call .origins))) 16 0
+      ≡ cond (any (heardIn (d .node) k) (take j past) || any (isFrom k) (take e (d .call .sources))) 16 0
   unfolding heardAt
   hears j d at acc e k m o-at m-at h =
       let r = kept j d at acc .sent-before e k o-at in

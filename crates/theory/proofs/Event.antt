@@ -8,11 +8,11 @@ use mathlib.Core.Path.{_≡_, refl, sym, ap, subst, _∙_}
 use mathlib.Core.Bool.{Bool, true, false, cond}
 use mathlib.Core.List.{List}
 use lib.ListN.{length}
-use borrow.Author.Tests.{eqb-true, le-leb, lt-ltb}
-use Rattle.laws.specs.Lists.{overlay, within}
-use Rattle.laws.proofs.Numbers.{and-intro, and-right, mod-add-left}
+use borrow.Author.Tests.{eqb-true}
+use Rattle.laws.specs.Lists.{overlay}
+use Rattle.laws.proofs.Numbers.{and-right, mod-add-left}
 use Rattle.laws.proofs.Lists.{tab-getD}
-use Rattle.model.specs.Setup.{Setup, width, leastModulus, inLimits}
+use Rattle.model.specs.Setup.{Setup, width}
 use Rattle.model.specs.Timestamp.{Timestamp, trimmed, widened, step, countOwn, soundTables, replaced}
 use Rattle.model.specs.Frame.{Frame, encode, decode}
 use Rattle.model.specs.Codec.{frameOf, writeBy}
@@ -215,7 +215,7 @@ leaves-queue s node call c =
 written-is :
     (s : Setup) (node : Node) (call : Call) → Due-call s node call
     → written s (doneOf node call) ≡ writeBy 0 (eventFrame s (doneOf node call)) (call .outgoing)
-unfolding written eventFrame doneOf width
+unfolding written eventFrame doneOf width withOwn
 written-is s node call c =
     written-to (withOwn s (node .own)) (eventFrame s (doneOf node call)) (call .outgoing)
     (record {

@@ -5,7 +5,7 @@ use native.Mathlib.Omega.{arith}
 use native.Mathlib.Nat.{mod-lt}
 use mathlib.Core.Path.{_≡_, refl, sym, ap, subst, _∙_}
 use mathlib.Core.Logic.{_⊎_, inl, inr}
-use mathlib.Core.Bool.{Bool, true, false, _||_, not, cond}
+use mathlib.Core.Bool.{Bool, true, false, _||_, cond}
 use mathlib.Core.List.{List, List·Memᴰ}
 use mathlib.Core.Option.{some}
 use lib.Dec.{leb, eqb}
@@ -23,7 +23,7 @@ use Rattle.model.specs.Order.{due}
 use Rattle.model.specs.Holdback.{sameOrigin, notEarly}
 use Rattle.model.specs.Question.{firstNo}
 use Rattle.model.specs.Judge.{Heard, hearOne, judge, judgeQuestions, readingOf, placeFor}
-use Rattle.model.specs.Run.{Node, Origin, sentBy, stale, Done, sends, messageBytes}
+use Rattle.model.specs.Run.{Node, Source, sentBy, stale, Done, sends, messageBytes}
 use Rattle.theory.specs.Premises.{withOwn}
 use Rattle.theory.specs.Demand3.{isFrom}
 use Rattle.lemmas.proofs.Bounds.{Limits, FrameOk}
@@ -49,7 +49,7 @@ pub record Arrival (s : Setup) (floor : ℕ) (nodes : List Node) (past : List Do
   pub not-ahead : m .clock < v + s .epsilon
   pub not-late : v ≤ m .clock + s .delta + s .epsilon
 
-abbrev pub Entry : Setup → ℕ → List Node → List Done → ℕ → List ℕ → Origin → Type 0
+abbrev pub Entry : Setup → ℕ → List Node → List Done → ℕ → List ℕ → Source → Type 0
 Entry s floor nodes past v bytes (sentBy k) = (m : Done) × Arrival s floor nodes past v k m × (bytes ≡ messageBytes m)
 Entry s floor nodes past v bytes stale = v + s .epsilon ≤ floor
 
@@ -354,7 +354,7 @@ module _ (s : Setup) (floor from own : ℕ) (settles : Settles s floor from) (no
           ]
 
   pub loop-one :
-      (heard heard′ : ℕ → Bool) (h : Heard) (bytes : List ℕ) (o : Origin) → Loop s floor from own nodes past v opening heard h
+      (heard heard′ : ℕ → Bool) (h : Heard) (bytes : List ℕ) (o : Source) → Loop s floor from own nodes past v opening heard h
       → Entry s floor nodes past v bytes o → ((j : ℕ) → heard′ j ≡ (heard j || isFrom j o))
       → Loop s floor from own nodes past v opening heard′ (hearOne (withOwn s own) (v % s .modulus) h bytes)
   unfolding isFrom withOwn

@@ -23,31 +23,31 @@ use Rattle.model.specs.Frame.{Frame, encode}
 use Rattle.model.specs.Order.{keyNear, compareFrames, before}
 use Rattle.model.specs.Codec.{frameOf}
 use Rattle.model.specs.Batch.{batchEntries}
-use Rattle.model.specs.Holdback.{encodeFrames}
+use Rattle.model.specs.Holdback.{encodeFrames, encodeHoldback}
 use Rattle.model.specs.Judge.{Heard, hear}
-use Rattle.model.specs.Tick.{Output, ownStamp, tablesSound, queueSound, repairOf, heardOf, newStamp, sentBytes, dueNow, deliveredOf, keptOf, takenCount, acceptance, tick}
-use Rattle.model.specs.Published.{Event, Message, Process, known, rank, sameMessage, newOnes, nextEvent, eventOf, deliverable, buffered, deliveredAt, advanced, messageOf}
+use Rattle.model.specs.Tick.{Output, holdbackSize, ownStamp, tablesSound, queueSound, repairOf, heardOf, newStamp, sentBytes, dueNow, deliveredOf, keptOf, takenCount, acceptance}
+use Rattle.model.specs.Published.{Event, Message, Process, known, rank, sameMessage, newOnes, nextEvent, eventOf, deliverable, inOrder, buffered, deliveredAt, advanced, messageOf}
 use Rattle.model.specs.Run.{Node, Call, Done, World, inputOf, outputOf, doneOf, nodeAfter}
 use Rattle.theory.specs.Premises.{withOwn}
-use Rattle.theory.specs.Demand2.{reduced, reducedFrame, messagesHeard, Outcome, outcomeOf, SameAs}
+use Rattle.theory.specs.Demand2.{reduced, reducedFrame, messagesHeard, verdictsOn, outcomeOf, SameAs}
 use Rattle.theory.specs.Demand3.{isFrom, heardIn}
 use Rattle.lemmas.proofs.Bounds.{Limits, Sound}
-use Rattle.lemmas.proofs.OneTick.{hearing-end, tables-are, delivery-is, outgoing-is, sent-is, next-repair}
+use Rattle.lemmas.proofs.OneTick.{hearing-end, tables-are, holdback-is, delivery-is, outgoing-is, sent-is, verdicts-are, next-repair}
 use Rattle.theory.proofs.World.{nextInput, nextStamp, nextQueue, eventFrame, heardAt, Good, Legal}
 use Rattle.theory.proofs.Event.{Due-call, accepted-input, setup-at, clock-at, done-clock, after-clock, sound-at, opens-stamp, opens-queue, leaves-stamp, leaves-queue, trimmed-same}
 use Rattle.theory.proofs.Event as event
 use Rattle.theory.proofs.Stabilize.{heardTo, stateAt, called, around, entry-at, loop-at}
 use Rattle.theory.proofs.PublishedEvent.{ReadsTrue, absorbAll, event-stamp, event-wide, Knows, knows-refl, knows-trans, next-knows, next-more}
-use Rattle.theory.proofs.PublishedQueue.{SameMembers, delivered-same, kept-same, rank-before}
-use Rattle.theory.proofs.PublishedHear.{SeenIs, News, same-self, news-stamp, news-queue, news-taken, news-from, news-all, news-sent, news-apart}
+use Rattle.theory.proofs.PublishedQueue.{SameMembers, delivered-same, kept-members, kept-same, rank-before}
+use Rattle.theory.proofs.PublishedHear.{SeenIs, News, same-self, news-stamp, news-queue, news-taken, news-from, news-all, news-sent, news-apart, news-verdicts}
 use Rattle.theory.proofs.PublishedRun.{SentAs, Ranked, Waits, Twin, heard-snoc, grown-at, settles-fresh, waits-reads, told, one-rank, copied-ok, news-of}
 
 -- the messages heard in a call, and the new ones among them
 abbrev pub heardHere : List (Option Message) → Call → List Message
-heardHere sent call = messagesHeard sent (call .origins)
+heardHere sent call = messagesHeard sent (call .sources)
 
 abbrev pub newHere : List (Option Message) → Call → Process → List Message
-newHere sent call p = newOnes (p .received) (messagesHeard sent (call .origins))
+newHere sent call p = newOnes (p .received) (messagesHeard sent (call .sources))
 
 -- what the hearing starts from
 abbrev pub startHere : Setup → Node → Heard
@@ -84,11 +84,11 @@ module _ (s : Setup) (w : World) (sent : List (Option Message)) (call : Call) (n
   unfolding any
   heard-start k = or-false (heardAt (w .past) (call .node) k)
 
-  news-here : News (withOwn s (node .own)) (suc (node .clock)) sent (heardTo (w .past) call 0) (startHere s node) (batchEntries (call .batch)) (call .origins) (newHere sent call p)
+  news-here : News (withOwn s (node .own)) (suc (node .clock)) sent (heardTo (w .past) call 0) (startHere s node) (batchEntries (call .batch)) (call .sources) (newHere sent call p)
   unfolding stateAt hear
   news-here =
       news-of s w sent good sent-as (node .own) (suc (node .clock)) (nextStamp s node) (around s 0 0 (settles-fresh s) w call node good legal)
-      (batchEntries (call .batch)) (call .origins) (heardTo (w .past) call 0) (startHere s node) (p .received)
+      (batchEntries (call .batch)) (call .sources) (heardTo (w .past) call 0) (startHere s node) (p .received)
       (loop-at s 0 0 (settles-fresh s) w call node good legal 0 (omega arith))
       (seen-same sent (heardAt (w .past) (call .node)) (heardTo (w .past) call 0) (p .received) heard-start (twin .received)) (legal .lengths)
       (entry-at s 0 0 (settles-fresh s) w call node good legal)
@@ -176,13 +176,26 @@ module _ (s : Setup) (w : World) (sent : List (Option Message)) (call : Call) (n
       ap₂ (λ (t : Setup) (v : ℕ). select (dueNow t v) (heardOf (inputOf node call) .queue)) (setup-at s node call due-call) (clock-at s node call due-call)
       ∙ delivered-same (withOwn s (node .own)) (suc (node .clock)) (heardOf (inputOf node call) .queue) all queue-is queue-sorted all-reads all-single all-ranked
 
+  -- what is kept is selected from the queue by the one setup and clock
+  kept-chosen : keptOf (inputOf node call) ≡ select (λ f. not (dueNow (withOwn s (node .own)) (suc (node .clock) % s .modulus) f)) (heardOf (inputOf node call) .queue)
+  unfolding keptOf
+  kept-chosen =
+      ap₂ (λ (t : Setup) (v : ℕ). select (λ f. not (dueNow t v f)) (heardOf (inputOf node call) .queue)) (setup-at s node call due-call) (clock-at s node call due-call)
+
   kept-is :
       SameMembers (s .modulus) (keptOf (inputOf node call)) (select (λ m. not (deliverable (s .epsilon) (s .delta) (suc (node .clock)) m)) all)
-  unfolding keptOf withOwn
+  unfolding withOwn
   kept-is =
-      subst (λ (l : List Frame). SameMembers (s .modulus) l (select (λ m. not (deliverable (s .epsilon) (s .delta) (suc (node .clock)) m)) all))
-      (sym (ap₂ (λ (t : Setup) (v : ℕ). select (λ f. not (dueNow t v f)) (heardOf (inputOf node call) .queue)) (setup-at s node call due-call) (clock-at s node call due-call)))
-      (kept-same (withOwn s (node .own)) (suc (node .clock)) (heardOf (inputOf node call) .queue) all queue-is queue-sorted all-reads all-single all-ranked)
+      subst (λ (l : List Frame). SameMembers (s .modulus) l (select (λ m. not (deliverable (s .epsilon) (s .delta) (suc (node .clock)) m)) all)) (sym kept-chosen)
+      (kept-members (withOwn s (node .own)) (suc (node .clock)) (heardOf (inputOf node call) .queue) all queue-is queue-sorted all-reads all-single all-ranked)
+
+  pub kept-are :
+      keptOf (inputOf node call)
+      ≡ map (reducedFrame (s .modulus)) (inOrder (s .epsilon) (advanced (s .epsilon) (s .delta) (suc (node .clock)) p (heardHere sent call) .buffer))
+  unfolding advanced buffered withOwn
+  kept-are =
+      kept-chosen
+      ∙ kept-same (withOwn s (node .own)) (suc (node .clock)) (heardOf (inputOf node call) .queue) all queue-is queue-sorted all-reads all-single all-ranked
 
   -- the message is the frame
   pub frame-is :
@@ -221,28 +234,27 @@ module _ (s : Setup) (w : World) (sent : List (Option Message)) (call : Call) (n
       ap (λ (h : Heard). takenCount (h .verdicts)) (heard-all s node call due-call)
       ∙ (news-taken (withOwn s (node .own)) (suc (node .clock)) sent news-here ∙ zero-add (length (newHere sent call p)))
 
-  -- the outcome at the clock that the call moves to
-  outcome-is :
-      outcomeOf s sent p (doneOf node call)
-      ≡ record {
-        fresh = newHere sent call p;
-        last = eventOf (s .epsilon) (suc (node .clock)) p (heardHere sent call);
-        message = messageOf (s .epsilon) (suc (node .clock)) p (heardHere sent call) (call .payload);
-        delivered = deliveredAt (s .epsilon) (s .delta) (suc (node .clock)) p (heardHere sent call);
-      }
-  unfolding outcomeOf doneOf
-  outcome-is = rw (done-clock s node call due-call) refl
+  verdicts-heard : heardOf (inputOf node call) .verdicts ≡ verdictsOn (p .received) (heardHere sent call)
+  unfolding withOwn
+  verdicts-heard =
+      ap (λ (h : Heard). h .verdicts) (heard-all s node call due-call)
+      ∙ news-verdicts (withOwn s (node .own)) (suc (node .clock)) sent (p .received) (told s w sent good sent-as) news-here
+      (seen-same sent (heardAt (w .past) (call .node)) (heardTo (w .past) call 0) (p .received) heard-start (twin .received))
 
-  pub same-as : SameAs s (outcomeOf s sent p (doneOf node call)) (doneOf node call)
-  unfolding doneOf outputOf acceptance inputOf
+  pub same-as : SameAs s (outcomeOf s sent p (doneOf node call .clock) call) (doneOf node call)
+  unfolding outcomeOf doneOf outputOf acceptance inputOf withOwn
   same-as =
       let i = inputOf node call in
       let a = accepted-input node call (legal .accepted) in
-      subst (λ (o : Outcome). SameAs s o (doneOf node call)) (sym outcome-is)
+      subst (λ (n : ℕ). SameAs s (outcomeOf s sent p n call) (doneOf node call)) (sym (done-clock s node call due-call))
       (record {
         tables = tables-are i a ∙ ap widened stamp-is;
         repair = ap (λ (o : Output). o .answer .repair) (a .accepted) ∙ no-repair;
         taken = ap (λ (o : Output). o .answer .taken) (a .accepted) ∙ taken-are;
+        verdicts = verdicts-are i a ∙ ap (λ (l : List ℕ). overlay l (call .verdicts)) verdicts-heard;
+        holdback =
+            holdback-is i a
+            ∙ ap₂ (λ (t : Setup) (l : List Frame). encodeHoldback (holdbackSize t) l) (setup-at s node call due-call) kept-are;
         outgoing = outgoing-is i a ∙ ap (λ (l : List ℕ). overlay l (call .outgoing)) sent-are;
         sent = sent-is i a ∙ ap length sent-are;
         delivery = delivery-is i a ∙ ap (λ (l : List Frame). overlay (encodeFrames l) (call .delivery)) delivered-is;
@@ -303,7 +315,7 @@ module _ (s : Setup) (w : World) (sent : List (Option Message)) (call : Call) (n
           (ap (λ (x : ℕ). suc x % s .modulus) (after-clock s node call due-call)
           ∙ sym (rw (setup-at s node call due-call, clock-at s node call due-call, mod-add-left, add-one) refl))
 
-  heard-here : (k : ℕ) → heardAt (w .past ++ (doneOf node call ∷ [])) (call .node) k ≡ (heardAt (w .past) (call .node) k || any (isFrom k) (call .origins))
+  heard-here : (k : ℕ) → heardAt (w .past ++ (doneOf node call ∷ [])) (call .node) k ≡ (heardAt (w .past) (call .node) k || any (isFrom k) (call .sources))
   heard-here k =
       heard-snoc (w .past) (doneOf node call) (call .node) k
       ∙ ap (λ (b : Bool). heardAt (w .past) (call .node) k || b) (unfold heardIn doneOf in (rw (legal .accepted, eq-eqb (call .node) (call .node) refl) refl))
@@ -314,12 +326,12 @@ module _ (s : Setup) (w : World) (sent : List (Option Message)) (call : Call) (n
       record {
         into = λ m t.
             elim (List·Memᴰ·append-cases (p .received) t) [
-              | inl q ↦ let (k, at, e) = twin .received .into m q in (k, grown-at sent x k at, heard-here k ∙ or-left (any (isFrom k) (call .origins)) e)
+              | inl q ↦ let (k, at, e) = twin .received .into m q in (k, grown-at sent x k at, heard-here k ∙ or-left (any (isFrom k) (call .sources)) e)
               | inr q ↦
                   let (k, bytes, a, first, there) = news-from (withOwn s (node .own)) (suc (node .clock)) sent news-here m q in
                   (k, grown-at sent x k (a .at), heard-here k ∙ or-right (heardAt (w .past) (call .node) k) there)
             ];
-        back = λ k m at e. back k m at (or-cases (heardAt (w .past) (call .node) k) (any (isFrom k) (call .origins)) (sym (heard-here k) ∙ e));
+        back = λ k m at e. back k m at (or-cases (heardAt (w .past) (call .node) k) (any (isFrom k) (call .sources)) (sym (heard-here k) ∙ e));
       }
     where
       known-before : (k : ℕ) (m : Message) → k < length sent → getElem? (sent ++ (x ∷ [])) k ≡ some (some m) → getElem? sent k ≡ some (some m)
@@ -327,7 +339,7 @@ module _ (s : Setup) (w : World) (sent : List (Option Message)) (call : Call) (n
 
       back :
           (k : ℕ) (m : Message) → getElem? (sent ++ (x ∷ [])) k ≡ some (some m)
-          → (heardAt (w .past) (call .node) k ≡ true) ⊎ (any (isFrom k) (call .origins) ≡ true) → List·Memᴰ m (p .received ++ newHere sent call p)
+          → (heardAt (w .past) (call .node) k ≡ true) ⊎ (any (isFrom k) (call .sources) ≡ true) → List·Memᴰ m (p .received ++ newHere sent call p)
       back k m at (inl h) =
           Memᴰ·append-left (newHere sent call p)
           (twin .received .back k m (known-before k m (omega (arith, good .heard-before (call .node) k h, sent-as .same-length)) at) h)

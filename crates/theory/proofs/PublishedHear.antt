@@ -1,6 +1,6 @@
 -- Hearing a batch: the tick takes the messages that are new to the process, and no others.
 -- Assumes nothing.
-use Prim.Native.Nat.{ℕ, suc, _+_, _%_, _≤_, _<_}
+use Prim.Native.Nat.{ℕ, _+_, _%_, _≤_, _<_}
 use native.Mathlib.Omega.{arith}
 use native.Mathlib.Nat.{add-zero}
 use mathlib.Core.Path.{_≡_, refl, sym, ap, subst, _∙_}
@@ -23,8 +23,8 @@ use Rattle.model.specs.Question.{firstNo}
 use Rattle.model.specs.Judge.{Heard, hear, hearOne, judge, judgeQuestions, placeFor, readingOf}
 use Rattle.model.specs.Tick.{takenCount}
 use Rattle.model.specs.Published.{Message, sameMessage, newOnes}
-use Rattle.model.specs.Run.{Origin, sentBy}
-use Rattle.theory.specs.Demand2.{reduced, reducedFrame, messagesHeard}
+use Rattle.model.specs.Run.{Source, sentBy}
+use Rattle.theory.specs.Demand2.{reduced, reducedFrame, messagesHeard, verdictsOn}
 use Rattle.theory.specs.Demand3.{isFrom}
 use Rattle.lemmas.proofs.Bounds.{FrameOk}
 use Rattle.lemmas.proofs.RoundTrip.{decode-encode}
@@ -60,20 +60,20 @@ abbrev pub also : (ℕ → Bool) → ℕ → ℕ → Bool
 also heard k j = heard j || eqb j k
 
 -- what is new in a batch, entry by entry, and what the tick does with it
-pub data News (s : Setup) (v : ℕ) (sent : List (Option Message)) : (ℕ → Bool) → Heard → List (List ℕ) → List Origin → List Message → Type 0 where
+pub data News (s : Setup) (v : ℕ) (sent : List (Option Message)) : (ℕ → Bool) → Heard → List (List ℕ) → List Source → List Message → Type 0 where
   none-left : {heard : ℕ → Bool} {h : Heard} → News s v sent heard h [] [] []
   again :
-      {heard : ℕ → Bool} {h : Heard} {bytes : List ℕ} {entries : List (List ℕ)} {origins : List Origin} {fresh : List Message}
+      {heard : ℕ → Bool} {h : Heard} {bytes : List ℕ} {entries : List (List ℕ)} {sources : List Source} {fresh : List Message}
       (k : ℕ) (m : Message) → Incoming s v sent k m bytes → heard k ≡ true
       → firstNo (judgeQuestions s (v % s .modulus) (h .queue) bytes) ≡ 16
-      → News s v sent (also heard k) (hearOne s (v % s .modulus) h bytes) entries origins fresh
-      → News s v sent heard h (bytes ∷ entries) (sentBy k ∷ origins) fresh
+      → News s v sent (also heard k) (hearOne s (v % s .modulus) h bytes) entries sources fresh
+      → News s v sent heard h (bytes ∷ entries) (sentBy k ∷ sources) fresh
   new :
-      {heard : ℕ → Bool} {h : Heard} {bytes : List ℕ} {entries : List (List ℕ)} {origins : List Origin} {fresh : List Message}
+      {heard : ℕ → Bool} {h : Heard} {bytes : List ℕ} {entries : List (List ℕ)} {sources : List Source} {fresh : List Message}
       (k : ℕ) (m : Message) → Incoming s v sent k m bytes → heard k ≡ false
       → firstNo (judgeQuestions s (v % s .modulus) (h .queue) bytes) ≡ 0
-      → News s v sent (also heard k) (hearOne s (v % s .modulus) h bytes) entries origins fresh
-      → News s v sent heard h (bytes ∷ entries) (sentBy k ∷ origins) (m ∷ fresh)
+      → News s v sent (also heard k) (hearOne s (v % s .modulus) h bytes) entries sources fresh
+      → News s v sent heard h (bytes ∷ entries) (sentBy k ∷ sources) (m ∷ fresh)
 
 -- one entry, by its verdict
 take-message :
@@ -117,8 +117,8 @@ module _ (s : Setup) (v : ℕ) (sent : List (Option Message)) where
 
   -- the stamp takes the new messages in turn
   pub news-stamp :
-      {heard : ℕ → Bool} {h : Heard} {entries : List (List ℕ)} {origins : List Origin} {fresh : List Message}
-      → News s v sent heard h entries origins fresh
+      {heard : ℕ → Bool} {h : Heard} {entries : List (List ℕ)} {sources : List Source} {fresh : List Message}
+      → News s v sent heard h entries sources fresh
       → hear s (v % s .modulus) h entries .stamp ≡ absorbAll (s .epsilon) (s .modulus) (v % s .modulus) (h .stamp) (map (λ (m : Message). m .event) fresh)
   unfolding hear absorbAll
   news-stamp none-left = refl
@@ -132,8 +132,8 @@ module _ (s : Setup) (v : ℕ) (sent : List (Option Message)) where
 
   -- the queue gets their frames
   pub news-queue :
-      {heard : ℕ → Bool} {h : Heard} {entries : List (List ℕ)} {origins : List Origin} {fresh : List Message}
-      (buffer : List Message) → News s v sent heard h entries origins fresh → SameMembers (s .modulus) (h .queue) buffer
+      {heard : ℕ → Bool} {h : Heard} {entries : List (List ℕ)} {sources : List Source} {fresh : List Message}
+      (buffer : List Message) → News s v sent heard h entries sources fresh → SameMembers (s .modulus) (h .queue) buffer
       → SameMembers (s .modulus) (hear s (v % s .modulus) h entries .queue) (buffer ++ fresh)
   unfolding hear
   news-queue buffer none-left same = rw (append-nil buffer) same
@@ -147,8 +147,8 @@ module _ (s : Setup) (v : ℕ) (sent : List (Option Message)) where
 
   -- each is counted as taken
   pub news-taken :
-      {heard : ℕ → Bool} {h : Heard} {entries : List (List ℕ)} {origins : List Origin} {fresh : List Message}
-      → News s v sent heard h entries origins fresh
+      {heard : ℕ → Bool} {h : Heard} {entries : List (List ℕ)} {sources : List Source} {fresh : List Message}
+      → News s v sent heard h entries sources fresh
       → takenCount (hear s (v % s .modulus) h entries .verdicts) ≡ takenCount (h .verdicts) + length fresh
   unfolding hear
   news-taken {h} none-left = sym (add-zero (takenCount (h .verdicts)))
@@ -164,17 +164,17 @@ module _ (s : Setup) (v : ℕ) (sent : List (Option Message)) where
 
   -- where a new message comes from
   pub news-from :
-      {heard : ℕ → Bool} {h : Heard} {entries : List (List ℕ)} {origins : List Origin} {fresh : List Message}
-      → News s v sent heard h entries origins fresh → (m : Message) → List·Memᴰ m fresh
-      → (k : ℕ) × (bytes : List ℕ) × Incoming s v sent k m bytes × (heard k ≡ false) × (any (isFrom k) origins ≡ true)
+      {heard : ℕ → Bool} {h : Heard} {entries : List (List ℕ)} {sources : List Source} {fresh : List Message}
+      → News s v sent heard h entries sources fresh → (m : Message) → List·Memᴰ m fresh
+      → (k : ℕ) × (bytes : List ℕ) × Incoming s v sent k m bytes × (heard k ≡ false) × (any (isFrom k) sources ≡ true)
   unfolding any isFrom
   news-from none-left x t = absurd (List·Memᴰ·not-nil t)
   news-from (again {heard} k m a old e rest) x t =
       let (j, bytes, b, first, there) = news-from rest x t in
       (j, bytes, b, or-false-left (heard j) (eqb j k) first, or-right (eqb j k) there)
-  news-from (new {heard} {bytes} {origins} k m a old e rest) x t =
+  news-from (new {heard} {bytes} {sources} k m a old e rest) x t =
       elim (List·Memᴰ·cases-cons t) [
-        | inl q ↦ (k, bytes, rw q a, old, or-left (any (isFrom k) origins) (eq-eqb k k refl))
+        | inl q ↦ (k, bytes, rw q a, old, or-left (any (isFrom k) sources) (eq-eqb k k refl))
         | inr q ↦
             let (j, bytes′, b, first, there) = news-from rest x q in
             (j, bytes′, b, or-false-left (heard j) (eqb j k) first, or-right (eqb j k) there)
@@ -182,17 +182,17 @@ module _ (s : Setup) (v : ℕ) (sent : List (Option Message)) where
 
   -- a message heard for the first time is new
   pub news-all :
-      {heard : ℕ → Bool} {h : Heard} {entries : List (List ℕ)} {origins : List Origin} {fresh : List Message}
-      → News s v sent heard h entries origins fresh → (j : ℕ) (x : Message) → getElem? sent j ≡ some (some x) → heard j ≡ false
-      → any (isFrom j) origins ≡ true → List·Memᴰ x fresh
+      {heard : ℕ → Bool} {h : Heard} {entries : List (List ℕ)} {sources : List Source} {fresh : List Message}
+      → News s v sent heard h entries sources fresh → (j : ℕ) (x : Message) → getElem? sent j ≡ some (some x) → heard j ≡ false
+      → any (isFrom j) sources ≡ true → List·Memᴰ x fresh
   unfolding any isFrom
   news-all none-left j x at first there = absurd (clash there refl)
-  news-all (again {heard} {origins} k m a old e rest) j x at first there =
+  news-all (again {heard} {sources} k m a old e rest) j x at first there =
       elim (eq-or-ne j k) [
         | inl q ↦ absurd (clash old (ap heard (sym q) ∙ first))
         | inr q ↦ news-all rest j x at (or-false-intro first (ne-eqb j k q)) (rw (ne-eqb j k q) at there)
       ]
-  news-all (new {heard} {origins} k m a old e rest) j x at first there =
+  news-all (new {heard} {sources} k m a old e rest) j x at first there =
       elim (eq-or-ne j k) [
         | inl q ↦ List·Memᴰ·head (some-inj (some-inj (sym at ∙ (ap (getElem? sent) q ∙ a .at))))
         | inr q ↦ List·Memᴰ·tail (news-all rest j x at (or-false-intro first (ne-eqb j k q)) (rw (ne-eqb j k q) at there))
@@ -200,25 +200,25 @@ module _ (s : Setup) (v : ℕ) (sent : List (Option Message)) where
 
   -- what is heard was sent
   pub news-sent :
-      {heard : ℕ → Bool} {h : Heard} {entries : List (List ℕ)} {origins : List Origin} {fresh : List Message}
-      → News s v sent heard h entries origins fresh → (j : ℕ) → any (isFrom j) origins ≡ true → j < length sent
+      {heard : ℕ → Bool} {h : Heard} {entries : List (List ℕ)} {sources : List Source} {fresh : List Message}
+      → News s v sent heard h entries sources fresh → (j : ℕ) → any (isFrom j) sources ≡ true → j < length sent
   unfolding any isFrom
   news-sent none-left j there = absurd (clash there refl)
-  news-sent (again {origins} k m a old e rest) j there =
-      elim (or-cases (eqb j k) (any (isFrom j) origins) there) [
+  news-sent (again {sources} k m a old e rest) j there =
+      elim (or-cases (eqb j k) (any (isFrom j) sources) there) [
         | inl q ↦ rw (eqb-true j k q) (getElem?-lt sent k (a .at))
         | inr q ↦ news-sent rest j q
       ]
-  news-sent (new {origins} k m a old e rest) j there =
-      elim (or-cases (eqb j k) (any (isFrom j) origins) there) [
+  news-sent (new {sources} k m a old e rest) j there =
+      elim (or-cases (eqb j k) (any (isFrom j) sources) there) [
         | inl q ↦ rw (eqb-true j k q) (getElem?-lt sent k (a .at))
         | inr q ↦ news-sent rest j q
       ]
 
   -- no two of them are alike
   pub news-apart :
-      {heard : ℕ → Bool} {h : Heard} {entries : List (List ℕ)} {origins : List Origin} {fresh : List Message}
-      → Told sent → News s v sent heard h entries origins fresh → apart sameMessage fresh ≡ true
+      {heard : ℕ → Bool} {h : Heard} {entries : List (List ℕ)} {sources : List Source} {fresh : List Message}
+      → Told sent → News s v sent heard h entries sources fresh → apart sameMessage fresh ≡ true
   unfolding apart
   news-apart told none-left = refl
   news-apart told (again k m a old e rest) = news-apart told rest
@@ -276,9 +276,9 @@ seen-new sent heard seen k m at is =
     }
 
 -- the heads of the two lists of messages
-pub heard-cons : (sent : List (Option Message)) (k : ℕ) (m : Message) (origins : List Origin) → getElem? sent k ≡ some (some m) → messagesHeard sent (sentBy k ∷ origins) ≡ m ∷ messagesHeard sent origins
+pub heard-cons : (sent : List (Option Message)) (k : ℕ) (m : Message) (sources : List Source) → getElem? sent k ≡ some (some m) → messagesHeard sent (sentBy k ∷ sources) ≡ m ∷ messagesHeard sent sources
 unfolding messagesHeard
-heard-cons sent k m origins e = rw e
+heard-cons sent k m sources e = rw e
 
 pub new-ones-again : (seen : List Message) (m : Message) (ms : List Message) → any (sameMessage m) seen ≡ true → newOnes seen (m ∷ ms) ≡ newOnes seen ms
 unfolding newOnes
@@ -287,3 +287,37 @@ new-ones-again seen m ms e = rw e
 pub new-ones-new : (seen : List Message) (m : Message) (ms : List Message) → any (sameMessage m) seen ≡ false → newOnes seen (m ∷ ms) ≡ m ∷ newOnes (m ∷ seen) ms
 unfolding newOnes
 new-ones-new seen m ms e = rw e
+
+pub verdicts-again : (seen : List Message) (m : Message) (ms : List Message) → any (sameMessage m) seen ≡ true → verdictsOn seen (m ∷ ms) ≡ 16 ∷ verdictsOn seen ms
+unfolding verdictsOn
+verdicts-again seen m ms e = rw e
+
+pub verdicts-new : (seen : List Message) (m : Message) (ms : List Message) → any (sameMessage m) seen ≡ false → verdictsOn seen (m ∷ ms) ≡ 0 ∷ verdictsOn (m ∷ seen) ms
+unfolding verdictsOn
+verdicts-new seen m ms e = rw e
+
+-- general: one element more between two lists
+one-more : (l : List ℕ) (x : ℕ) (rest l′ all : List ℕ) → l′ ≡ l ++ (x ∷ []) → all ≡ x ∷ rest → l′ ++ rest ≡ l ++ all
+one-more l x rest l′ all e e′ = rw (e, e′) (append-assoc l (x ∷ []) rest)
+
+-- the verdicts: 0 for what is new, 16 for what is not
+pub news-verdicts :
+    (s : Setup) (v : ℕ) (sent : List (Option Message)) {heard : ℕ → Bool} {h : Heard} {entries : List (List ℕ)} {sources : List Source} {fresh : List Message}
+    (seen : List Message) → Told sent → News s v sent heard h entries sources fresh → SeenIs sent heard seen
+    → hear s (v % s .modulus) h entries .verdicts ≡ h .verdicts ++ verdictsOn seen (messagesHeard sent sources)
+unfolding hear messagesHeard verdictsOn
+news-verdicts s v sent {h} seen told none-left is = sym (append-nil (h .verdicts))
+news-verdicts s v sent {heard} {h} seen told (again {bytes} {sources} k m a old e rest) is =
+    news-verdicts s v sent seen told rest (seen-again sent heard seen k old is)
+    ∙ one-more (h .verdicts) 16 (verdictsOn seen (messagesHeard sent sources)) (hearOne s (v % s .modulus) h bytes .verdicts)
+    (verdictsOn seen (messagesHeard sent (sentBy k ∷ sources)))
+    (hear-one-verdict s (v % s .modulus) h bytes ∙ ap (λ (n : ℕ). h .verdicts ++ (n ∷ [])) e)
+    (ap (verdictsOn seen) (heard-cons sent k m sources (a .at))
+    ∙ verdicts-again seen m (messagesHeard sent sources) (seen-any sent heard seen told is k m (a .at) ∙ old))
+news-verdicts s v sent {heard} {h} seen told (new {bytes} {sources} k m a old e rest) is =
+    news-verdicts s v sent (m ∷ seen) told rest (seen-new sent heard seen k m (a .at) is)
+    ∙ one-more (h .verdicts) 0 (verdictsOn (m ∷ seen) (messagesHeard sent sources)) (hearOne s (v % s .modulus) h bytes .verdicts)
+    (verdictsOn seen (messagesHeard sent (sentBy k ∷ sources)))
+    (hear-one-verdict s (v % s .modulus) h bytes ∙ ap (λ (n : ℕ). h .verdicts ++ (n ∷ [])) e)
+    (ap (verdictsOn seen) (heard-cons sent k m sources (a .at))
+    ∙ verdicts-new seen m (messagesHeard sent sources) (seen-any sent heard seen told is k m (a .at) ∙ old))

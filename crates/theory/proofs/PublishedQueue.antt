@@ -91,58 +91,69 @@ members-select B p q queue buffer same agree =
           mem-select p (same .back x in-buffer) (agree x in-buffer ∙ yes-q);
     }
 
--- what is delivered: the same frames in the same order
 module _ (s : Setup) (v : ℕ) (queue : List Frame) (buffer : List Message)
     (same : SameMembers (s .modulus) queue buffer) (sorted : Sorted (keyNear (s .epsilon) (s .modulus) (v % s .modulus)) queue)
     (reads : (m : Message) → List·Memᴰ m buffer → ReadsTrue (s .epsilon) (s .modulus) v (m .event .r))
     (single : apart sameMessage buffer ≡ true)
     (ranked : (m m′ : Message) → List·Memᴰ m buffer → List·Memᴰ m′ buffer → rank (s .epsilon) m ≡ rank (s .epsilon) m′ → sameMessage m m′ ≡ true) where
-  due-messages : List Message
-  due-messages = select (deliverable (s .epsilon) (s .delta) v) buffer
+  -- the frames and the messages that a test chooses: the same ones, in the same order
+  module _ (p : Frame → Bool) (q : Message → Bool) (agree : (m : Message) → List·Memᴰ m buffer → p (reducedFrame (s .modulus) m) ≡ q m) where
+    chosen : List Message
+    chosen = select q buffer
 
-  from-buffer : (m : Message) → List·Memᴰ m (sortBy (lessBy (rank (s .epsilon))) due-messages) → List·Memᴰ m buffer
-  unfolding due-messages
-  from-buffer m h = mem-of-select (deliverable (s .epsilon) (s .delta) v) buffer (mem-of-sortBy (lessBy (rank (s .epsilon))) due-messages h) .0
+    from-buffer : (m : Message) → List·Memᴰ m (sortBy (lessBy (rank (s .epsilon))) chosen) → List·Memᴰ m buffer
+    unfolding chosen
+    from-buffer m h = mem-of-select q buffer (mem-of-sortBy (lessBy (rank (s .epsilon))) chosen h) .0
 
-  frames-sorted :
-      Sorted (keyNear (s .epsilon) (s .modulus) (v % s .modulus)) (map (reducedFrame (s .modulus)) (sortBy (lessBy (rank (s .epsilon))) due-messages))
-  unfolding due-messages
-  frames-sorted =
-      sorted-map (keyNear (s .epsilon) (s .modulus) (v % s .modulus)) (reducedFrame (s .modulus)) (sortBy (lessBy (rank (s .epsilon))) due-messages)
-      (pairwise-mono (lessBy (rank (s .epsilon))) (lessBy (λ m. keyNear (s .epsilon) (s .modulus) (v % s .modulus) (reducedFrame (s .modulus) m)))
-      (sortBy (lessBy (rank (s .epsilon))) due-messages)
-      (λ x y m n h. less-frames (s .epsilon) (s .modulus) v x y (reads x (from-buffer x m)) (reads y (from-buffer y n)) h)
-      (sorted-sortBy (rank (s .epsilon)) sameMessage due-messages (apart-select sameMessage (deliverable (s .epsilon) (s .delta) v) buffer single)
-      (λ x y m n e.
-      ranked x y (mem-of-select (deliverable (s .epsilon) (s .delta) v) buffer m .0) (mem-of-select (deliverable (s .epsilon) (s .delta) v) buffer n .0) e)))
+    frames-sorted :
+        Sorted (keyNear (s .epsilon) (s .modulus) (v % s .modulus)) (map (reducedFrame (s .modulus)) (sortBy (lessBy (rank (s .epsilon))) chosen))
+    unfolding chosen
+    frames-sorted =
+        sorted-map (keyNear (s .epsilon) (s .modulus) (v % s .modulus)) (reducedFrame (s .modulus)) (sortBy (lessBy (rank (s .epsilon))) chosen)
+        (pairwise-mono (lessBy (rank (s .epsilon))) (lessBy (λ m. keyNear (s .epsilon) (s .modulus) (v % s .modulus) (reducedFrame (s .modulus) m)))
+        (sortBy (lessBy (rank (s .epsilon))) chosen)
+        (λ x y m n h. less-frames (s .epsilon) (s .modulus) v x y (reads x (from-buffer x m)) (reads y (from-buffer y n)) h)
+        (sorted-sortBy (rank (s .epsilon)) sameMessage chosen (apart-select sameMessage q buffer single)
+        (λ x y m n e. ranked x y (mem-of-select q buffer m .0) (mem-of-select q buffer n .0) e)))
 
-  due-members : SameMembers (s .modulus) (select (dueNow s (v % s .modulus)) queue) due-messages
-  unfolding due-messages
-  due-members =
-      members-select (s .modulus) (dueNow s (v % s .modulus)) (deliverable (s .epsilon) (s .delta) v) queue buffer same (λ m k. due-same s v m (reads m k))
+    pub chosen-members : SameMembers (s .modulus) (select p queue) (select q buffer)
+    chosen-members = members-select (s .modulus) p q queue buffer same agree
 
+    pub chosen-same : select p queue ≡ map (reducedFrame (s .modulus)) (inOrder (s .epsilon) (select q buffer))
+    unfolding inOrder less chosen
+    chosen-same =
+        sorted-unique (keyNear (s .epsilon) (s .modulus) (v % s .modulus)) (select p queue)
+        (map (reducedFrame (s .modulus)) (sortBy (lessBy (rank (s .epsilon))) chosen))
+        (sorted-select (keyNear (s .epsilon) (s .modulus) (v % s .modulus)) p queue sorted)
+        frames-sorted
+        (λ f m.
+        let (x, there, e) = chosen-members .into f m in
+        rw e (mem-map (reducedFrame (s .modulus)) (mem-sortBy (lessBy (rank (s .epsilon))) there)))
+        (λ f m.
+        let (x, in-order, e) = mem-of-map (reducedFrame (s .modulus)) (sortBy (lessBy (rank (s .epsilon))) chosen) m in
+        rw e (chosen-members .back x (mem-of-sortBy (lessBy (rank (s .epsilon))) chosen in-order)))
+
+  due-agrees : (m : Message) → List·Memᴰ m buffer → dueNow s (v % s .modulus) (reducedFrame (s .modulus) m) ≡ deliverable (s .epsilon) (s .delta) v m
+  due-agrees m k = due-same s v m (reads m k)
+
+  -- what is delivered
   pub delivered-same :
       select (dueNow s (v % s .modulus)) queue
       ≡ map (reducedFrame (s .modulus)) (inOrder (s .epsilon) (select (deliverable (s .epsilon) (s .delta) v) buffer))
-  unfolding inOrder less due-messages
-  delivered-same =
-      sorted-unique (keyNear (s .epsilon) (s .modulus) (v % s .modulus)) (select (dueNow s (v % s .modulus)) queue)
-      (map (reducedFrame (s .modulus)) (sortBy (lessBy (rank (s .epsilon))) due-messages))
-      (sorted-select (keyNear (s .epsilon) (s .modulus) (v % s .modulus)) (dueNow s (v % s .modulus)) queue sorted)
-      frames-sorted
-      (λ f m.
-      let (x, in-due, e) = due-members .into f m in
-      rw e (mem-map (reducedFrame (s .modulus)) (mem-sortBy (lessBy (rank (s .epsilon))) in-due)))
-      (λ f m.
-      let (x, in-order, e) = mem-of-map (reducedFrame (s .modulus)) (sortBy (lessBy (rank (s .epsilon))) due-messages) m in
-      rw e (due-members .back x (mem-of-sortBy (lessBy (rank (s .epsilon))) due-messages in-order)))
+  delivered-same = chosen-same (dueNow s (v % s .modulus)) (deliverable (s .epsilon) (s .delta) v) due-agrees
 
-  pub kept-same :
+  -- what is kept
+  pub kept-members :
       SameMembers (s .modulus) (select (λ f. not (dueNow s (v % s .modulus) f)) queue)
       (select (λ m. not (deliverable (s .epsilon) (s .delta) v m)) buffer)
+  kept-members =
+      chosen-members (λ f. not (dueNow s (v % s .modulus) f)) (λ m. not (deliverable (s .epsilon) (s .delta) v m)) (λ m k. ap not (due-agrees m k))
+
+  pub kept-same :
+      select (λ f. not (dueNow s (v % s .modulus) f)) queue
+      ≡ map (reducedFrame (s .modulus)) (inOrder (s .epsilon) (select (λ m. not (deliverable (s .epsilon) (s .delta) v m)) buffer))
   kept-same =
-      members-select (s .modulus) (λ f. not (dueNow s (v % s .modulus) f)) (λ m. not (deliverable (s .epsilon) (s .delta) v m)) queue buffer same
-      (λ m k. ap not (due-same s v m (reads m k)))
+      chosen-same (λ f. not (dueNow s (v % s .modulus) f)) (λ m. not (deliverable (s .epsilon) (s .delta) v m)) (λ m k. ap not (due-agrees m k))
 
 counts-first :
     (n epsilon B : ℕ) (e e′ : Event) → Sound n epsilon (reduced B e) → Sound n epsilon (reduced B e′) → e .r + e .c ≡ e′ .r + e′ .c

@@ -4,7 +4,7 @@ use Prim.Native.Nat.{ℕ, suc, _+_, _%_, _≤_, _<_}
 use native.Mathlib.Omega.{arith}
 use mathlib.Core.Path.{_≡_, refl, sym, ap, subst, _∙_}
 use mathlib.Core.Logic.{inl, inr}
-use mathlib.Core.Bool.{Bool, true, false, _||_, not, cond, or-false}
+use mathlib.Core.Bool.{Bool, true, false, _||_, cond, or-false}
 use mathlib.Core.List.{List, [], _∷_, _++_}
 use mathlib.Core.List.{List·Memᴰ}
 use mathlib.Core.Option.{Option, some}
@@ -22,8 +22,8 @@ use Rattle.model.specs.Codec.{frameOf}
 use Rattle.model.specs.Question.{firstNo}
 use Rattle.model.specs.Judge.{Heard, hearOne, judgeQuestions}
 use Rattle.model.specs.Tick.{repairOf}
-use Rattle.model.specs.Published.{Message, Process, rank, sameMessage, newOnes, buffered}
-use Rattle.model.specs.Run.{Node, Origin, sentBy, stale, Done, World, sends, messageBytes}
+use Rattle.model.specs.Published.{Message, Process, rank, sameMessage, newOnes}
+use Rattle.model.specs.Run.{Node, Source, sentBy, stale, Done, World, sends, messageBytes}
 use Rattle.theory.specs.Premises.{withOwn}
 use Rattle.theory.specs.Demand2.{reduced, reducedFrame, messagesHeard, Published}
 use Rattle.theory.specs.Demand3.{isFrom, heardIn}
@@ -168,10 +168,10 @@ module _ (s : Setup) (w : World) (sent : List (Option Message)) (good : Good s 0
         ∙ loop-verdict s 0 0 own (settles-fresh s) (w .nodes) (w .past) v opening around-here heard h loop k d a (and-intro (a .sent) (le-leb 0 (d .clock) (omega arith)))
 
     pub news-of :
-        (entries : List (List ℕ)) (origins : List Origin) (heard : ℕ → Bool) (h : Heard) (seen : List Message)
-        → Loop s 0 0 own (w .nodes) (w .past) v opening heard h → SeenIs sent heard seen → length entries ≡ length origins
-        → ((e : ℕ) (bytes : List ℕ) (o : Origin) → getElem? entries e ≡ some bytes → getElem? origins e ≡ some o → Entry s 0 (w .nodes) (w .past) v bytes o)
-        → News (withOwn s own) v sent heard h entries origins (newOnes seen (messagesHeard sent origins))
+        (entries : List (List ℕ)) (sources : List Source) (heard : ℕ → Bool) (h : Heard) (seen : List Message)
+        → Loop s 0 0 own (w .nodes) (w .past) v opening heard h → SeenIs sent heard seen → length entries ≡ length sources
+        → ((e : ℕ) (bytes : List ℕ) (o : Source) → getElem? entries e ≡ some bytes → getElem? sources e ≡ some o → Entry s 0 (w .nodes) (w .past) v bytes o)
+        → News (withOwn s own) v sent heard h entries sources (newOnes seen (messagesHeard sent sources))
     unfolding messagesHeard newOnes isFrom withOwn
     news-of [] [] heard h seen loop is same entry = none-left
     news-of [] (o ∷ os) heard h seen loop is same entry = absurd (omega arith)

@@ -3,31 +3,28 @@
 use Prim.Native.Nat.{ℕ, suc, _+_, _%_, _≤_}
 use native.Mathlib.Omega.{arith}
 use native.Mathlib.Numerals.{add-one}
-use native.Mathlib.Nat.{mod-lt}
 use mathlib.Core.Path.{_≡_, refl, sym, ap, subst, _∙_}
 use mathlib.Core.Logic.{inl, inr}
-use mathlib.Core.Bool.{true}
+use mathlib.Core.Bool.{true, _&&_}
 use mathlib.Core.List.{List, [], List·Memᴰ, List·Memᴰ·not-nil}
 use mathlib.Core.Option.{Option, some}
-use lib.Dec.{leb}
+use lib.Dec.{leb, eqb}
 use lib.ListN.{length, getElem?}
-use borrow.Author.Tests.{le-leb}
-use Rattle.laws.specs.Lists.{any, apart}
-use Rattle.laws.proofs.Numbers.{eq-or-ne, clash}
-use Rattle.laws.proofs.Lists.{countOf, index-of-mem, mem-select, getElem?-mem, getElem?-lt, getElem?-map}
-use Rattle.model.specs.Setup.{Setup, width}
-use Rattle.model.specs.Timestamp.{Timestamp, countAt, step, trimmed, widened, fresh, replaced, countOwn, soundTables}
-use Rattle.model.specs.Frame.{Frame}
-use Rattle.model.specs.Holdback.{held, soundHoldback, encodeHoldback}
-use Rattle.model.specs.Tick.{holdbackSize, ownStamp, tablesSound, queueSound, openingStamp, openingQueue, repairOf}
+use borrow.Author.Tests.{le-leb, eqb-true}
+use Rattle.laws.specs.Lists.{every, any, chained, apart, sameList}
+use Rattle.laws.proofs.Numbers.{eq-or-ne, clash, and-left, and-right}
+use Rattle.laws.proofs.Lists.{countOf, index-of-mem, every-mem, sameList-true, mem-select, getElem?-mem, getElem?-lt, getElem?-map}
+use Rattle.model.specs.Setup.{Setup, width, depth}
+use Rattle.model.specs.Timestamp.{Timestamp, countAt, step, trimmed, fresh, replaced, countOwn, soundTables}
+use Rattle.model.specs.Frame.{Frame, twoAt}
+use Rattle.model.specs.Holdback.{cutFrames, heldBytes, held, soundHoldback}
+use Rattle.model.specs.Tick.{ownStamp, tablesSound, queueSound, openingStamp, openingQueue, repairOf}
 use Rattle.model.specs.Published.{initial, started}
 use Rattle.model.specs.Run.{Node, atStart}
-use Rattle.theory.specs.Premises.{withOwn, goodStart, Fresh}
+use Rattle.theory.specs.Premises.{withOwn, goodStart, sameTimestamp, isFresh, allFresh}
 use Rattle.theory.specs.Demand2.{publishedStart}
 use Rattle.lemmas.proofs.Bounds.{Limits}
-use Rattle.lemmas.proofs.Counts.{trimmed-widened, opened-replaced, fresh-own, fresh-sound, fresh-tables, replaced-count, own-count, own-count-here}
-use Rattle.lemmas.proofs.RoundTrip.{held-holdback}
-use Rattle.lemmas.proofs.Queue.{queue-none, queue-sound}
+use Rattle.lemmas.proofs.Counts.{opened-replaced, fresh-own, fresh-sound, fresh-tables, replaced-count, own-count, own-count-here}
 use Rattle.theory.proofs.World.{nextInput, nextStamp, nextQueue, reached, Bounded, heardAt, Group, Good}
 use Rattle.theory.proofs.Stamps.{step-bounded}
 use Rattle.theory.proofs.Start.{group-start}
@@ -43,16 +40,26 @@ reached-own epsilon nodes i node at =
     some-length : {l : List Node} → List·Memᴰ node l → 1 ≤ length l
     some-length m = let r = index-of-mem node m in omega (arith, r .1)
 
+-- the test for equal timestamps
+same-timestamp : (t u : Timestamp) → sameTimestamp t u ≡ true → t ≡ u
+unfolding sameTimestamp
+same-timestamp t u h =
+    let h′ = and-right (eqb (t .r) (u .r)) (eqb (t .c) (u .c) && sameList (t .kn) (u .kn)) h in
+    let r-is = eqb-true (t .r) (u .r) (and-left (eqb (t .r) (u .r)) (eqb (t .c) (u .c) && sameList (t .kn) (u .kn)) h) in
+    let c-is = eqb-true (t .c) (u .c) (and-left (eqb (t .c) (u .c)) (sameList (t .kn) (u .kn)) h′) in
+    let kn-is = sameList-true (t .kn) (u .kn) (and-right (eqb (t .c) (u .c)) (sameList (t .kn) (u .kn)) h′) in
+    λ i. record { r = r-is i; c = c-is i; kn = kn-is i }
+
 -- one fresh node
 module _ (s : Setup) (node : Node) (limits : Limits (withOwn s (node .own)))
-    (tables : node .tables ≡ widened (fresh (s .epsilon) (node .clock % s .modulus))) (holdback : node .holdback ≡ encodeHoldback (holdbackSize s) []) where
+    (tables : trimmed (s .epsilon) (node .tables) ≡ fresh (s .epsilon) (node .clock % s .modulus)) (empty : twoAt (node .holdback) 0 ≡ 0) where
   fresh-wide : length (fresh (s .epsilon) (node .clock % s .modulus) .kn) ≡ width (s .epsilon)
   unfolding withOwn
   fresh-wide = fresh-sound (s .n) (s .epsilon) (node .clock % s .modulus) (limits .n-pos) (limits .epsilon-pos) .wide
 
   own-fresh : ownStamp (nextInput s node) ≡ fresh (s .epsilon) (node .clock % s .modulus)
   unfolding ownStamp nextInput withOwn
-  own-fresh = ap (trimmed (s .epsilon)) tables ∙ trimmed-widened (s .epsilon) (fresh (s .epsilon) (node .clock % s .modulus)) (limits .epsilon-most) fresh-wide
+  own-fresh = tables
 
   tables-fresh : tablesSound (nextInput s node) ≡ true
   unfolding tablesSound
@@ -66,11 +73,8 @@ module _ (s : Setup) (node : Node) (limits : Limits (withOwn s (node .own)))
           (rw add-one at (fresh-tables (s .n) (s .epsilon) (s .modulus) (node .clock) (limits .n-pos) (limits .epsilon-pos) (omega (arith, limits .modulus-least))))
 
   queue-fresh : queueSound (nextInput s node) ≡ true
-  unfolding queueSound nextInput withOwn
-  queue-fresh =
-      ap (soundHoldback (withOwn s (node .own)) (suc (node .clock) % s .modulus)) holdback
-      ∙ queue-sound (withOwn s (node .own)) (suc (node .clock) % s .modulus) [] limits (mod-lt (suc (node .clock)) (omega (arith, limits .modulus-least)))
-      (queue-none (withOwn s (node .own)) (suc (node .clock) % s .modulus))
+  unfolding queueSound nextInput soundHoldback held heldBytes cutFrames every chained apart withOwn
+  queue-fresh = rw (empty, le-leb 0 (depth (s .n) (s .epsilon) (s .delta)) (omega arith)) refl
 
   pub stamp-fresh : nextStamp s node ≡ step (suc (node .clock) % s .modulus) (fresh (s .epsilon) (node .clock % s .modulus))
   unfolding nextStamp openingStamp
@@ -81,9 +85,7 @@ module _ (s : Setup) (node : Node) (limits : Limits (withOwn s (node .own)))
   queue-empty = rw queue-fresh held-none
     where
       held-none : held (nextInput s node .setup .epsilon) (nextInput s node .holdback) ≡ []
-      held-none =
-          unfold nextInput withOwn in
-          (ap (held (s .epsilon)) holdback ∙ held-holdback (s .epsilon) (holdbackSize s) [] (λ f m. absurd (List·Memᴰ·not-nil m)) (omega arith))
+      held-none = unfold nextInput held heldBytes cutFrames in (rw empty refl)
 
   pub calm-fresh : repairOf (nextInput s node) ≡ 0
   unfolding repairOf
@@ -122,9 +124,20 @@ module _ (s : Setup) (node : Node) (limits : Limits (withOwn s (node .own)))
       (step-bounded s 0 nodes (node .clock) (suc (node .clock) % s .modulus) (fresh (s .epsilon) (node .clock % s .modulus)) fresh-wide (fresh-bounded nodes i at))
 
 -- all of them
-module _ (s : Setup) (nodes : List Node) (start : goodStart s nodes ≡ true) (all-fresh : Fresh s nodes) where
+module _ (s : Setup) (nodes : List Node) (start : goodStart s nodes ≡ true) (all-fresh : allFresh s nodes ≡ true) where
   group : Group s nodes
   group = group-start s nodes start
+
+  fresh-at :
+      (i : ℕ) (node : Node) → getElem? nodes i ≡ some node
+      → (trimmed (s .epsilon) (node .tables) ≡ fresh (s .epsilon) (node .clock % s .modulus)) × (twoAt (node .holdback) 0 ≡ 0)
+  unfolding allFresh isFresh
+  fresh-at i node at =
+      let h = every-mem (isFresh s) all-fresh (getElem?-mem nodes i at) in
+      let stamps = sameTimestamp (trimmed (s .epsilon) (node .tables)) (fresh (s .epsilon) (node .clock % s .modulus)) in (
+        same-timestamp (trimmed (s .epsilon) (node .tables)) (fresh (s .epsilon) (node .clock % s .modulus)) (and-left stamps (eqb (twoAt (node .holdback) 0) 0) h),
+        eqb-true (twoAt (node .holdback) 0) 0 (and-right stamps (eqb (twoAt (node .holdback) 0) 0) h),
+      )
 
   nothing : {A : Type 0} (k : ℕ) (x : A) → _≡_ {A = Option A} (getElem? [] k) (some x) → ⊥
   nothing {A} k x e = omega (arith, getElem?-lt {A = A} [] k e)
@@ -135,11 +148,11 @@ module _ (s : Setup) (nodes : List Node) (start : goodStart s nodes ≡ true) (a
       record {
         group = group;
         node = λ i node at.
-            let (tables, holdback) = all-fresh i node at in
+            let (tables, empty) = fresh-at i node at in
             let limits = group .limits i node at in
             record {
-              bounded = next-bounded s node limits tables holdback nodes i at;
-              members = λ f m. absurd (List·Memᴰ·not-nil (subst (λ (l : List Frame). List·Memᴰ f l) (queue-empty s node limits tables holdback) m));
+              bounded = next-bounded s node limits tables empty nodes i at;
+              members = λ f m. absurd (List·Memᴰ·not-nil (subst (λ (l : List Frame). List·Memᴰ f l) (queue-empty s node limits tables empty) m));
               present = λ k m e. absurd (nothing k m e);
               passed-on = λ k d e. absurd (nothing k d e);
             };
@@ -151,19 +164,19 @@ module _ (s : Setup) (nodes : List Node) (start : goodStart s nodes ≡ true) (a
   twin-fresh : (i : ℕ) (node : Node) → getElem? nodes i ≡ some node → Twin s [] [] i node (started (s .epsilon) (node .own) (node .clock))
   unfolding started initial apart
   twin-fresh i node at =
-      let (tables, holdback) = all-fresh i node at in
+      let (tables, empty) = fresh-at i node at in
       let limits = group .limits i node at in
       record {
         number = refl;
         clock-is = refl;
         wide = initial-wide (s .epsilon) (node .clock);
         stamp =
-            stamp-fresh s node limits tables holdback
+            stamp-fresh s node limits tables empty
             ∙ ap (step (suc (node .clock) % s .modulus)) (sym (initial-stamp (s .epsilon) (s .modulus) (node .clock)));
-        calm = calm-fresh s node limits tables holdback;
+        calm = calm-fresh s node limits tables empty;
         queue =
             record {
-              into = λ f m. absurd (List·Memᴰ·not-nil (subst (λ (l : List Frame). List·Memᴰ f l) (queue-empty s node limits tables holdback) m));
+              into = λ f m. absurd (List·Memᴰ·not-nil (subst (λ (l : List Frame). List·Memᴰ f l) (queue-empty s node limits tables empty) m));
               back = λ m t. absurd (List·Memᴰ·not-nil t);
             };
         single = refl;

@@ -8,21 +8,22 @@ use mathlib.Core.List.{List, [], _∷_, _++_, map, append-assoc, List·Memᴰ}
 use lib.Dec.{leb, ltb}
 use lib.ListN.{length, take, drop, replicate, length-map, take-append-drop}
 use lib.Seq.{drop-append-seam}
-use borrow.Author.Tests.{le-leb, lt-ltb, leb-true, ltb-true}
+use borrow.Author.Tests.{le-leb, lt-ltb, leb-true, ltb-true, eqb-true}
 use Rattle.laws.specs.Lists.{every, joined, overlay, padded}
 use Rattle.laws.proofs.Numbers.{and-left, and-right}
-use Rattle.laws.proofs.Lists.{every-take, every-drop, every-mono, take-overlay}
+use Rattle.laws.proofs.Lists.{every-mem, every-take, every-drop, every-mono, take-overlay}
 use Rattle.model.specs.Setup.{Setup, width, inLimits, depth, holdbackLength, longestPayload}
 use Rattle.model.specs.Timestamp.{Timestamp, trimmed, widened}
 use Rattle.model.specs.Frame.{Frame, encode, decode, wellFormed, frameEnd, twoAt, twoBytes}
 use Rattle.model.specs.Question.{ask, firstNo, askSetup, askRange, askStamp, frameQuestions}
-use Rattle.model.specs.Codec.{askPayload, readQuestions, readBy, read, frameOf, writeQuestions, writeBy, write}
+use Rattle.model.specs.Codec.{askPayload, readQuestions, readBy, read, frameOf, writeFrameQuestions, writeBy, writeFrame, write}
 use Rattle.model.specs.Holdback.{cutFrames, heldBytes, held, passes, soundHoldback, encodeFrames, encodeHoldback}
 use Rattle.model.specs.Tick.{holdbackSize}
+use Rattle.theory.specs.Demand2.{areBytes, hasWidth, Demand2Codec}
 use Rattle.lemmas.proofs.Bounds.{FrameOk}
 use Rattle.lemmas.proofs.Questions.{limits-from, first-yes}
 use Rattle.lemmas.proofs.Counts.{sound-to, trimmed-wide, trimmed-widened}
-use Rattle.lemmas.proofs.RoundTrip.{none-no, bounds-passed, form-passed, passes-formed, decode-encode, encode-decode, frame-passes, frame-passed, held-frames}
+use Rattle.lemmas.proofs.RoundTrip.{none-no, bounds-passed, form-passed, passes-formed, decode-encode, encode-decode, frame-passes, frame-passed, held-frames, held-holdback}
 
 -- the writer accepts what is in its bounds and fits, and nothing else
 pub record Written (s : Setup) (f : Frame) (buffer : List ℕ) : Type 0 where
@@ -30,8 +31,8 @@ pub record Written (s : Setup) (f : Frame) (buffer : List ℕ) : Type 0 where
   pub frame : FrameOk s f
   pub fits : length (encode f) ≤ length buffer
 
-pub written-from : (s : Setup) (f : Frame) (buffer : List ℕ) → length (f .stamp .kn) ≡ width (s .epsilon) → firstNo (writeQuestions s f buffer) ≡ 0 → Written s f buffer
-unfolding writeQuestions askSetup askPayload askRange askStamp
+pub written-from : (s : Setup) (f : Frame) (buffer : List ℕ) → length (f .stamp .kn) ≡ width (s .epsilon) → firstNo (writeFrameQuestions s f buffer) ≡ 0 → Written s f buffer
+unfolding writeFrameQuestions askSetup askPayload askRange askStamp
 written-from s f buffer wide e =
     let room = ask (leb (length (encode f)) (length buffer)) 6 in
     let q1 = none-no (inLimits s) 0 (askPayload (f .payload) ∷ askRange s f ∷ askStamp s f ∷ room ∷ []) e in
@@ -43,8 +44,8 @@ written-from s f buffer wide e =
       fits = leb-true (length (encode f)) (length buffer) (first-yes (leb (length (encode f)) (length buffer)) 5 [] (q12 .1));
     }
 
-pub written-to : (s : Setup) (f : Frame) (buffer : List ℕ) → Written s f buffer → write s f buffer ≡ writeBy 0 f buffer
-unfolding write writeQuestions askSetup askPayload askRange askStamp firstNo
+pub written-to : (s : Setup) (f : Frame) (buffer : List ℕ) → Written s f buffer → writeFrame s f buffer ≡ writeBy 0 f buffer
+unfolding writeFrame writeFrameQuestions askSetup askPayload askRange askStamp firstNo
 written-to s f buffer o =
     rw (
       o .setup,
@@ -56,9 +57,9 @@ written-to s f buffer o =
     )
 
 -- a number 0 says that no question got a no
-write-number : (s : Setup) (f : Frame) (buffer : List ℕ) → write s f buffer .number ≡ 0 → firstNo (writeQuestions s f buffer) ≡ 0
-unfolding write
-write-number s f buffer = go (firstNo (writeQuestions s f buffer))
+write-number : (s : Setup) (f : Frame) (buffer : List ℕ) → writeFrame s f buffer .number ≡ 0 → firstNo (writeFrameQuestions s f buffer) ≡ 0
+unfolding writeFrame
+write-number s f buffer = go (firstNo (writeFrameQuestions s f buffer))
   where
     go : (k : ℕ) → writeBy k f buffer .number ≡ 0 → k ≡ 0
     go zero e = refl
@@ -80,8 +81,8 @@ read-encoded s f setup ok =
 
 -- a written frame reads back the same
 pub read-written :
-    (s : Setup) (f : Frame) (buffer : List ℕ) → length (f .stamp .kn) ≡ width (s .epsilon) → write s f buffer .number ≡ 0
-    → read s (take (write s f buffer .size) (write s f buffer .buffer)) ≡ readBy 0 f
+    (s : Setup) (f : Frame) (buffer : List ℕ) → length (f .stamp .kn) ≡ width (s .epsilon) → writeFrame s f buffer .number ≡ 0
+    → read s (take (writeFrame s f buffer .size) (writeFrame s f buffer .buffer)) ≡ readBy 0 f
 read-written s f buffer wide e =
     let o = written-from s f buffer wide (write-number s f buffer e) in
     rw (written-to s f buffer o, take-overlay (encode f) buffer) (read-encoded s f (o .setup) (o .frame))
@@ -89,8 +90,8 @@ read-written s f buffer wide e =
 -- the writer's station, stamp and ticket come back; the places past the 2ε counts come back 0
 pub read-of-write :
     (s : Setup) (station : ℕ) (t : Timestamp) (payload buffer : List ℕ)
-    → write s (frameOf (s .epsilon) station t payload) buffer .number ≡ 0
-    → read s (take (write s (frameOf (s .epsilon) station t payload) buffer .size) (write s (frameOf (s .epsilon) station t payload) buffer .buffer))
+    → write s station t payload buffer .number ≡ 0
+    → read s (take (write s station t payload buffer .size) (write s station t payload buffer .buffer))
     ≡ record { number = 0; station = station; stamp = widened (trimmed (s .epsilon) t); payload = payload }
 unfolding frameOf
 read-of-write s station t payload buffer e =
@@ -99,7 +100,7 @@ read-of-write s station t payload buffer e =
 -- an accepted frame, its bytes below 256, is what the writer makes of its contents, in any buffer that is long enough
 pub write-of-read :
     (s : Setup) (bytes buffer : List ℕ) → every (λ b. ltb b 256) bytes ≡ true → read s bytes .number ≡ 0 → length bytes ≤ length buffer
-    → write s (frameOf (s .epsilon) (read s bytes .station) (read s bytes .stamp) (read s bytes .payload)) buffer
+    → write s (read s bytes .station) (read s bytes .stamp) (read s bytes .payload) buffer
     ≡ record { number = 0; size = length bytes; buffer = overlay bytes buffer }
 unfolding read readQuestions askSetup frameQuestions frameOf
 write-of-read s bytes buffer below e fits =
@@ -173,15 +174,6 @@ holdback-front s v bytes long below h =
     frames-front (s .epsilon) bytes long below
     (every-mono (passes s) (wellFormed (s .epsilon)) (heldBytes (s .epsilon) bytes) (λ b p. passes-formed s b p) all)
 
-pub take-holdback :
-    (s : Setup) (v : ℕ) (bytes : List ℕ) → length bytes ≡ holdbackSize s → every (λ b. ltb b 256) bytes ≡ true → soundHoldback s v bytes ≡ true
-    → take (length (encodeFrames (held (s .epsilon) bytes))) bytes ≡ encodeFrames (held (s .epsilon) bytes)
-unfolding holdbackLength
-take-holdback s v bytes size below h =
-    let front = holdback-front s v bytes (omega arith) below h in
-    let e = encodeFrames (held (s .epsilon) bytes) in
-    rw front at (take-overlay e bytes)
-
 -- and where zeros stand behind them, the whole of it is what the tick writes
 pub holdback-whole :
     (s : Setup) (v : ℕ) (bytes : List ℕ) → length bytes ≡ holdbackSize s → every (λ b. ltb b 256) bytes ≡ true → soundHoldback s v bytes ≡ true
@@ -199,3 +191,22 @@ pub held-delivery :
     → held epsilon (overlay (encodeFrames queue) old) ≡ queue
 unfolding overlay
 held-delivery epsilon queue old wide few = held-frames epsilon queue (drop (length (encodeFrames queue)) old) wide few
+
+-- the test for 2ε counts, as the lemmas say it
+all-wide :
+    (epsilon : ℕ) (queue : List Frame) → every (hasWidth epsilon) queue ≡ true
+    → (f : Frame) → List·Memᴰ f queue → length (f .stamp .kn) ≡ width epsilon
+unfolding hasWidth
+all-wide epsilon queue h f m = eqb-true (length (f .stamp .kn)) (width epsilon) (every-mem (hasWidth epsilon) h m)
+
+pub demand2-codec : Demand2Codec
+unfolding areBytes
+demand2-codec s =
+    record {
+      frameRead = read-of-write s;
+      frameWritten = write-of-read s;
+      holdbackRead = λ size queue wide few. held-holdback (s .epsilon) size queue (all-wide (s .epsilon) queue wide) few;
+      holdbackWritten = holdback-whole s;
+      deliveryRead = λ queue old wide few. held-delivery (s .epsilon) queue old (all-wide (s .epsilon) queue wide) few;
+      deliveryWritten = frames-front (s .epsilon);
+    }

@@ -28,7 +28,7 @@ use Rattle.model.specs.Batch.{batchEntries}
 use Rattle.model.specs.Question.{firstNo}
 use Rattle.model.specs.Judge.{Heard, hear, hearOne, judgeQuestions}
 use Rattle.model.specs.Tick.{openingStamp, openingQueue, heardOf, newStamp, dueNow, deliveredOf, keptOf, callQuestions, refusal, acceptance, tickBy, tick}
-use Rattle.model.specs.Run.{Node, Origin, sentBy, stale, Call, Done, World, inputOf, isAccepted, outputOf, doneOf, nodeAfter, movedClock, act, actOn, runFrom, sends, messageBytes}
+use Rattle.model.specs.Run.{Node, Source, sentBy, stale, Call, Done, World, inputOf, isAccepted, outputOf, doneOf, nodeAfter, movedClock, act, actOn, runFrom, sends, messageBytes}
 use Rattle.theory.specs.Premises.{withOwn, clockAt}
 use Rattle.theory.specs.Demand3.{heardIn, isFrom, earlier}
 use Rattle.lemmas.proofs.Bounds.{Limits, Sound}
@@ -56,7 +56,7 @@ or-assoc false false false = refl
 
 -- what has been heard before entry e of the call
 abbrev pub heardTo : List Done → Call → ℕ → ℕ → Bool
-heardTo past call e k = heardAt past (call .node) k || any (isFrom k) (take e (call .origins))
+heardTo past call e k = heardAt past (call .node) k || any (isFrom k) (take e (call .sources))
 
 -- what hearing has made of the call before entry e
 unfoldable pub stateAt : Setup → Node → Call → ℕ → Heard
@@ -87,11 +87,11 @@ state-end s node call c =
     ∙ ap (hear (withOwn s (node .own)) (suc (node .clock) % s .modulus) (record { stamp = nextStamp s node; queue = nextQueue s node; verdicts = [] }))
     (sym (take-all (length (batchEntries (call .batch))) (batchEntries (call .batch)) (omega arith))))
 
-heard-suc : (past : List Done) (call : Call) (e : ℕ) → e < length (call .origins) → (j : ℕ) → heardTo past call (suc e) j ≡ (heardTo past call e j || isFrom j (getD (call .origins) e stale))
+heard-suc : (past : List Done) (call : Call) (e : ℕ) → e < length (call .sources) → (j : ℕ) → heardTo past call (suc e) j ≡ (heardTo past call e j || isFrom j (getD (call .sources) e stale))
 unfolding any
 heard-suc past call e h j =
-    rw (take-suc (call .origins) e stale h, any-append (isFrom j) (take e (call .origins)) (getD (call .origins) e stale ∷ []))
-    (or-assoc (heardAt past (call .node) j) (any (isFrom j) (take e (call .origins))) (isFrom j (getD (call .origins) e stale)))
+    rw (take-suc (call .sources) e stale h, any-append (isFrom j) (take e (call .sources)) (getD (call .sources) e stale ∷ []))
+    (or-assoc (heardAt past (call .node) j) (any (isFrom j) (take e (call .sources))) (isFrom j (getD (call .sources) e stale)))
 
 -- the verdict of an entry, by the state before it
 state-verdict :
@@ -233,7 +233,7 @@ module _ (s : Setup) (floor from : ℕ) (settles : Settles s floor from) where
         }
 
     pub entry-at :
-        (e : ℕ) (bytes : List ℕ) (o : Origin) → getElem? (batchEntries (call .batch)) e ≡ some bytes → getElem? (call .origins) e ≡ some o
+        (e : ℕ) (bytes : List ℕ) (o : Source) → getElem? (batchEntries (call .batch)) e ≡ some bytes → getElem? (call .sources) e ≡ some o
         → Entry s floor (w .nodes) (w .past) (suc (node .clock)) bytes o
     entry-at e bytes stale at o-at = legal .entry e bytes stale at o-at
     entry-at e bytes (sentBy k) at o-at = (m, arrival, entry .bytes)
@@ -279,16 +279,16 @@ module _ (s : Setup) (floor from : ℕ) (settles : Settles s floor from) where
 
     entry-here :
         (e : ℕ) → e < length (batchEntries (call .batch))
-        → Entry s floor (w .nodes) (w .past) (suc (node .clock)) (getD (batchEntries (call .batch)) e []) (getD (call .origins) e stale)
+        → Entry s floor (w .nodes) (w .past) (suc (node .clock)) (getD (batchEntries (call .batch)) e []) (getD (call .sources) e stale)
     entry-here e h =
-        entry-at e (getD (batchEntries (call .batch)) e []) (getD (call .origins) e stale) (getElem?-in (batchEntries (call .batch)) e [] h)
-        (getElem?-in (call .origins) e stale (omega (arith, legal .lengths)))
+        entry-at e (getD (batchEntries (call .batch)) e []) (getD (call .sources) e stale) (getElem?-in (batchEntries (call .batch)) e [] h)
+        (getElem?-in (call .sources) e stale (omega (arith, legal .lengths)))
 
     loop-next : (opening : Timestamp) (e : ℕ) → e < length (batchEntries (call .batch)) → LoopAt opening e → LoopAt opening (suc e)
     loop-next opening e h loop =
         subst (λ (x : Heard). Loop s floor from (node .own) (w .nodes) (w .past) (suc (node .clock)) opening (heardTo (w .past) call (suc e)) x) (sym (state-suc s node call e h))
         (loop-one s floor from (node .own) settles (w .nodes) (w .past) (suc (node .clock)) opening around (heardTo (w .past) call e) (heardTo (w .past) call (suc e)) (stateAt s node call e)
-        (getD (batchEntries (call .batch)) e []) (getD (call .origins) e stale) loop (entry-here e h) (heard-suc (w .past) call e (omega (arith, legal .lengths))))
+        (getD (batchEntries (call .batch)) e []) (getD (call .sources) e stale) loop (entry-here e h) (heard-suc (w .past) call e (omega (arith, legal .lengths))))
 
     loop-on : (opening : Timestamp) (e n : ℕ) → n + e ≤ length (batchEntries (call .batch)) → LoopAt opening e → LoopAt opening (n + e)
     loop-on opening e zero h loop = rw zero-add loop
@@ -324,8 +324,8 @@ module _ (s : Setup) (floor from : ℕ) (settles : Settles s floor from) where
           any-append (heardIn (call .node) k) (w .past) (doneOf node call ∷ []),
           legal .accepted,
           eq-eqb (call .node) (call .node) refl,
-          take-all many (call .origins) (omega (arith, legal .lengths)),
-          or-false (any (isFrom k) (call .origins)),
+          take-all many (call .sources) (omega (arith, legal .lengths)),
+          or-false (any (isFrom k) (call .sources)),
         ) refl
 
     new-stamp : eventFrame s (doneOf node call) .stamp ≡ countOwn (s .epsilon) (suc (node .clock) % s .modulus) (stateAt s node call many .stamp)
@@ -355,20 +355,20 @@ module _ (s : Setup) (floor from : ℕ) (settles : Settles s floor from) where
 
     -- an entry from an earlier call
     entry-of :
-        (e k : ℕ) → getElem? (call .origins) e ≡ some (sentBy k)
+        (e k : ℕ) → getElem? (call .sources) e ≡ some (sentBy k)
         → (bytes : List ℕ) × (getElem? (batchEntries (call .batch)) e ≡ some bytes) × (m : Done) × Arrival s floor (w .nodes) (w .past) (suc (node .clock)) k m × (bytes ≡ messageBytes m)
     entry-of e k o-at =
         let at : getElem? (batchEntries (call .batch)) e ≡ some (getD (batchEntries (call .batch)) e []) =
-        getElem?-in (batchEntries (call .batch)) e [] (omega (arith, legal .lengths, getElem?-lt (call .origins) e o-at)) in
+        getElem?-in (batchEntries (call .batch)) e [] (omega (arith, legal .lengths, getElem?-lt (call .sources) e o-at)) in
         let r = entry-at e (getD (batchEntries (call .batch)) e []) (sentBy k) at o-at in
         (getD (batchEntries (call .batch)) e [], at, r .0, r .1, r .2)
 
-    sent-first : (e k : ℕ) → getElem? (call .origins) e ≡ some (sentBy k) → (m : Done) × (getElem? (w .past) k ≡ some m) × (sends m ≡ true)
+    sent-first : (e k : ℕ) → getElem? (call .sources) e ≡ some (sentBy k) → (m : Done) × (getElem? (w .past) k ≡ some m) × (sends m ≡ true)
     sent-first e k o-at = let r = entry-of e k o-at in (r .2, r .3 .at, r .3 .sent)
 
     -- the same, for the message given
     arrival-of :
-        (e k : ℕ) (m : Done) → getElem? (call .origins) e ≡ some (sentBy k) → getElem? (w .past) k ≡ some m
+        (e k : ℕ) (m : Done) → getElem? (call .sources) e ≡ some (sentBy k) → getElem? (w .past) k ≡ some m
         → Arrival s floor (w .nodes) (w .past) (suc (node .clock)) k m × (getElem? (batchEntries (call .batch)) e ≡ some (messageBytes m))
     arrival-of e k m o-at at =
         let r = entry-of e k o-at in
@@ -377,8 +377,8 @@ module _ (s : Setup) (floor from : ℕ) (settles : Settles s floor from) where
         (r .3, r .1 ∙ ap some (r .4))
 
     hears :
-        (e k : ℕ) (m : Done) → getElem? (call .origins) e ≡ some (sentBy k) → getElem? (w .past) k ≡ some m → followed from m ≡ true
-        → getD (outputOf node call .verdicts) e 0 ≡ cond (heardAt (w .past) (call .node) k || any (isFrom k) (take e (call .origins))) 16 0
+        (e k : ℕ) (m : Done) → getElem? (call .sources) e ≡ some (sentBy k) → getElem? (w .past) k ≡ some m → followed from m ≡ true
+        → getD (outputOf node call .verdicts) e 0 ≡ cond (heardAt (w .past) (call .node) k || any (isFrom k) (take e (call .sources))) 16 0
     hears e k m o-at at fol =
         let r = arrival-of e k m o-at at in
         state-verdict s node call called e (messageBytes m) (r .1)
@@ -430,7 +430,7 @@ module _ (s : Setup) (floor from : ℕ) (settles : Settles s floor from) where
             (loop-end .wider (before .last .clock) (eventFrame s (before .last) .stamp) (before .under))
 
     takes-first :
-        (e k : ℕ) (m : Done) → getElem? (call .origins) e ≡ some (sentBy k) → getElem? (w .past) k ≡ some m → getD (outputOf node call .verdicts) e 0 ≡ 0
+        (e k : ℕ) (m : Done) → getElem? (call .sources) e ≡ some (sentBy k) → getElem? (w .past) k ≡ some m → getD (outputOf node call .verdicts) e 0 ≡ 0
         → lexCompare (eventKey s m) (eventKey s (doneOf node call)) ≡ Ordering·lt
     unfolding eventKey
     takes-first e k m o-at at zero-at =
@@ -514,7 +514,7 @@ module _ (s : Setup) (floor from : ℕ) (settles : Settles s floor from) where
         }
 
     -- which messages have been heard
-    sent-known : (k : ℕ) (o : Origin) (e : ℕ) → getElem? (call .origins) e ≡ some o → isFrom k o ≡ true → k < length (w .past)
+    sent-known : (k : ℕ) (o : Source) (e : ℕ) → getElem? (call .sources) e ≡ some o → isFrom k o ≡ true → k < length (w .past)
     unfolding isFrom
     sent-known k (sentBy j) e at h =
         let r = sent-first e j at in
@@ -527,10 +527,10 @@ module _ (s : Setup) (floor from : ℕ) (settles : Settles s floor from) where
         elim (or-cases (any (heardIn i k) (w .past)) (heardIn i k (doneOf node call) || false) (sym (any-append (heardIn i k) (w .past) (doneOf node call ∷ [])) ∙ h)) [
           | inl q ↦ good .heard-before i k q
           | inr q ↦
-              let a : any (isFrom k) (call .origins) ≡ true =
-              and-right (eqb (call .node) i) (any (isFrom k) (call .origins))
-              (and-right (isAccepted (outputOf node call)) (eqb (call .node) i && any (isFrom k) (call .origins)) (sym (or-false (heardIn i k (doneOf node call))) ∙ q)) in
-              let r = any-mem (isFrom k) (call .origins) a in
+              let a : any (isFrom k) (call .sources) ≡ true =
+              and-right (eqb (call .node) i) (any (isFrom k) (call .sources))
+              (and-right (isAccepted (outputOf node call)) (eqb (call .node) i && any (isFrom k) (call .sources)) (sym (or-false (heardIn i k (doneOf node call))) ∙ q)) in
+              let r = any-mem (isFrom k) (call .sources) a in
               let e = mem-getElem? (r .1) in
               sent-known k (r .0) (e .0) (e .1) (r .2)
         ]

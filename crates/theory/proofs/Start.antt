@@ -17,8 +17,8 @@ use Rattle.laws.proofs.Sorted.{pairwise-of-apart, apart-index, pigeonhole}
 use Rattle.model.specs.Setup.{Setup, inLimits}
 use Rattle.model.specs.Batch.{batchEntries}
 use Rattle.model.specs.Tick.{holdbackSize}
-use Rattle.model.specs.Run.{Node, Origin, sentBy, stale, Call, Done, World, isAccepted, outputOf, doneOf, movedClock, act, atStart, sends, messageBytes}
-use Rattle.theory.specs.Premises.{withOwn, sameSetup, together, distinct, goodStart, largestClock, staleUntil, soundlySent, entryAllowed, entriesAllowed, acceptedWell, allowedFor, allowed}
+use Rattle.model.specs.Run.{Node, Source, sentBy, stale, Call, Done, World, isAccepted, outputOf, doneOf, movedClock, act, atStart, sends, messageBytes}
+use Rattle.theory.specs.Premises.{withOwn, sameSetup, together, distinct, validFor, exactHoldback, goodStart, largestClock, staleUntil, heardInTime, entryAllowed, entriesAllowed, oneSetup, trueClock, hearsAllowed, acceptedWell, allowedFor, allowed}
 use Rattle.lemmas.proofs.Questions.{limits-from}
 use Rattle.lemmas.proofs.Bounds.{Limits}
 use Rattle.lemmas.proofs.Reading.{near-high}
@@ -50,7 +50,7 @@ distinct-fact nodes h i j a b p q o =
         clash (eq-eqb (getD nodes i a .own) (getD nodes j a .own) (ap (λ (x : Node). x .own) (getElem?-getD nodes i a p) ∙ (o ∙ sym (ap (λ (x : Node). x .own) (getElem?-getD nodes j a q))))) e
 
 pub group-start : (s : Setup) (nodes : List Node) → goodStart s nodes ≡ true → Group s nodes
-unfolding goodStart
+unfolding goodStart validFor exactHoldback
 group-start s nodes h =
     record {
       limits = limits;
@@ -131,7 +131,7 @@ same-setup s t h =
     (eqb-true _ _ (and-left (eqb (s .modulus) (t .modulus)) _ h3)) (eqb-true _ _ (and-right (eqb (s .modulus) (t .modulus)) _ h3))
 
 -- the entries, one by one
-entries-lengths : (s : Setup) (x : ℕ) (past : List Done) (nodes : List Node) (v : ℕ) (es : List (List ℕ)) (os : List Origin) → entriesAllowed s x past nodes v es os ≡ true → length es ≡ length os
+entries-lengths : (s : Setup) (x : ℕ) (past : List Done) (nodes : List Node) (v : ℕ) (es : List (List ℕ)) (os : List Source) → entriesAllowed s x past nodes v es os ≡ true → length es ≡ length os
 unfolding entriesAllowed
 entries-lengths s x past nodes v [] [] h = refl
 entries-lengths s x past nodes v [] (o ∷ os) h = absurd (clash h refl)
@@ -140,27 +140,27 @@ entries-lengths s x past nodes v (e ∷ es) (o ∷ os) h =
     ap suc (entries-lengths s x past nodes v es os (and-right (entryAllowed s x past nodes v e o) (entriesAllowed s x past nodes v es os) h))
 
 entries-at :
-    (s : Setup) (x : ℕ) (past : List Done) (nodes : List Node) (v : ℕ) (es : List (List ℕ)) (os : List Origin) → entriesAllowed s x past nodes v es os ≡ true
-    → (k : ℕ) (e : List ℕ) (o : Origin) → getElem? es k ≡ some e → getElem? os k ≡ some o → entryAllowed s x past nodes v e o ≡ true
+    (s : Setup) (x : ℕ) (past : List Done) (nodes : List Node) (v : ℕ) (es : List (List ℕ)) (os : List Source) → entriesAllowed s x past nodes v es os ≡ true
+    → (k : ℕ) (e : List ℕ) (o : Source) → getElem? es k ≡ some e → getElem? os k ≡ some o → entryAllowed s x past nodes v e o ≡ true
 unfolding entriesAllowed
 entries-at s x past nodes v [] os h k e o p q = let z : k < 0 = getElem?-lt [] k p in absurd (omega arith)
 entries-at s x past nodes v (e ∷ es) [] h k b o p q = absurd (clash h refl)
 entries-at s x past nodes v (e ∷ es) (o ∷ os) h zero b o′ p q =
     let a : e ≡ b = cc in
     let c : o ≡ o′ = cc in
-    subst (λ (y : Origin). entryAllowed s x past nodes v b y ≡ true) c
+    subst (λ (y : Source). entryAllowed s x past nodes v b y ≡ true) c
     (subst (λ (y : List ℕ). entryAllowed s x past nodes v y o ≡ true) a (and-left (entryAllowed s x past nodes v e o) (entriesAllowed s x past nodes v es os) h))
 entries-at s x past nodes v (e ∷ es) (o ∷ os) h (suc k) b o′ p q =
     entries-at s x past nodes v es os (and-right (entryAllowed s x past nodes v e o) (entriesAllowed s x past nodes v es os) h) k b o′ p q
 
 -- one entry
 pub entry-fact :
-    (s : Setup) (x floor : ℕ) (past : List Done) (nodes : List Node) (v : ℕ) (bytes : List ℕ) (o : Origin)
+    (s : Setup) (x floor : ℕ) (past : List Done) (nodes : List Node) (v : ℕ) (bytes : List ℕ) (o : Source)
     → (v ≤ staleUntil s x → v + s .epsilon ≤ floor) → entryAllowed s x past nodes v bytes o ≡ true → EntryOk s floor past nodes v bytes o
 entry-fact s x floor past nodes v bytes stale early h = early (leb-true v (staleUntil s x) h)
 entry-fact s x floor past nodes v bytes (sentBy k) early h = go (getElem? past k) refl h
   where
-    go : (d : Option Done) → getElem? past k ≡ d → soundlySent s nodes bytes d ≡ true → SentEntry s past nodes bytes k
+    go : (d : Option Done) → getElem? past k ≡ d → heardInTime s nodes bytes d ≡ true → SentEntry s past nodes bytes k
     go none e t = absurd (clash t refl)
     go (some m) e t =
         let a = and-right (sends m) _ t in
@@ -180,7 +180,7 @@ moved node call acc = rw acc
 legal-fact :
     (s : Setup) (x floor : ℕ) (w : World) (call : Call) (node : Node) → ((v : ℕ) → v ≤ staleUntil s x → v + s .epsilon ≤ floor)
     → getElem? (w .nodes) (call .node) ≡ some node → isAccepted (outputOf node call) ≡ true → acceptedWell s x w call (doneOf node call) ≡ true → Legal s floor w call node
-unfolding acceptedWell
+unfolding acceptedWell oneSetup trueClock hearsAllowed
 legal-fact s x floor w call node early at acc h =
     record {
       at = at;
@@ -188,15 +188,15 @@ legal-fact s x floor w call node early at acc h =
       setup-is = setup-fact;
       clock-is = clock-fact;
       together = together-fact (s .epsilon) (act w call .nodes) (and-left (together (s .epsilon) (act w call .nodes)) E h2);
-      lengths = entries-lengths s x (w .past) (act w call .nodes) (doneOf node call .clock) (batchEntries (call .batch)) (call .origins) entries;
+      lengths = entries-lengths s x (w .past) (act w call .nodes) (doneOf node call .clock) (batchEntries (call .batch)) (call .sources) entries;
       entry = λ e bytes o p q.
           subst (λ (v : ℕ). EntryOk s floor (w .past) (act w call .nodes) v bytes o) here
           (entry-fact s x floor (w .past) (act w call .nodes) (doneOf node call .clock) bytes o (early (doneOf node call .clock))
-          (entries-at s x (w .past) (act w call .nodes) (doneOf node call .clock) (batchEntries (call .batch)) (call .origins) entries e bytes o p q));
+          (entries-at s x (w .past) (act w call .nodes) (doneOf node call .clock) (batchEntries (call .batch)) (call .sources) entries e bytes o p q));
     }
   where
     E : Bool
-    E = entriesAllowed s x (w .past) (act w call .nodes) (doneOf node call .clock) (batchEntries (call .batch)) (call .origins)
+    E = entriesAllowed s x (w .past) (act w call .nodes) (doneOf node call .clock) (batchEntries (call .batch)) (call .sources)
 
     C : Bool
     C = eqb (call .clock) (doneOf node call .clock % s .modulus)

@@ -20,7 +20,7 @@ use Rattle.model.specs.Batch.{batchEntries}
 use Rattle.model.specs.Holdback.{heldBytes}
 use Rattle.model.specs.Codec.{frameOf}
 use Rattle.model.specs.Tick.{Input, openingStamp, openingQueue}
-use Rattle.model.specs.Run.{Node, Origin, sentBy, stale, Call, Done, World, isAccepted, outputOf, act, sends, messageBytes, messageFrame}
+use Rattle.model.specs.Run.{Node, Source, sentBy, stale, Call, Done, World, isAccepted, outputOf, act, sends, messageBytes, messageFrame}
 use Rattle.theory.specs.Premises.{withOwn, clockAt}
 use Rattle.theory.specs.Demand3.{isFrom, heardIn, dueAt, earlier, newTimestamp, written}
 use Rattle.lemmas.proofs.Bounds.{Limits, Sound, FrameOk}
@@ -154,7 +154,7 @@ pub record SentEntry (s : Setup) (past : List Done) (nodes : List Node) (entry :
   pub near-by : clockAt (getElem? nodes (message .node)) ≤ message .clock + s .delta
 
 -- what one entry may be, in a call for v
-abbrev pub EntryOk : Setup → ℕ → List Done → List Node → ℕ → List ℕ → Origin → Type 0
+abbrev pub EntryOk : Setup → ℕ → List Done → List Node → ℕ → List ℕ → Source → Type 0
 EntryOk s floor past nodes v entry (sentBy k) = SentEntry s past nodes entry k
 EntryOk s floor past nodes v entry stale = v + s .epsilon ≤ floor
 
@@ -165,8 +165,8 @@ pub record Legal (s : Setup) (floor : ℕ) (w : World) (call : Call) (node : Nod
   pub setup-is : call .setup ≡ withOwn s (node .own)
   pub clock-is : call .clock ≡ suc (node .clock) % s .modulus
   pub together : (i j : ℕ) (a b : Node) → getElem? (act w call .nodes) i ≡ some a → getElem? (act w call .nodes) j ≡ some b → a .clock ≤ b .clock + s .epsilon
-  pub lengths : length (batchEntries (call .batch)) ≡ length (call .origins)
-  pub entry : (e : ℕ) (bytes : List ℕ) (o : Origin) → getElem? (batchEntries (call .batch)) e ≡ some bytes → getElem? (call .origins) e ≡ some o → EntryOk s floor (w .past) (act w call .nodes) (suc (node .clock)) bytes o
+  pub lengths : length (batchEntries (call .batch)) ≡ length (call .sources)
+  pub entry : (e : ℕ) (bytes : List ℕ) (o : Source) → getElem? (batchEntries (call .batch)) e ≡ some bytes → getElem? (call .sources) e ≡ some o → EntryOk s floor (w .past) (act w call .nodes) (suc (node .clock)) bytes o
 
 -- the followed messages heard at a node that are due at v
 unfoldable pub dueFollowed : Setup → ℕ → List Done → ℕ → ℕ → List Done
@@ -181,8 +181,8 @@ pub record Kept (s : Setup) (from : ℕ) (past : List Done) (d : Done) : Type 0 
   pub event : Event s d
   pub setup-is : d .call .setup ≡ withOwn s (d .own)
   pub hearing :
-      (e k : ℕ) (m : Done) → getElem? (d .call .origins) e ≡ some (sentBy k) → getElem? past k ≡ some m → followed from m ≡ true
-      → getD (d .output .verdicts) e 0 ≡ cond (heardAt past (d .node) k || any (isFrom k) (take e (d .call .origins))) 16 0
+      (e k : ℕ) (m : Done) → getElem? (d .call .sources) e ≡ some (sentBy k) → getElem? past k ≡ some m → followed from m ≡ true
+      → getD (d .output .verdicts) e 0 ≡ cond (heardAt past (d .node) k || any (isFrom k) (take e (d .call .sources))) 16 0
   pub delivering :
       select (followedFrame s from (d .clock)) (heldBytes (s .epsilon) (d .output .delivery))
       ≡ map messageBytes (sortBy (earlier s) (dueFollowed s from (past ++ (d ∷ [])) (d .node) (d .clock)))
@@ -190,10 +190,10 @@ pub record Kept (s : Setup) (from : ℕ) (past : List Done) (d : Done) : Type 0 
       (k : ℕ) (a : Done) → getElem? past k ≡ some a → isAccepted (a .output) ≡ true → a .node ≡ d .node
       → lexCompare (eventKey s a) (eventKey s d) ≡ Ordering·lt
   pub takes :
-      (e k : ℕ) (m : Done) → getElem? (d .call .origins) e ≡ some (sentBy k) → getElem? past k ≡ some m → getD (d .output .verdicts) e 0 ≡ 0
+      (e k : ℕ) (m : Done) → getElem? (d .call .sources) e ≡ some (sentBy k) → getElem? past k ≡ some m → getD (d .output .verdicts) e 0 ≡ 0
       → lexCompare (eventKey s m) (eventKey s d) ≡ Ordering·lt
   pub sent-before :
-      (e k : ℕ) → getElem? (d .call .origins) e ≡ some (sentBy k) → (m : Done) × (getElem? past k ≡ some m) × (sends m ≡ true)
+      (e k : ℕ) → getElem? (d .call .sources) e ≡ some (sentBy k) → (m : Done) × (getElem? past k ≡ some m) × (sends m ≡ true)
 
 abbrev pub AllKept : Setup → ℕ → List Done → Type 0
 AllKept s from past =

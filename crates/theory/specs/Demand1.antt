@@ -5,9 +5,11 @@ use mathlib.Core.Path.{_≡_}
 use Rattle.model.specs.Question.{firstNo}
 use Rattle.model.specs.Tick.{Input, callQuestions, refusal, acceptance, tick}
 
+-- what demand 1 promises of a call, whatever its arguments hold
 pub record Demand1 (i : Input) : Type 0 where
   -- "the answer is that number and the tables as given, all else 0, and all buffers keep their contents"
   pub refused : (k : ℕ) → firstNo (callQuestions i) ≡ suc k → tick i ≡ refusal i (suc k)
   -- "A call is accepted exactly if none of its questions gets a no, and refused otherwise"
   pub accepted : firstNo (callQuestions i) ≡ 0 → tick i ≡ acceptance i
+  -- "returns that check's number", 0 where every check is passed
   pub number : tick i .answer .number ≡ firstNo (callQuestions i)

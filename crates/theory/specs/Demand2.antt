@@ -1,22 +1,24 @@
--- Demand 2: from any state, and from fresh stations.
-use Prim.Native.Nat.{ℕ, _+_, _%_}
+-- Demand 2: from any state, the codec, and from fresh stations.
+use Prim.Native.Nat.{ℕ, _+_, _-_, _%_, _≤_, _<_}
 use mathlib.Core.Path.{_≡_}
 use mathlib.Core.Bool.{Bool, true, false, cond}
 use mathlib.Core.List.{List, [], _∷_, _++_, map}
 use mathlib.Core.Option.{Option, none, some}
-use lib.ListN.{length, take, getD, set, getElem?}
-use Rattle.laws.specs.Lists.{overlay}
-use Rattle.model.specs.Setup.{Setup}
+use lib.Dec.{ltb, eqb}
+use lib.ListN.{length, take, drop, getD, set, replicate, getElem?}
+use Rattle.laws.specs.Lists.{every, any, overlay}
+use Rattle.model.specs.Setup.{Setup, width}
 use Rattle.model.specs.Timestamp.{Timestamp, trimmed, widened, soundTables}
-use Rattle.model.specs.Frame.{Frame, encode}
+use Rattle.model.specs.Frame.{Frame, encode, wellFormed}
 use Rattle.model.specs.Batch.{batchEntries}
-use Rattle.model.specs.Holdback.{heldBytes, encodeFrames}
+use Rattle.model.specs.Holdback.{heldBytes, held, soundHoldback, encodeFrames, encodeHoldback}
 use Rattle.model.specs.Question.{firstNo}
+use Rattle.model.specs.Codec.{read, write}
 use Rattle.model.specs.Judge.{Heard, hear, judgeQuestions}
-use Rattle.model.specs.Tick.{Input, openingStamp, openingQueue, takenCount, tick}
-use Rattle.model.specs.Published.{Event, Message, Process, newOnes, eventOf, messageOf, deliveredAt, advanced, started}
-use Rattle.model.specs.Run.{Node, Origin, sentBy, stale, Call, Done, isAccepted, runFrom, atStart}
-use Rattle.theory.specs.Premises.{goodStart, largestClock, keeps, Fresh, noneStale}
+use Rattle.model.specs.Tick.{Input, holdbackSize, openingStamp, openingQueue, sentBytes, deliveredOf, takenCount, tick}
+use Rattle.model.specs.Published.{Event, Message, Process, inOrder, sameMessage, newOnes, eventOf, messageOf, deliveredAt, advanced, started}
+use Rattle.model.specs.Run.{Node, Source, sentBy, stale, Call, Done, isAccepted, runFrom, atStart}
+use Rattle.theory.specs.Premises.{goodStart, largestClock, keeps, allFresh, noneStale}
 
 -- what a tick has heard before its entry k
 unfoldable pub heardBefore : Input → ℕ → Heard
@@ -32,45 +34,107 @@ pub record AnyState (i : Input) : Type 0 where
       → getD (tick i .verdicts) k 0 ≡ firstNo (judgeQuestions (i .setup) (i .clock) (heardBefore i k .queue) entry)
   -- "the figures count what they say": taken counts the 0s, handed out the frames of the hand-out
   pub taken : tick i .answer .taken ≡ takenCount (take (length (batchEntries (i .batch))) (tick i .verdicts))
-  pub delivered : tick i .answer .delivered ≡ length (heldBytes (i .setup .epsilon) (tick i .delivery))
+  pub delivered : tick i .answer .delivered ≡ length (deliveredOf i)
+  -- and these are, byte for byte, the frames that are due
+  pub delivery : heldBytes (i .setup .epsilon) (tick i .delivery) ≡ map encode (deliveredOf i)
+  -- "outgoing length (0 if none)": the bytes of the frame sent, none where nothing is to be sent
+  pub sent : tick i .answer .sent ≡ length (sentBytes i)
+  pub outgoing : take (tick i .answer .sent) (tick i .outgoing) ≡ sentBytes i
   -- "Stamps stay within their bounds after every tick"
   pub bounded :
       soundTables (i .setup .n) (i .setup .epsilon) (i .setup .modulus) ((i .clock + 1) % i .setup .modulus)
       (trimmed (i .setup .epsilon) (tick i .answer .tables)) ≡ true
 
+-- Demand 2 from any state, of every accepted call
 abbrev pub Demand2Any : Type 0
 Demand2Any = (i : Input) → tick i .answer .number ≡ 0 → AnyState i
 
--- The published program, run over the same calls: all processes, and what each call sent
+-- bytes: numbers below 256
+unfoldable pub areBytes : List ℕ → Bool
+areBytes bytes = every (λ b. ltb b 256) bytes
+
+-- a frame of 2ε counts
+unfoldable pub hasWidth : ℕ → Frame → Bool
+hasWidth epsilon f = eqb (length (f .stamp .kn)) (width epsilon)
+
+-- "the codec round-trips": the frame, the shelf and the hand-out
+pub record RoundTrips (s : Setup) : Type 0 where
+  -- a written frame reads back the same; the places past the 2ε counts come back 0
+  pub frameRead :
+      (station : ℕ) (t : Timestamp) (payload buffer : List ℕ) → write s station t payload buffer .number ≡ 0
+      → read s (take (write s station t payload buffer .size) (write s station t payload buffer .buffer))
+      ≡ record { number = 0; station = station; stamp = widened (trimmed (s .epsilon) t); payload = payload }
+  -- an accepted frame is the one that the writer makes of its contents, in any buffer that is long enough
+  pub frameWritten :
+      (bytes buffer : List ℕ) → areBytes bytes ≡ true → read s bytes .number ≡ 0 → length bytes ≤ length buffer
+      → write s (read s bytes .station) (read s bytes .stamp) (read s bytes .payload) buffer
+      ≡ record { number = 0; size = length bytes; buffer = overlay bytes buffer }
+  -- a shelf holds the frames of which it was made
+  pub holdbackRead :
+      (size : ℕ) (queue : List Frame) → every (hasWidth (s .epsilon)) queue ≡ true → length queue < 65536
+      → held (s .epsilon) (encodeHoldback size queue) ≡ queue
+  -- a sound shelf with zeros behind its frames is what is made of these frames
+  pub holdbackWritten :
+      (v : ℕ) (bytes : List ℕ) → length bytes ≡ holdbackSize s → areBytes bytes ≡ true → soundHoldback s v bytes ≡ true
+      → drop (length (encodeFrames (held (s .epsilon) bytes))) bytes
+      ≡ replicate (holdbackSize s - length (encodeFrames (held (s .epsilon) bytes))) 0
+      → encodeHoldback (holdbackSize s) (held (s .epsilon) bytes) ≡ bytes
+  -- a hand-out holds the frames of which it was made, whatever the buffer held
+  pub deliveryRead :
+      (queue : List Frame) (old : List ℕ) → every (hasWidth (s .epsilon)) queue ≡ true → length queue < 65536
+      → held (s .epsilon) (overlay (encodeFrames queue) old) ≡ queue
+  -- bytes that hold well-formed frames begin with the hand-out that is made of these frames
+  pub deliveryWritten :
+      (bytes : List ℕ) → 2 ≤ length bytes → areBytes bytes ≡ true
+      → every (wellFormed (s .epsilon)) (heldBytes (s .epsilon) bytes) ≡ true
+      → overlay (encodeFrames (held (s .epsilon) bytes)) bytes ≡ bytes
+
+-- Demand 2, the codec, of every setup
+abbrev pub Demand2Codec : Type 0
+Demand2Codec = (s : Setup) → RoundTrips s
+
+-- The published program, run over the same calls: the process of each station, and for each call made the message that it sent, if any
 pub record Published : Type 0 where
   pub processes : List Process
   pub sent : List (Option Message)
 
--- the message that an entry is from
+-- the message that an entry is from, if it is from one, before the rest
 abbrev pub messagesFrom : Option (Option Message) → List Message → List Message
 messagesFrom none rest = rest
 messagesFrom (some none) rest = rest
 messagesFrom (some (some m)) rest = m ∷ rest
 
-unfoldable pub messagesHeard : List (Option Message) → List Origin → List Message
+-- the messages that the entries of a call come from, in the bundle's order
+unfoldable pub messagesHeard : List (Option Message) → List Source → List Message
 messagesHeard sent [] = []
 messagesHeard sent (sentBy k ∷ os) = messagesFrom (getElem? sent k) (messagesHeard sent os)
 messagesHeard sent (stale ∷ os) = messagesHeard sent os
 
--- what one call makes of a process of the published program
+-- 01: "verdict 0" for a message that is new to the process, 16 for a repeat, which it passes over; in the order heard
+unfoldable pub verdictsOn : List Message → List Message → List ℕ
+verdictsOn seen [] = []
+verdictsOn seen (m ∷ ms) = cond (any (sameMessage m) seen) (16 ∷ verdictsOn seen ms) (0 ∷ verdictsOn (m ∷ seen) ms)
+
+-- what one call makes of a process of the published program: the messages that are new to it and the verdicts on all that it hears,
+-- its event, the message that it would send with the call's payload, what it delivers, and what it still holds
 pub record Outcome : Type 0 where
-  pub fresh : List Message
+  pub newMessages : List Message
+  pub verdicts : List ℕ
   pub last : Event
   pub message : Message
   pub delivered : List Message
+  pub buffer : List Message
 
-unfoldable pub outcomeOf : Setup → List (Option Message) → Process → Done → Outcome
-outcomeOf s sent p d =
+-- the same for a call for a clock, with the messages that its entries come from
+unfoldable pub outcomeOf : Setup → List (Option Message) → Process → ℕ → Call → Outcome
+outcomeOf s sent p clock call =
     record {
-      fresh = newOnes (p .received) (messagesHeard sent (d .call .origins));
-      last = eventOf (s .epsilon) (d .clock) p (messagesHeard sent (d .call .origins));
-      message = messageOf (s .epsilon) (d .clock) p (messagesHeard sent (d .call .origins)) (d .call .payload);
-      delivered = deliveredAt (s .epsilon) (s .delta) (d .clock) p (messagesHeard sent (d .call .origins));
+      newMessages = newOnes (p .received) (messagesHeard sent (call .sources));
+      verdicts = verdictsOn (p .received) (messagesHeard sent (call .sources));
+      last = eventOf (s .epsilon) clock p (messagesHeard sent (call .sources));
+      message = messageOf (s .epsilon) clock p (messagesHeard sent (call .sources)) (call .payload);
+      delivered = deliveredAt (s .epsilon) (s .delta) clock p (messagesHeard sent (call .sources));
+      buffer = advanced (s .epsilon) (s .delta) clock p (messagesHeard sent (call .sources)) .buffer;
     }
 
 -- an accepted call is an event of its process, a refused one is none
@@ -81,13 +145,15 @@ publishOn s w d true (some p) =
     record {
       processes =
           set (w .processes) (d .node)
-          (advanced (s .epsilon) (s .delta) (d .clock) p (messagesHeard (w .sent) (d .call .origins)));
-      sent = w .sent ++ (cond (d .call .send) (some (outcomeOf s (w .sent) p d .message)) none ∷ []);
+          (advanced (s .epsilon) (s .delta) (d .clock) p (messagesHeard (w .sent) (d .call .sources)));
+      sent = w .sent ++ (cond (d .call .send) (some (outcomeOf s (w .sent) p (d .clock) (d .call) .message)) none ∷ []);
     }
 
+-- what a call makes of the published program
 unfoldable pub publish : Setup → Published → Done → Published
 publish s w d = publishOn s w d (isAccepted (d .output)) (getElem? (w .processes) (d .node))
 
+-- what a list of calls makes of it
 unfoldable pub publishAll : Setup → Published → List Done → Published
 publishAll s w [] = w
 publishAll s w (d ∷ ds) = publishAll s (publish s w d) ds
@@ -97,24 +163,34 @@ unfoldable pub publishedStart : Setup → List Node → Published
 publishedStart s nodes =
     record { processes = map (λ (node : Node). started (s .epsilon) (node .own) (node .clock)) nodes; sent = [] }
 
--- "reduced modulo B"
+-- "reduced modulo B": the timestamp of an event
 unfoldable pub reduced : ℕ → Event → Timestamp
 reduced modulus e = record { r = e .r % modulus; c = e .c; kn = e .kn }
 
+-- "reduced modulo B": the frame of a message
 unfoldable pub reducedFrame : ℕ → Message → Frame
 reducedFrame modulus m = record { station = m .sender; stamp = reduced modulus (m .event); payload = m .content }
 
 -- "every tick does exactly what the published program does with clocks that never wrap, reduced modulo B"
 pub record SameAs (s : Setup) (o : Outcome) (d : Done) : Type 0 where
+  -- the tables are the stamp of the process's event, and there was nothing to mend
   pub tables : d .output .answer .tables ≡ widened (reduced (s .modulus) (o .last))
   pub repair : d .output .answer .repair ≡ 0
   -- each message heard is taken once: "the published program passes over a repeat"
-  pub taken : d .output .answer .taken ≡ length (o .fresh)
+  pub taken : d .output .answer .taken ≡ length (o .newMessages)
+  -- the verdict bytes: 0 for what is new to the process, 16 for a repeat; "Bytes beyond those written stay"
+  pub verdicts : d .output .verdicts ≡ overlay (o .verdicts) (d .call .verdicts)
+  -- the shelf is what the process still holds, in order, then zeros
+  pub holdback :
+      d .output .holdback
+      ≡ encodeHoldback (holdbackSize s) (map (reducedFrame (s .modulus)) (inOrder (s .epsilon) (o .buffer)))
+  -- the outgoing frame is the process's message, if a ticket is to be sent
   pub outgoing :
       d .output .outgoing
       ≡ overlay (cond (d .call .send) (encode (reducedFrame (s .modulus) (o .message))) []) (d .call .outgoing)
   pub sent :
       d .output .answer .sent ≡ length (cond (d .call .send) (encode (reducedFrame (s .modulus) (o .message))) [])
+  -- the hand-out is what the process delivers
   pub delivery :
       d .output .delivery ≡ overlay (encodeFrames (map (reducedFrame (s .modulus)) (o .delivered))) (d .call .delivery)
   pub delivered : d .output .answer .delivered ≡ length (o .delivered)
@@ -122,12 +198,12 @@ pub record SameAs (s : Setup) (o : Outcome) (d : Done) : Type 0 where
 -- the process of the call's station, as the calls before it left it, does the same
 abbrev pub Matched : Setup → Published → Done → Type 0
 Matched s w d =
-    (p : Process) × (getElem? (w .processes) (d .node) ≡ some p) × SameAs s (outcomeOf s (w .sent) p d) d
+    (p : Process) × (getElem? (w .processes) (d .node) ≡ some p) × SameAs s (outcomeOf s (w .sent) p (d .clock) (d .call)) d
 
 -- From fresh stations: of every accepted call of the list
 abbrev pub Demand2Fresh : Type 0
 Demand2Fresh =
-    (s : Setup) (nodes : List Node) (calls : List Call) → goodStart s nodes ≡ true → Fresh s nodes
+    (s : Setup) (nodes : List Node) (calls : List Call) → goodStart s nodes ≡ true → allFresh s nodes ≡ true
     → keeps s (largestClock nodes) (atStart nodes) calls ≡ true → noneStale (runFrom (atStart nodes) calls .past) ≡ true
     → (j : ℕ) (d : Done) → getElem? (runFrom (atStart nodes) calls .past) j ≡ some d → isAccepted (d .output) ≡ true
     → Matched s (publishAll s (publishedStart s nodes) (take j (runFrom (atStart nodes) calls .past))) d

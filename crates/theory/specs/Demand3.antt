@@ -1,8 +1,8 @@
 -- Demand 3 in full: one statement about the whole list of calls.
-use Prim.Native.Nat.{ℕ, _+_, _-_, _*_, _%_, _<_}
+use Prim.Native.Nat.{ℕ, _+_, _*_, _%_, _<_}
 use mathlib.Core.Path.{_≡_}
 use mathlib.Core.Bool.{Bool, true, false, _&&_, _||_, cond}
-use mathlib.Core.List.{List, [], _∷_, map}
+use mathlib.Core.List.{List, map}
 use mathlib.Core.Option.{some}
 use lib.Dec.{leb, eqb}
 use lib.ListN.{take, getD, getElem?}
@@ -13,8 +13,8 @@ use Rattle.model.specs.Timestamp.{Timestamp, near}
 use Rattle.model.specs.Frame.{decode}
 use Rattle.model.specs.Order.{key, due}
 use Rattle.model.specs.Holdback.{heldBytes}
-use Rattle.model.specs.Codec.{WriteAnswer, frameOf, write}
-use Rattle.model.specs.Run.{Node, Origin, sentBy, stale, Call, Done, isAccepted, runFrom, atStart, sends, messageBytes, messageFrame}
+use Rattle.model.specs.Codec.{WriteAnswer, write}
+use Rattle.model.specs.Run.{Node, Source, sentBy, stale, Call, Done, isAccepted, runFrom, atStart, sends, messageBytes, messageFrame}
 use Rattle.theory.specs.Premises.{withOwn, goodStart, largestClock, keeps}
 
 -- 01: "T for X + δ + 3ε"
@@ -26,13 +26,13 @@ unfoldable pub covered : Setup → ℕ → Done → Bool
 covered s x m = sends m && leb (coveredFrom s x) (m .clock)
 
 -- an entry that comes from the call at position k
-unfoldable pub isFrom : ℕ → Origin → Bool
+unfoldable pub isFrom : ℕ → Source → Bool
 isFrom k (sentBy j) = eqb k j
 isFrom k stale = false
 
 -- 01: "heard where an accepted call's bundle has an entry from it"
 unfoldable pub heardIn : ℕ → ℕ → Done → Bool
-heardIn node k d = isAccepted (d .output) && (eqb (d .node) node && any (isFrom k) (d .call .origins))
+heardIn node k d = isAccepted (d .output) && (eqb (d .node) node && any (isFrom k) (d .call .sources))
 
 -- 01: "due at v": sum + δ + ε equals v
 unfoldable pub dueAt : Setup → ℕ → Done → Bool
@@ -42,6 +42,7 @@ dueAt s v m = eqb (due (s .epsilon) (s .delta) (m .clock) (messageFrame m .stamp
 unfoldable pub messageKey : Setup → Done → List ℕ
 messageKey s m = key (s .epsilon) (m .clock) (messageFrame m)
 
+-- the first "comes first in the order of two stamps"
 unfoldable pub earlier : Setup → Done → Done → Bool
 earlier s m m′ = isLess (lexCompare (messageKey s m) (messageKey s m′))
 
@@ -62,7 +63,7 @@ newTimestamp s d = record { r = d .clock % s .modulus; c = d .output .answer .ta
 -- the writer's answer for that call's sending
 unfoldable pub written : Setup → Done → WriteAnswer
 written s d =
-    write (withOwn s (d .own)) (frameOf (s .epsilon) (d .own) (newTimestamp s d) (d .call .payload)) (d .call .outgoing)
+    write (withOwn s (d .own)) (d .own) (newTimestamp s d) (d .call .payload) (d .call .outgoing)
 
 -- 01: "A call leads to later ones of its station, to those that take the message it sent, and on through such steps."
 pub data Leads (past : List Done) : ℕ → ℕ → Type 0 where
@@ -70,7 +71,7 @@ pub data Leads (past : List Done) : ℕ → ℕ → Type 0 where
       {i j : ℕ} {a b : Done} → i < j → getElem? past i ≡ some a → getElem? past j ≡ some b → a .node ≡ b .node → Leads past i j
   takes :
       {i j : ℕ} {b : Done} (e : ℕ) → getElem? past j ≡ some b → isAccepted (b .output) ≡ true
-      → getElem? (b .call .origins) e ≡ some (sentBy i) → getD (b .output .verdicts) e 0 ≡ 0 → Leads past i j
+      → getElem? (b .call .sources) e ≡ some (sentBy i) → getD (b .output .verdicts) e 0 ≡ 0 → Leads past i j
   on : {i j k : ℕ} → Leads past i j → Leads past j k → Leads past i k
 
 -- what demand 3 promises of a list of calls that have been made
@@ -82,9 +83,9 @@ pub record Promised (s : Setup) (x : ℕ) (past : List Done) : Type 0 where
   -- "On each board, in order of calls and entries, a covered message gets verdict 0 at its first hearing, 16 at each later one."
   pub hearing :
       (j : ℕ) (d : Done) → getElem? past j ≡ some d → isAccepted (d .output) ≡ true
-      → (e k : ℕ) (m : Done) → getElem? (d .call .origins) e ≡ some (sentBy k) → getElem? past k ≡ some m → covered s x m ≡ true
+      → (e k : ℕ) (m : Done) → getElem? (d .call .sources) e ≡ some (sentBy k) → getElem? past k ≡ some m → covered s x m ≡ true
       → getD (d .output .verdicts) e 0
-      ≡ cond (any (heardIn (d .node) k) (take j past) || any (isFrom k) (take e (d .call .origins))) 16 0
+      ≡ cond (any (heardIn (d .node) k) (take j past) || any (isFrom k) (take e (d .call .sources))) 16 0
   -- "In each accepted call for v, the handed-out frames whose r, read near v, is at least T are byte for byte the covered messages
   -- heard there so far (this call too) that are due at v, each once, in the order of two stamps."
   pub delivering :

@@ -1,6 +1,5 @@
 -- 01, "Premises of demands 2 and 3". Each is a test, so that a given list can be tried.
 use Prim.Native.Nat.{ℕ, _+_, _%_}
-use mathlib.Core.Path.{_≡_}
 use mathlib.Core.Bool.{Bool, true, false, _&&_, _||_, not}
 use mathlib.Core.List.{List, [], _∷_, map}
 use mathlib.Core.Option.{Option, none, some}
@@ -8,16 +7,17 @@ use lib.Dec.{leb, eqb}
 use lib.ListN.{length, getElem?}
 use Rattle.laws.specs.Lists.{every, apart, largest, sameList}
 use Rattle.model.specs.Setup.{Setup, inLimits}
-use Rattle.model.specs.Timestamp.{fresh, widened}
-use Rattle.model.specs.Holdback.{encodeHoldback}
+use Rattle.model.specs.Timestamp.{Timestamp, fresh, trimmed}
+use Rattle.model.specs.Frame.{twoAt}
 use Rattle.model.specs.Batch.{batchEntries}
 use Rattle.model.specs.Tick.{holdbackSize}
-use Rattle.model.specs.Run.{Node, Origin, sentBy, stale, Call, Done, World, act, doneOf, isAccepted, sends, messageBytes}
+use Rattle.model.specs.Run.{Node, Source, sentBy, stale, Call, Done, World, act, doneOf, isAccepted, sends, messageBytes}
 
 -- 01: "One valid setup, the own number aside"
 unfoldable pub withOwn : Setup → ℕ → Setup
 withOwn s own = record { n = s .n; epsilon = s .epsilon; delta = s .delta; modulus = s .modulus; own = own }
 
+-- the two setups are the same
 unfoldable pub sameSetup : Setup → Setup → Bool
 sameSetup s t =
     eqb (s .n) (t .n) && (eqb (s .epsilon) (t .epsilon) && (eqb (s .delta) (t .delta)
@@ -31,11 +31,19 @@ together epsilon nodes = every (λ a. every (λ b. leb (a .clock) (b .clock + ep
 unfoldable pub distinct : List Node → Bool
 distinct nodes = apart (λ a b. eqb (a .own) (b .own)) nodes
 
--- 01: "The list starts from a clock for each station, any tables, and any shelf bytes of the exact length"
+-- 01: "One valid setup", with each station's own number
+unfoldable pub validFor : Setup → Node → Bool
+validFor s node = inLimits (withOwn s (node .own))
+
+-- 01: "any shelf bytes of the exact length"
+unfoldable pub exactHoldback : Setup → Node → Bool
+exactHoldback s node = eqb (length (node .holdback)) (holdbackSize s)
+
+-- 01: "The list starts from a clock for each station, any tables, and any shelf bytes of the exact length": the setup is valid, the
+-- stations are distinct, their clocks keep the drift limit, and their shelves have their length
 unfoldable pub goodStart : Setup → List Node → Bool
 goodStart s nodes =
-    every (λ node. inLimits (withOwn s (node .own))) nodes && (distinct nodes && (together (s .epsilon) nodes
-    && every (λ node. eqb (length (node .holdback)) (holdbackSize s)) nodes))
+    every (validFor s) nodes && (distinct nodes && (together (s .epsilon) nodes && every (exactHoldback s) nodes))
 
 -- 01: "X is the largest of these clocks"
 unfoldable pub largestClock : List Node → ℕ
@@ -52,30 +60,41 @@ clockAt (some node) = node .clock
 
 -- 01: "a frame heard is one sent since, unaltered and not before its sending", and
 -- "a frame is heard while its sender's clock is at most δ past the sending", with the clocks as they stand after the call
-abbrev pub soundlySent : Setup → List Node → List ℕ → Option Done → Bool
-soundlySent s nodes entry none = false
-soundlySent s nodes entry (some d) =
+abbrev pub heardInTime : Setup → List Node → List ℕ → Option Done → Bool
+heardInTime s nodes entry none = false
+heardInTime s nodes entry (some d) =
     sends d && (sameList entry (messageBytes d) && leb (clockAt (getElem? nodes (d .node))) (d .clock + s .delta))
 
--- one entry of the batch of a call for v, by its origin: the calls before it, and the nodes after it
-abbrev pub entryAllowed : Setup → ℕ → List Done → List Node → ℕ → List ℕ → Origin → Bool
-entryAllowed s x past nodes v entry (sentBy k) = soundlySent s nodes entry (getElem? past k)
+-- one entry of the batch of a call for v, by its source: past are the calls before this one, nodes the stations after it
+abbrev pub entryAllowed : Setup → ℕ → List Done → List Node → ℕ → List ℕ → Source → Bool
+entryAllowed s x past nodes v entry (sentBy k) = heardInTime s nodes entry (getElem? past k)
 entryAllowed s x past nodes v entry stale = leb v (staleUntil s x)
 
 -- 01: "Each bundle entry of an accepted call comes from one earlier call, or is an older frame of any bytes"
-unfoldable pub entriesAllowed : Setup → ℕ → List Done → List Node → ℕ → List (List ℕ) → List Origin → Bool
+unfoldable pub entriesAllowed : Setup → ℕ → List Done → List Node → ℕ → List (List ℕ) → List Source → Bool
 entriesAllowed s x past nodes v [] [] = true
 entriesAllowed s x past nodes v [] (o ∷ os) = false
 entriesAllowed s x past nodes v (e ∷ es) [] = false
 entriesAllowed s x past nodes v (e ∷ es) (o ∷ os) =
     entryAllowed s x past nodes v e o && entriesAllowed s x past nodes v es os
 
--- 01: an accepted call has the one setup, "the true clock modulo B", keeps the drift limit, and hears what it may
+-- 01: an accepted call has "One valid setup, the own number aside"
+unfoldable pub oneSetup : Setup → Call → Done → Bool
+oneSetup s call d = sameSetup (call .setup) (withOwn s (d .own))
+
+-- 01: "the true clock modulo B"
+unfoldable pub trueClock : Setup → Call → Done → Bool
+trueClock s call d = eqb (call .clock) (d .clock % s .modulus)
+
+-- what it hears, with the stations as they stand after it
+unfoldable pub hearsAllowed : Setup → ℕ → World → Call → Done → Bool
+hearsAllowed s x w call d =
+    entriesAllowed s x (w .past) (act w call .nodes) (d .clock) (batchEntries (call .batch)) (call .sources)
+
+-- 01: an accepted call: the one setup, the true clock, the drift limit kept after it ("limits ε and δ kept"), and what it may hear
 unfoldable pub acceptedWell : Setup → ℕ → World → Call → Done → Bool
 acceptedWell s x w call d =
-    sameSetup (call .setup) (withOwn s (d .own)) && (eqb (call .clock) (d .clock % s .modulus)
-    && (together (s .epsilon) (act w call .nodes)
-    && entriesAllowed s x (w .past) (act w call .nodes) (d .clock) (batchEntries (call .batch)) (call .origins)))
+    oneSetup s call d && (trueClock s call d && (together (s .epsilon) (act w call .nodes) && hearsAllowed s x w call d))
 
 -- 01: "A refused call may stand anywhere, given its station's tables and shelf and whatever else"
 abbrev pub allowedFor : Setup → ℕ → World → Call → Option Node → Bool
@@ -83,6 +102,7 @@ allowedFor s x w call none = false
 allowedFor s x w call (some node) =
     not (isAccepted (doneOf node call .output)) || acceptedWell s x w call (doneOf node call)
 
+-- a call that the list may have next; one to no node it may not
 unfoldable pub allowed : Setup → ℕ → World → Call → Bool
 allowed s x w call = allowedFor s x w call (getElem? (w .nodes) (call .node))
 
@@ -91,17 +111,26 @@ unfoldable pub keeps : Setup → ℕ → World → List Call → Bool
 keeps s x w [] = true
 keeps s x w (call ∷ calls) = allowed s x w call && keeps s x (act w call) calls
 
--- 01, demand 2: "every station is fresh at its own clock, its shelf empty"
-abbrev pub Fresh : Setup → List Node → Type 0
-Fresh s nodes =
-    (i : ℕ) (node : Node) → getElem? nodes i ≡ some node
-    → (node .tables ≡ widened (fresh (s .epsilon) (node .clock % s .modulus)))
-    × (node .holdback ≡ encodeHoldback (holdbackSize s) [])
+-- the same r, c and counts
+unfoldable pub sameTimestamp : Timestamp → Timestamp → Bool
+sameTimestamp t u = eqb (t .r) (u .r) && (eqb (t .c) (u .c) && sameList (t .kn) (u .kn))
 
--- 01, demand 2: "no older frame exists"
-unfoldable pub isSent : Origin → Bool
+-- 01, demand 2: a "station is fresh at its own clock, its shelf empty". The places past the 2ε counts, and the bytes behind the
+-- count of the shelf, are ignored
+unfoldable pub isFresh : Setup → Node → Bool
+isFresh s node =
+    sameTimestamp (trimmed (s .epsilon) (node .tables)) (fresh (s .epsilon) (node .clock % s .modulus))
+    && eqb (twoAt (node .holdback) 0) 0
+
+-- 01, demand 2: "every station is fresh at its own clock, its shelf empty"
+unfoldable pub allFresh : Setup → List Node → Bool
+allFresh s nodes = every (isFresh s) nodes
+
+-- the entry comes from an earlier call
+unfoldable pub isSent : Source → Bool
 isSent (sentBy k) = true
 isSent stale = false
 
+-- 01, demand 2: "no older frame exists"
 unfoldable pub noneStale : List Done → Bool
-noneStale past = every (λ d. not (isAccepted (d .output)) || every isSent (d .call .origins)) past
+noneStale past = every (λ d. not (isAccepted (d .output)) || every isSent (d .call .sources)) past

@@ -1,7 +1,7 @@
 -- 01, "The replay program": the text that it writes for the bytes that it reads. No contract can say what a program reads and writes; this is what it is built from.
 use Prim.Native.Nat.{ℕ, zero, suc}
 use mathlib.Core.Bool.{cond}
-use mathlib.Core.List.{List, [], _∷_, _++_}
+use mathlib.Core.List.{List, [], _++_}
 use lib.Dec.{ltb, eqb}
 use lib.ListN.{length, take, drop, replicate}
 use Rattle.model.specs.Setup.{Setup, verdictLength}

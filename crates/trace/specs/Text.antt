@@ -20,12 +20,12 @@ unfoldable pub digits : ℕ → ℕ → ℕ → List ℕ
 digits base zero x = []
 digits base (suc k) x = digits base k (x / base) ++ (glyph (x % base) ∷ [])
 
--- how many digits x has in decimal, in so many steps at most
+-- how many digits x has in decimal, counted up to steps + 1
 unfoldable pub countBy : ℕ → ℕ → ℕ
 countBy zero x = 1
 countBy (suc steps) x = cond (ltb x 10) 1 (suc (countBy steps (x / 10)))
 
--- it has no more than x + 1
+-- all of them, since x has at most x + 1
 unfoldable pub digitCount : ℕ → ℕ
 digitCount x = countBy x x
 

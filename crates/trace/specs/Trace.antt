@@ -1,8 +1,8 @@
 -- 01, "The replay program": what it reads, from bytes to the arguments of a call. A byte that is missing reads as 0.
 use Prim.Native.Nat.{ℕ, zero, suc, _+_, _-_}
-use mathlib.Core.Bool.{Bool, _&&_, not, cond}
+use mathlib.Core.Bool.{Bool, cond}
 use mathlib.Core.List.{List, [], _∷_}
-use lib.Dec.{leb, ltb, eqb}
+use lib.Dec.{leb, eqb}
 use lib.ListN.{length, take, drop, getD}
 use Rattle.model.specs.Setup.{Setup, inLimits}
 use Rattle.model.specs.Frame.{twoAt}
@@ -60,16 +60,16 @@ payloadOf s = take (payloadSize s) (drop 4 s)
 unfoldable pub batchAt : List ℕ → ℕ
 batchAt s = 4 + payloadSize s
 
--- how many bytes k entries of a batch have at the start of s, as far as their lengths are there; the others have none
+-- how many bytes the next k entries of a batch take up, by the length bytes in s; a length that is not there counts as 0
 unfoldable pub entriesSize : ℕ → List ℕ → ℕ
 entriesSize zero s = 0
 entriesSize (suc k) s = 1 + getD s 0 0 + entriesSize k (drop (1 + getD s 0 0) s)
 
--- where the tick ends; before all of it is there, the fewest bytes that it can have
+-- where the tick ends, by the length bytes in s. Where s is cut short, this is still the least length that the whole tick can have
 unfoldable pub tickEnd : List ℕ → ℕ
 tickEnd s = batchAt s + 1 + entriesSize (getD s (batchAt s) 0) (drop (batchAt s + 1) s)
 
--- the bytes of the longest: a payload and a batch of 255 entries, each of 255 bytes
+-- the length of the longest tick: a payload of 255 bytes, and a batch of 255 entries of 255 bytes each
 abbrev pub longestTick : ℕ
 longestTick = 65540
 

@@ -5,7 +5,7 @@ use mathlib.Core.Path.{_≡_, _∙_, ap}
 use borrow.Author.Needs.{needs}
 use Rattle.model.specs.Setup.{Setup}
 use Rattle.model.specs.Timestamp.{Timestamp}
-use Rattle.model.specs.Codec.{WriteAnswer, write, frameOf}
+use Rattle.model.specs.Codec.{WriteAnswer, write}
 use Rattle.timestamp.specs.Views.{stampOf}
 use Rattle.abi.specs.Packing.{setupBy, tablesAt, writeWord}
 use Rattle.abi.proofs.Words.{write-small}
@@ -28,8 +28,8 @@ pack-written-requires c κs =
 same-length : tie.Need-same-length
 same-length c = search needs
 
-same : (c : tie.After-write) (x : WriteAnswer) → x ≡ write (setup (c .before .before .before .before .before .before)) (frameOf (c .before .before .before .before .before .before .args .epsilon) (c .before .before .before .before .before .before .args .station) (stampOf (c .before .before .tables-of .result)) (c .before .before .before .before .before .before .args .payload .now)) (c .before .before .before .before .before .before .args .out .now) → x ≡ write (setup (c .before .before .before .before .before .before)) (frameOf (c .before .before .before .before .before .before .args .epsilon) (c .before .before .before .before .before .before .args .station) (tablesAt (c .before .before .before .before .before .before .args .tables .now)) (c .before .before .before .before .before .before .args .payload .now)) (c .before .before .before .before .before .before .args .out .now)
-same c x e = e ∙ ap (λ (t : Timestamp). write (setup (c .before .before .before .before .before .before)) (frameOf (c .before .before .before .before .before .before .args .epsilon) (c .before .before .before .before .before .before .args .station) t (c .before .before .before .before .before .before .args .payload .now)) (c .before .before .before .before .before .before .args .out .now)) (c .before .before .tables-of .ensures .0)
+same : (c : tie.After-write) (x : WriteAnswer) → x ≡ write (setup (c .before .before .before .before .before .before)) (c .before .before .before .before .before .before .args .station) (stampOf (c .before .before .tables-of .result)) (c .before .before .before .before .before .before .args .payload .now) (c .before .before .before .before .before .before .args .out .now) → x ≡ write (setup (c .before .before .before .before .before .before)) (c .before .before .before .before .before .before .args .station) (tablesAt (c .before .before .before .before .before .before .args .tables .now)) (c .before .before .before .before .before .before .args .payload .now) (c .before .before .before .before .before .before .args .out .now)
+same c x e = e ∙ ap (λ (t : Timestamp). write (setup (c .before .before .before .before .before .before)) (c .before .before .before .before .before .before .args .station) t (c .before .before .before .before .before .before .args .payload .now) (c .before .before .before .before .before .before .args .out .now)) (c .before .before .tables-of .ensures .0)
 
 returns : tie.Need-returns
 unfolding writeWord

@@ -12,7 +12,7 @@ use Rattle.frame.proofs.Asking.{station-no, r-no, in-range, stamp-no, s
 use Rattle.lemmas.proofs.Bounds.{Limits}
 use Rattle.lemmas.proofs.Questions.{limits-from}
 use Rattle.timestamp.specs.Views.{setupOf, stampOf}
-use Rattle.model.specs.Codec.{frameOf, writeQuestions}
+use Rattle.model.specs.Codec.{frameOf, writeFrameQuestions}
 use Rattle.model.specs.Question.{firstNo}
 use Rattle.model.specs.Frame.{Frame, encode}
 use Rattle.model.specs.Timestamp.{trimmed}
@@ -37,15 +37,15 @@ limited c = sym (c .before .in-limits .ensures) ∙ not-false (c .before .in-lim
 limits : (c : tie.Else1) → Limits (setup (c .before .before .before .before))
 limits c = limits-from (setup (c .before .before .before .before)) (limited c)
 
-asked-range : (c : tie.Else2) → firstNo (writeQuestions (setup (c .before .before .before .before .before .before .before .before)) (frame (c .before .before .before .before .before .before .before .before)) (room (c .before .before .before .before .before .before .before .before))) ≡ firstNo (fromRange (setup (c .before .before .before .before .before .before .before .before)) (frame (c .before .before .before .before .before .before .before .before)) (room (c .before .before .before .before .before .before .before .before)))
+asked-range : (c : tie.Else2) → firstNo (writeFrameQuestions (setup (c .before .before .before .before .before .before .before .before)) (frame (c .before .before .before .before .before .before .before .before)) (room (c .before .before .before .before .before .before .before .before))) ≡ firstNo (fromRange (setup (c .before .before .before .before .before .before .before .before)) (frame (c .before .before .before .before .before .before .before .before)) (room (c .before .before .before .before .before .before .before .before)))
 unfolding frameOf
 asked-range c = payload-right (setup (c .before .before .before .before .before .before .before .before)) (frame (c .before .before .before .before .before .before .before .before)) (room (c .before .before .before .before .before .before .before .before)) (limited (c .before .before .before .before)) (c .if2 .left)
 
-asked-stamp : (c : tie.Else4) → firstNo (writeQuestions (setup (c .before .before .before .before .before .before .before .before .before .before .before)) (frame (c .before .before .before .before .before .before .before .before .before .before .before)) (room (c .before .before .before .before .before .before .before .before .before .before .before))) ≡ firstNo (fromStamp (setup (c .before .before .before .before .before .before .before .before .before .before .before)) (frame (c .before .before .before .before .before .before .before .before .before .before .before)) (room (c .before .before .before .before .before .before .before .before .before .before .before)))
+asked-stamp : (c : tie.Else4) → firstNo (writeFrameQuestions (setup (c .before .before .before .before .before .before .before .before .before .before .before)) (frame (c .before .before .before .before .before .before .before .before .before .before .before)) (room (c .before .before .before .before .before .before .before .before .before .before .before))) ≡ firstNo (fromStamp (setup (c .before .before .before .before .before .before .before .before .before .before .before)) (frame (c .before .before .before .before .before .before .before .before .before .before .before)) (room (c .before .before .before .before .before .before .before .before .before .before .before)))
 unfolding frameOf trimmed
 asked-stamp c = asked-range (c .before .before .before) ∙ in-range (setup (c .before .before .before .before .before .before .before .before .before .before .before)) (frame (c .before .before .before .before .before .before .before .before .before .before .before)) (fromStamp (setup (c .before .before .before .before .before .before .before .before .before .before .before)) (frame (c .before .before .before .before .before .before .before .before .before .before .before)) (room (c .before .before .before .before .before .before .before .before .before .before .before))) (c .before .before .if3 .left) (c .if4 .left)
 
-asked-room : (c : tie.Else5) → firstNo (writeQuestions (setup (c .before .before .before .before .before .before .before .before .before .before .before .before .before)) (frame (c .before .before .before .before .before .before .before .before .before .before .before .before .before)) (room (c .before .before .before .before .before .before .before .before .before .before .before .before .before))) ≡ firstNo (fromRoom (setup (c .before .before .before .before .before .before .before .before .before .before .before .before .before)) (frame (c .before .before .before .before .before .before .before .before .before .before .before .before .before)) (room (c .before .before .before .before .before .before .before .before .before .before .before .before .before)))
+asked-room : (c : tie.Else5) → firstNo (writeFrameQuestions (setup (c .before .before .before .before .before .before .before .before .before .before .before .before .before)) (frame (c .before .before .before .before .before .before .before .before .before .before .before .before .before)) (room (c .before .before .before .before .before .before .before .before .before .before .before .before .before))) ≡ firstNo (fromRoom (setup (c .before .before .before .before .before .before .before .before .before .before .before .before .before)) (frame (c .before .before .before .before .before .before .before .before .before .before .before .before .before)) (room (c .before .before .before .before .before .before .before .before .before .before .before .before .before)))
 unfolding frameOf
 asked-room c = asked-stamp (c .before .before) ∙ stamp-sound (setup (c .before .before .before .before .before .before .before .before .before .before .before .before .before)) (frame (c .before .before .before .before .before .before .before .before .before .before .before .before .before)) (fromRoom (setup (c .before .before .before .before .before .before .before .before .before .before .before .before .before)) (frame (c .before .before .before .before .before .before .before .before .before .before .before .before .before)) (room (c .before .before .before .before .before .before .before .before .before .before .before .before .before))) (sym (c .before .is-sound .ensures) ∙ not-false (c .before .is-sound .result) (c .if5 .left))
 
