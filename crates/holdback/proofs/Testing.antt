@@ -3,7 +3,7 @@
 use Prim.Native.Nat.{ℕ, _+_, _*_, _-_, _≤_, _<_, _^_, Ordering, Ordering·lt, Ordering·eq, Ordering·gt}
 use native.Mathlib.Omega.{arith}
 use mathlib.Core.Path.{_≡_, refl, sym, ap, ap₂, _∙_}
-use mathlib.Core.Bool.{true, false}
+use mathlib.Core.Bool.{Bool, true, false}
 use mathlib.Core.Logic.{_⊎_, inl, inr}
 use mathlib.Core.List.{List}
 use lib.Dec.{leb, eqb}
@@ -153,3 +153,8 @@ pub before-by : (s : Setup) (v : ℕ) (f g : Frame) (rf rg : Rank) (kf kg : List
 unfolding rankBefore before compareFrames
 before-by s v f g rf rg kf kg ef ek eg el =
     ap₂ (λ (k l : List ℕ). isLess (lexCompare k l)) (key-ranked s v f rf kf ef ek) (key-ranked s v g rg kg eg el)
+
+-- the same, of a test of the first
+pub before-rank : (s : Setup) (v : ℕ) (f g : Frame) (rank : Rank) (kn : List ℕ) → rank ≡ rankOf s v g → kn ≡ g .stamp .kn → {t : Bool} → t ≡ rankBefore (s .epsilon) (rankOf s v f) (f .stamp .kn) rank kn
+    → t ≡ before (s .epsilon) (s .modulus) v f g
+before-rank s v f g rank kn er ek e = e ∙ before-by s v f g (rankOf s v f) rank (f .stamp .kn) kn refl refl er ek

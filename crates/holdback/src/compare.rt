@@ -9,7 +9,6 @@ ghost use mathlib.Core.Bool.{true};
 ghost use Prim.Native.Nat.{_<_};
 ghost use Rattle.model.specs.Setup.{inLimits};
 ghost use Rattle.model.specs.Frame.{decode};
-ghost use Rattle.model.specs.Order.{before};
 ghost use Rattle.model.specs.Holdback.{passes};
 ghost use Rattle.timestamp.specs.Views.{setupOf};
 ghost use Rattle.timestamp.specs.Ranks.{Ranked};
@@ -41,15 +40,13 @@ pub fn comes_before(epsilon: usize, f: Rank, kf: &[u8], g: Rank, kg: &[u8]) -> b
     true
 }
 
-// The same, by their bytes.
-pub fn frame_before(s: Setup, v: usize, f: &[u8], g: &[u8]) -> bool
+// The same, of a frame by its bytes and another by its rank and counts.
+pub fn frame_before(s: Setup, v: usize, f: &[u8], g: Rank, kg: &[u8]) -> bool
     requires { ⌜ (inLimits (setupOf s) ≡ true) × (v < s .modulus) ⌝ }
-    requires { ⌜ (passes (setupOf s) (now f) ≡ true) × (passes (setupOf s) (now g) ≡ true) ⌝ }
-    ensures { λ b. ⌜ b ≡ before (s .epsilon) (s .modulus) v (decode (s .epsilon) (now (f .entry))) (decode (s .epsilon) (now (g .entry))) ⌝ }
+    requires { ⌜ (passes (setupOf s) (now f) ≡ true) × Ranked (s .epsilon) g (now kg) ⌝ }
+    ensures { λ b. ⌜ b ≡ rankBefore (s .epsilon) (rankOf (setupOf s) v (decode (s .epsilon) (now (f .entry)))) (decode (s .epsilon) (now (f .entry)) .stamp .kn) g (now (kg .entry)) ⌝ }
 {
     let epsilon = s.epsilon as usize;
-    let end = 6 + 2 * epsilon;
-    let rank_f = rank_of(s, v, f);
-    let rank_g = rank_of(s, v, g);
-    comes_before(epsilon, rank_f, &f[6..end], rank_g, &g[6..end])
+    let rank = rank_of(s, v, f);
+    comes_before(epsilon, rank, &f[6..6 + 2 * epsilon], g, kg)
 }

@@ -1,7 +1,8 @@
 // The place of a frame in a sound queue: from where its sum starts, one by one.
 use crate::change::Place;
 use crate::compare::frame_before;
-use crate::test::sum_place;
+use crate::compare::rank_of;
+use crate::test::rank_place;
 use timestamp::Setup;
 ghost use mathlib.Core.Path.{_≡_};
 ghost use mathlib.Core.Bool.{true};
@@ -32,12 +33,14 @@ pub fn place_for(
     ensures { λ p. ⌜ Stands (s .epsilon) (now (buf .entry)) (placeFor (setupOf s) v (held (s .epsilon) (now (buf .entry))) (decode (s .epsilon) (now (frame .entry)))) (p .index) (p .at) ⌝ }
 {
     let epsilon = s.epsilon as usize;
-    let start = starts[sum_place(s, v, frame)] as usize;
+    let rank = rank_of(s, v, frame);
+    let kn = &frame[6..6 + 2 * epsilon];
+    let start = starts[rank_place(s, rank)] as usize;
     let mut i = start / 131072;
     let mut at = start % 131072;
     while i < count {
         let next = at + frame::frame_end(epsilon, &buf[at..]);
-        if !frame_before(s, v, &buf[at..next], frame) {
+        if !frame_before(s, v, &buf[at..next], rank, kn) {
             return Place { index: i, at };
         }
         at = next;

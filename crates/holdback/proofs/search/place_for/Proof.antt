@@ -8,44 +8,88 @@ use Rattle.model.specs.Judge.{placeFor}
 use Rattle.timestamp.specs.Views.{setupOf}
 use Rattle.lemmas.proofs.Questions.{limits-from}
 use Rattle.holdback.specs.Sound.{Led}
-use Rattle.holdback.specs.Starts.{startPlaces}
-use Rattle.holdback.proofs.Judging.{fitting}
+use Rattle.holdback.specs.Starts.{startPlaces, sumPlace}
+use Rattle.model.specs.Holdback.{passes}
+use mathlib.Core.Path.{_≡_, _∙_}
+use mathlib.Core.Bool.{true}
+use Rattle.lemmas.proofs.Bounds.{Limits}
+use Rattle.frame.proofs.Asking.{counts-part}
+use Rattle.holdback.proofs.RoundTrip.{passing}
+use Rattle.holdback.proofs.Testing.{fits-passes, counts-end, ranked, rank-fits, rank-placed, before-rank}
 use Rattle.holdback.proofs.Started.{place-inside, start-leads}
 use Rattle.holdback.proofs.Walks.{led-inside, led-next, led-passes, led-stops, led-turns, led-ends}
 use Rattle.holdback.proofs.search.place_for.Statement.{statement}
 use Rattle.holdback.proofs.search.place_for.Tie as tie
 
 abbrev Inv-loop : tie.InvT-loop
-Inv-loop s v buf count starts frame epsilon start i₀ at₀ i at = Led (λ g. before (s .epsilon) (s .modulus) v g (decode (s .epsilon) frame)) (setupOf s) v buf count i at
+Inv-loop s v buf count starts frame epsilon rank kn start i₀ at₀ i at = Led (λ g. before (s .epsilon) (s .modulus) v g (decode (s .epsilon) frame)) (setupOf s) v buf count i at
 
 abbrev μ-loop : tie.MeasureT-loop
-μ-loop s v buf count starts frame epsilon start i₀ at₀ i at = count - i
+μ-loop s v buf count starts frame epsilon rank kn start i₀ at₀ i at = count - i
+
+-- the frame passes 10 to 12
+passed : (c : tie.Start Inv-loop μ-loop) → passes (setupOf (c .args .s)) (c .args .frame .now) ≡ true
+passed c = fits-passes (setupOf (c .args .s)) (c .args .v) (c .args .frame .now) (c .pre .1 .1 .1)
+
+limits : (c : tie.Start Inv-loop μ-loop) → Limits (setupOf (c .args .s))
+limits c = limits-from (setupOf (c .args .s)) (c .pre .0 .0)
 
 cast-epsilon : tie.Need-cast-epsilon Inv-loop μ-loop
 cast-epsilon c = search needs
 
-sum-place-requires : tie.Need-sum-place-requires Inv-loop μ-loop
-sum-place-requires c κs = let start = c .before .before .before .before in (start .pre .0, start .pre .1 .1 .1)
+rank-of-requires : tie.Need-rank-of-requires Inv-loop μ-loop
+rank-of-requires c κs =
+    let start = c .before .before .before .before in
+    (start .pre .0, passing (setupOf (start .args .s)) (start .args .frame .now) (passed start) .r-below)
+
+mul-kn : tie.Need-mul-kn Inv-loop μ-loop
+mul-kn c = search needs
+
+add-kn : tie.Need-add-kn Inv-loop μ-loop
+add-kn c = search needs
+
+sub-kn : tie.Need-sub-kn Inv-loop μ-loop
+sub-kn c = search needs
+
+part-kn-start : tie.Need-part-kn-start Inv-loop μ-loop
+part-kn-start c = search needs
+
+part-kn-end : tie.Need-part-kn-end Inv-loop μ-loop
+part-kn-end c =
+    let start = c .before .before .before .before .before in
+    let long = counts-end (setupOf (start .args .s)) (start .args .frame .now) (passed start) in
+    omega arith
+
+rank-place-requires : tie.Need-rank-place-requires Inv-loop μ-loop
+rank-place-requires c κs =
+    let start = c .before .before .before .before .before .before in
+    (start .pre .0 .0, rank-fits (setupOf (start .args .s)) (start .args .v) (start .args .frame .now) (c .before .rank-of .result) (limits start) (start .pre .1 .1 .1) (c .before .rank-of .ensures))
 
 -- the frame's sum has a place
-inside : (c : tie.After-sum-place Inv-loop μ-loop) → c .sum-place .result < startPlaces
+place : (c : tie.After-rank-place Inv-loop μ-loop) → c .rank-place .result ≡ sumPlace (setupOf (c .before .before .before .before .before .before .before .args .s)) (c .before .before .before .before .before .before .before .args .v) (decode (c .before .before .before .before .before .before .before .args .s .epsilon) (c .before .before .before .before .before .before .before .args .frame .now))
+place c =
+    let start = c .before .before .before .before .before .before .before in
+    c .rank-place .ensures
+    ∙ rank-placed (setupOf (start .args .s)) (start .args .v) (decode (start .args .s .epsilon) (start .args .frame .now)) (c .before .before .rank-of .result) (c .before .before .rank-of .ensures)
+
+inside : (c : tie.After-rank-place Inv-loop μ-loop) → c .rank-place .result < startPlaces
 inside c =
-    let start = c .before .before .before .before .before in
-    omega (arith, c .sum-place .ensures, place-inside (setupOf (start .args .s)) (start .args .v) (limits-from (setupOf (start .args .s)) (start .pre .0 .0)) (start .args .frame .now) (start .pre .1 .1 .1))
+    let start = c .before .before .before .before .before .before .before in
+    omega (arith, place c, place-inside (setupOf (start .args .s)) (start .args .v) (limits start) (start .args .frame .now) (start .pre .1 .1 .1))
 
 mul-start : tie.Need-mul-start Inv-loop μ-loop
 mul-start c = omega (arith, inside c)
 
 shared-slice-read-start : tie.Need-shared-slice-read-start Inv-loop μ-loop
-shared-slice-read-start c = omega (arith, inside (c .before), c .before .before .before .before .before .before .pre .1 .1 .0 .long)
+shared-slice-read-start c = omega (arith, inside (c .before), c .before .before .before .before .before .before .before .before .pre .1 .1 .0 .long)
 
 cast-start : tie.Need-cast-start Inv-loop μ-loop
-cast-start c = omega (arith, c .shared-slice-known4 .given (c .before .sum-place .result))
+cast-start c = omega (arith, c .shared-slice-known4 .given (c .before .rank-place .result))
 
 loop-holds : tie.Need-loop-holds Inv-loop μ-loop
 loop-holds c =
-    let start = c .before .before .before .before .before .before in
-    start-leads (decode (start .args .s .epsilon) (start .args .frame .now)) (start .pre .1 .0) (start .pre .1 .1 .0 .each (c .before .sum-place .result) (inside (c .before))) (c .before .sum-place .ensures)
+    let start = c .before .before .before .before .before .before .before .before in
+    start-leads (decode (start .args .s .epsilon) (start .args .frame .now)) (start .pre .1 .0) (start .pre .1 .1 .0 .each (c .before .rank-place .result) (inside (c .before))) (place (c .before))
 
 sub-frame-end : tie.Need-sub-frame-end Inv-loop μ-loop
 sub-frame-end c = led-inside (c .before .loop .inv) (c .loop-test .taken)
@@ -57,7 +101,7 @@ part-frame-end-end : tie.Need-part-frame-end-end Inv-loop μ-loop
 part-frame-end-end c = search needs
 
 frame-end-requires : tie.Need-frame-end-requires Inv-loop μ-loop
-frame-end-requires c κs = limits-from (setupOf (c .before .before .before .before .before .before .before .before .before .args .s)) (c .before .before .before .before .before .before .before .before .before .pre .0 .0) .epsilon-most
+frame-end-requires c κs = limits (c .before .before .before .before .before .before .before .before .before .before .before) .epsilon-most
 
 add-next : tie.Need-add-next Inv-loop μ-loop
 add-next c = omega (arith, led-next (c .before .before .before .loop .inv) (c .before .before .loop-test .taken) (c .frame-end .ensures))
@@ -73,14 +117,18 @@ part-frame-before-end c = omega (arith, led-next (c .before .before .before .loo
 
 frame-before-requires : tie.Need-frame-before-requires Inv-loop μ-loop
 frame-before-requires c κs =
-    let start = c .before .before .before .before .before .before .before .before .before .before .before in
+    let start = c .before .before .before .before .before .before .before .before .before .before .before .before .before in
+    let read = c .before .before .before .before .before .before .before .before .rank-of in
     let ok = led-passes (c .before .before .before .before .loop .inv) (c .before .before .before .loop-test .taken) (c .before .frame-end .ensures) in
-    (start .pre .0, (ok, fitting (setupOf (start .args .s)) (start .args .v) (start .args .frame .now) (start .pre .1 .1 .1) .passed))
+    (start .pre .0, (ok, ranked (setupOf (start .args .s)) (start .args .v) (start .args .frame .now) _ (read .result) (limits start) (passed start) (counts-part (start .args .s .epsilon) (start .args .frame .now)) (read .ensures)))
 
 returns : tie.Need-returns Inv-loop μ-loop
 unfolding placeFor
 returns c =
-    led-stops (c .before .before .before .before .before .before .loop .inv) (c .before .before .before .before .before .loop-test .taken) (c .before .before .before .frame-end .ensures) (c .before .frame-before .ensures) (c .if1 .taken)
+    let start = c .before .before .before .before .before .before .before .before .before .before .before .before .before .before .before in
+    let read = c .before .before .before .before .before .before .before .before .before .before .rank-of in
+    let tested = before-rank (setupOf (start .args .s)) (start .args .v) _ (decode (start .args .s .epsilon) (start .args .frame .now)) (read .result) _ (read .ensures) (counts-part (start .args .s .epsilon) (start .args .frame .now)) (c .before .frame-before .ensures) in
+    led-stops (c .before .before .before .before .before .before .loop .inv) (c .before .before .before .before .before .loop-test .taken) (c .before .before .before .frame-end .ensures) tested (c .if1 .taken)
 
 add-i : tie.Need-add-i Inv-loop μ-loop
 add-i c = omega arith
@@ -90,7 +138,10 @@ loop-less c = omega arith
 
 loop-again : tie.Need-loop-again Inv-loop μ-loop
 loop-again c =
-    led-turns (c .before .before .before .before .before .before .loop .inv) (c .before .before .before .before .before .loop-test .taken) (c .before .before .before .frame-end .ensures) (c .before .frame-before .ensures) (c .if1 .left)
+    let start = c .before .before .before .before .before .before .before .before .before .before .before .before .before .before .before in
+    let read = c .before .before .before .before .before .before .before .before .before .before .rank-of in
+    let tested = before-rank (setupOf (start .args .s)) (start .args .v) _ (decode (start .args .s .epsilon) (start .args .frame .now)) (read .result) _ (read .ensures) (counts-part (start .args .s .epsilon) (start .args .frame .now)) (c .before .frame-before .ensures) in
+    led-turns (c .before .before .before .before .before .before .loop .inv) (c .before .before .before .before .before .loop-test .taken) (c .before .before .before .frame-end .ensures) tested (c .if1 .left)
 
 returns-2 : tie.Need-returns-2 Inv-loop μ-loop
 unfolding placeFor
@@ -103,7 +154,13 @@ place-for-spec =
     Inv-loop
     μ-loop
     cast-epsilon
-    sum-place-requires
+    rank-of-requires
+    mul-kn
+    add-kn
+    sub-kn
+    part-kn-start
+    part-kn-end
+    rank-place-requires
     mul-start
     shared-slice-read-start
     cast-start
