@@ -1,5 +1,5 @@
 // The order of two frames.
-use crate::test::reading_of;
+use crate::timing::reading_of;
 use timestamp::Order;
 use timestamp::Rank;
 use timestamp::Setup;

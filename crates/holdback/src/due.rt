@@ -2,7 +2,7 @@
 use crate::change::Place;
 use crate::change::cut_prefix;
 use crate::change::write_prefix;
-use crate::test::is_due;
+use crate::timing::is_due;
 use timestamp::Setup;
 ghost use mathlib.Core.Path.{_≡_};
 ghost use mathlib.Core.Bool.{true, not};

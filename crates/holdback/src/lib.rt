@@ -7,7 +7,7 @@ mod origins;
 mod search;
 mod soundness;
 mod starts;
-mod test;
+mod timing;
 
 pub use change::Place;
 pub use change::empty;
@@ -19,4 +19,4 @@ pub use search::place_for;
 pub use soundness::Walk;
 pub use soundness::sound;
 pub use starts::shift_starts;
-pub use test::sum_place;
+pub use timing::sum_place;

@@ -2,7 +2,7 @@
 use crate::change::Place;
 use crate::compare::frame_before;
 use crate::compare::rank_of;
-use crate::test::rank_place;
+use crate::timing::rank_place;
 use timestamp::Setup;
 ghost use mathlib.Core.Path.{_≡_};
 ghost use mathlib.Core.Bool.{true};

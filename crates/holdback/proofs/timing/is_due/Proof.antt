@@ -1,10 +1,10 @@
--- `holdback::test::is_due` meets its contract: the due clock reads B. Assumes nothing.
+-- `holdback::timing::is_due` meets its contract: the due clock reads B. Assumes nothing.
 use Rattle.timestamp.specs.Views.{setupOf}
 use Rattle.model.specs.Frame.{decode}
 use Rattle.holdback.proofs.Testing.{due-tested}
 use borrow.Author.Needs.{needs}
-use Rattle.holdback.proofs.test.is_due.Statement.{statement}
-use Rattle.holdback.proofs.test.is_due.Tie as tie
+use Rattle.holdback.proofs.timing.is_due.Statement.{statement}
+use Rattle.holdback.proofs.timing.is_due.Tie as tie
 
 sum-of-requires : tie.Need-sum-of-requires
 sum-of-requires c κs = search needs

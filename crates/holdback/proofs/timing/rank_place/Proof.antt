@@ -1,12 +1,12 @@
--- `holdback::test::rank_place` meets its contract: the due clock is not before v. Assumes nothing.
+-- `holdback::timing::rank_place` meets its contract: the due clock is not before v. Assumes nothing.
 use Rattle.timestamp.specs.Views.{setupOf}
 use Rattle.model.specs.Timestamp.{sum}
 use Rattle.model.specs.Order.{due}
 use Rattle.holdback.specs.Starts.{rankPlace}
 use Rattle.holdback.proofs.Testing.{rank-past}
 use borrow.Author.Needs.{needs}
-use Rattle.holdback.proofs.test.rank_place.Statement.{statement}
-use Rattle.holdback.proofs.test.rank_place.Tie as tie
+use Rattle.holdback.proofs.timing.rank_place.Statement.{statement}
+use Rattle.holdback.proofs.timing.rank_place.Tie as tie
 
 add-result : tie.Need-add-result
 add-result c = search needs

@@ -1,4 +1,4 @@
-// The tests of one frame.
+// The times of one frame: its reading near v, its sum, its due clock, and the place of its sum in a table by sums.
 use crate::compare::rank_of;
 use timestamp::Rank;
 use timestamp::Setup;

@@ -1,12 +1,12 @@
--- `holdback::test::sum_place` meets its contract: the place of its rank. Assumes nothing.
+-- `holdback::timing::sum_place` meets its contract: the place of its rank. Assumes nothing.
 use Rattle.timestamp.specs.Views.{setupOf}
 use Rattle.model.specs.Frame.{decode}
 use mathlib.Core.Path.{_∙_}
 use Rattle.lemmas.proofs.Questions.{limits-from}
 use Rattle.holdback.proofs.RoundTrip.{passing}
 use Rattle.holdback.proofs.Testing.{fits-passes, rank-fits, rank-placed}
-use Rattle.holdback.proofs.test.sum_place.Statement.{statement}
-use Rattle.holdback.proofs.test.sum_place.Tie as tie
+use Rattle.holdback.proofs.timing.sum_place.Statement.{statement}
+use Rattle.holdback.proofs.timing.sum_place.Tie as tie
 
 rank-of-requires : tie.Need-rank-of-requires
 rank-of-requires c κs =

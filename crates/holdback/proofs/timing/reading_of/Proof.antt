@@ -1,4 +1,4 @@
--- `holdback::test::reading_of` meets its contract: a reading is `near` at the r that the frame has. Assumes nothing.
+-- `holdback::timing::reading_of` meets its contract: a reading is `near` at the r that the frame has. Assumes nothing.
 use native.Mathlib.Omega.{arith}
 use mathlib.Core.Path.{_≡_, refl, sym, ap, ap₂, _∙_}
 use Rattle.timestamp.specs.Views.{setupOf}
@@ -6,8 +6,8 @@ use Rattle.lemmas.proofs.Questions.{limits-from}
 use Rattle.model.specs.Timestamp.{near}
 use Rattle.model.specs.Judge.{readingOf}
 use borrow.Author.Needs.{needs}
-use Rattle.holdback.proofs.test.reading_of.Statement.{statement}
-use Rattle.holdback.proofs.test.reading_of.Tie as tie
+use Rattle.holdback.proofs.timing.reading_of.Statement.{statement}
+use Rattle.holdback.proofs.timing.reading_of.Tie as tie
 
 cast-near : tie.Need-cast-near
 cast-near c = search needs

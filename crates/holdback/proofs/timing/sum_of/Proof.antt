@@ -1,12 +1,12 @@
--- `holdback::test::sum_of` meets its contract: a reading and c, both bounded. Assumes nothing.
+-- `holdback::timing::sum_of` meets its contract: a reading and c, both bounded. Assumes nothing.
 use native.Mathlib.Omega.{arith}
 use Rattle.timestamp.specs.Views.{setupOf}
 use Rattle.lemmas.proofs.Questions.{limits-from}
 use Rattle.holdback.proofs.RoundTrip.{passing}
 use Rattle.holdback.proofs.Testing.{summed}
 use borrow.Author.Needs.{needs}
-use Rattle.holdback.proofs.test.sum_of.Statement.{statement}
-use Rattle.holdback.proofs.test.sum_of.Tie as tie
+use Rattle.holdback.proofs.timing.sum_of.Statement.{statement}
+use Rattle.holdback.proofs.timing.sum_of.Tie as tie
 
 reading-of-requires : tie.Need-reading-of-requires
 reading-of-requires c κs = let start = c .before in (start .pre .0, passing (setupOf (start .args .s)) (start .args .frame .now) (start .pre .1) .r-below)

@@ -1,9 +1,9 @@
--- `holdback::test::timely` meets its contract: the two tests one after the other. Assumes nothing.
+-- `holdback::timing::timely` meets its contract: the two tests one after the other. Assumes nothing.
 use Rattle.timestamp.specs.Views.{setupOf}
 use Rattle.holdback.proofs.Testing.{untimely, timely-rest}
 use borrow.Author.Needs.{needs}
-use Rattle.holdback.proofs.test.timely.Statement.{statement}
-use Rattle.holdback.proofs.test.timely.Tie as tie
+use Rattle.holdback.proofs.timing.timely.Statement.{statement}
+use Rattle.holdback.proofs.timing.timely.Tie as tie
 
 add-sum : tie.Need-add-sum
 add-sum c = search needs
