@@ -94,8 +94,9 @@ pub extern "C" fn yarngravel_read(
     }
     let stamp = reading.stamp;
     put_tables(tables, stamp);
-    let at = 7 + 2 * epsilon as usize;
-    pack_reading(reading.station, at, frame.len() - at)
+    let payload = frame::payload_of(setup, frame);
+    let size = payload.len();
+    pack_reading(reading.station, frame.len() - size, size)
 }
 
 // The writer. The number in bits 0 to 7, the frame's length in 8 to 23. A refusal is the number alone, and writes nothing.

@@ -35,36 +35,37 @@ accepted c = sym (numbered (c .before .before)) ∙ c .if1 .left
 good : (c : tie.Else1) → Fair (setup (c .before .before .before .before)) (c .before .before .before .before .args .frame .now)
 good c = fair (setup (c .before .before .before .before)) (c .before .before .before .before .args .frame .now) (accepted c)
 
-size : (c : tie.Else1) → length (c .before .before .before .before .args .frame .now) - (7 + 2 * c .before .before .before .before .args .epsilon) ≡ length (read (setup (c .before .before .before .before)) (c .before .before .before .before .args .frame .now) .payload)
-size c = omega (arith, good c .place)
-
 put-tables-requires : tie.Need-put-tables-requires
 put-tables-requires c κs = (
   search needs,
   (omega (arith, ap (λ (a : ReadAnswer). a .stamp .r) (c .before .before .before .before .read .ensures), good (c .before .before) .r-small), omega (arith, ap (λ (a : ReadAnswer). a .stamp .c) (c .before .before .before .before .read .ensures), good (c .before .before) .c-small)),
 )
 
-mul-at : tie.Need-mul-at
-mul-at c = omega (arith, good (c .before .before .before) .narrow)
+payload-of-requires : tie.Need-payload-of-requires
+payload-of-requires c κs = search needs
 
-add-at : tie.Need-add-at
-add-at c = omega (arith, good (c .before .before .before) .narrow)
+-- the payload is the end of the frame
+size : (c : tie.After-payload-of) → length (c .payload-of .result .now) ≡ length (read (setup (c .before .before .before .before .before .before .before .before)) (c .before .before .before .before .before .before .before .before .args .frame .now) .payload)
+size c = ap length (c .payload-of .ensures)
 
 sub-pack-reading : tie.Need-sub-pack-reading
-sub-pack-reading c = omega (arith, good (c .before .before .before) .place)
+sub-pack-reading c = omega (arith, size c, good (c .before .before .before .before) .place)
 
 pack-reading-requires : tie.Need-pack-reading-requires
 pack-reading-requires c κs = (
-  omega (arith, ap (λ (a : ReadAnswer). a .station) (c .before .before .before .before .before .read .ensures), good (c .before .before .before) .station-small),
-  (omega (arith, good (c .before .before .before) .narrow), omega (arith, good (c .before .before .before) .place, good (c .before .before .before) .payload-short)),
+  omega (arith, ap (λ (a : ReadAnswer). a .station) (c .before .before .before .before .before .before .read .ensures), good (c .before .before .before .before) .station-small),
+  (omega (arith, size c, good (c .before .before .before .before) .place, good (c .before .before .before .before) .narrow), omega (arith, size c, good (c .before .before .before .before) .payload-short)),
 )
 
 returns-2 : tie.Need-returns-2
-returns-2 c = (
-  c .pack-reading .ensures
-      ∙ read-word (setup (c .before .before .before .before .before .before .before .before)) (c .before .before .before .before .before .before .before .before .args .frame .now) (accepted (c .before .before .before .before)) (c .before .before .before .before .before .before .read .result .station) (length (c .before .before .before .before .before .before .before .before .args .frame .now) - (7 + 2 * c .before .before .before .before .before .before .before .before .args .epsilon)) (7 + 2 * c .before .before .before .before .before .before .before .before .args .epsilon) (ap (λ (a : ReadAnswer). a .station) (c .before .before .before .before .before .before .read .ensures)) refl (size (c .before .before .before .before)),
-  read-tables (setup (c .before .before .before .before .before .before .before .before)) (c .before .before .before .before .before .before .before .before .args .frame .now) (c .before .before .before .before .before .before .before .before .args .tables .now) _ (accepted (c .before .before .before .before)) (c .before .put-tables .ensures ∙ ap (λ (a : ReadAnswer). tablesBytes (a .stamp)) (c .before .before .before .before .before .before .read .ensures)),
-)
+returns-2 c =
+    let start = c .before .before .before .before .before .before .before .before .before in
+    let taken = c .before .before .before .before .before in
+    let at : length (start .args .frame .now) - length (c .before .payload-of .result .now) ≡ 7 + 2 * start .args .epsilon = omega (arith, size (c .before), good taken .place) in (
+      c .pack-reading .ensures
+          ∙ read-word (setup start) (start .args .frame .now) (accepted taken) (c .before .before .before .before .before .before .before .read .result .station) (length (c .before .payload-of .result .now)) (length (start .args .frame .now) - length (c .before .payload-of .result .now)) (ap (λ (a : ReadAnswer). a .station) (c .before .before .before .before .before .before .before .read .ensures)) at (size (c .before)),
+      read-tables (setup start) (start .args .frame .now) (start .args .tables .now) _ (accepted taken) (c .before .before .put-tables .ensures ∙ ap (λ (a : ReadAnswer). tablesBytes (a .stamp)) (c .before .before .before .before .before .before .before .read .ensures)),
+    )
 
 pub yarngravel-read-spec : {M : Type 1} → statement M
 yarngravel-read-spec =
@@ -74,8 +75,7 @@ yarngravel-read-spec =
     cast-result
     returns
     put-tables-requires
-    mul-at
-    add-at
+    payload-of-requires
     sub-pack-reading
     pack-reading-requires
     returns-2)
