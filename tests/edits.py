@@ -17,8 +17,9 @@ from concurrent.futures import ThreadPoolExecutor
 from pathlib import Path
 
 ROOT = Path(__file__).resolve().parent.parent
-# errors that say nothing of a fact: about what a proof rests on, and about names and fields that the changed code no longer has
-NO_FACT = ("was not admitted", "that can be named from here", "has no field")
+# errors that say nothing of a fact: about what a proof rests on, about names and fields that the changed code no longer has, and
+# about a loop's variables, which are no longer those of its invariant or measure
+NO_FACT = ("was not admitted", "that can be named from here", "has no field", "error: `Inv-", "error: `μ-")
 
 
 class Edit:
