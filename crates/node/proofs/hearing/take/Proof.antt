@@ -135,6 +135,7 @@ returns c =
           c .absorb .ensures
           ∙ ap₂ (λ (x : ℕ) (t : Timestamp). widened (absorb (start .args .setup .epsilon) (start .args .setup .modulus) (trimmed (start .args .setup .epsilon) (stampOf (start .args .stamp))) x t)) (reads (c .before .before)) (other (c .before));
       queued = more-queued (start .pre .0) placed clean bytes-clean (start .pre .1 .1) (c .before .before .before .before .before .before .mark .ensures) (c .before .before .before .before .before .before .before .before .before .before .before .before .before .sum-place .ensures) (c .before .before .before .before .before .before .before .before .before .before .shift-starts .ensures);
+      buffer-is = placed;
       queue = more-held (start .pre .0) placed;
       ends = more-ends (start .pre .0) placed clean bytes-clean;
     }
