@@ -79,7 +79,7 @@ module _ {A : Type 0} where
   take-insert-high (suc p) (suc i) x [] h = refl
   take-insert-high (suc p) (suc i) x (y ∷ l) h = ap (λ (m : List A). y ∷ m) (take-insert-high p i x l (omega arith))
 
-length-joined-insert : (p : ℕ) (f : Frame) (l : List Frame) → length (joined encode (insertAt p f l)) ≡ length (joined encode l) + length (encode f)
+pub length-joined-insert : (p : ℕ) (f : Frame) (l : List Frame) → length (joined encode (insertAt p f l)) ≡ length (joined encode l) + length (encode f)
 length-joined-insert p f l =
     let x : List ℕ = joined encode (take p l) in
     let y : List ℕ = joined encode (drop p l) in

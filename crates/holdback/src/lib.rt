@@ -19,4 +19,5 @@ pub use search::place_for;
 pub use soundness::Walk;
 pub use soundness::sound;
 pub use starts::shift_starts;
+pub use timing::reading_of;
 pub use timing::sum_place;

@@ -1,7 +1,7 @@
 -- The tick from its parts: what is opened, heard, counted, sent and delivered is the model's tick. Assumes nothing.
 use Prim.Native.Nat.{ℕ, zero, suc, _+_, _≤_}
 use native.Mathlib.Omega.{arith}
-use mathlib.Core.Path.{_≡_, refl, sym, ap, _∙_}
+use mathlib.Core.Path.{_≡_, refl, sym, ap, ap₂, _∙_}
 use mathlib.Core.Bool.{Bool, true, false, not, cond}
 use mathlib.Core.List.{List, []}
 use lib.Dec.{leb, ltb, eqb}
@@ -74,6 +74,7 @@ module _ (s : Setup) (v : ℕ) (t : Timestamp) where
         size = h .queued .size;
         sound = h .queued .sound;
         ends = h .ends;
+        buffer-is = h .buffer-is ∙ ap₂ (λ (x : Heard) (b : List ℕ). overlay (encodeFrames (x .queue)) b) all (q .buffer-is);
         queue = h .queue ∙ ap (λ (x : Heard). x .queue) all;
         numbers = h .numbers ∙ ap (λ (x : Heard). overlay (x .verdicts) verdicts) all;
         counted = h .counted ∙ ap (λ (x : Heard). takenCount (x .verdicts)) all;

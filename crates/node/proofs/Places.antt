@@ -2,11 +2,12 @@
 use Prim.Native.Nat.{ℕ, _+_, _*_, _-_, _≤_, _<_}
 use native.Mathlib.Nat.{mul-le-mul-right, mul-comm, add-mul, one-mul}
 use native.Mathlib.Omega.{arith}
-use mathlib.Core.Path.{_≡_, refl, sym, ap, _∙_}
+use mathlib.Core.Path.{_≡_, refl, sym, ap, ap₂, _∙_}
 use mathlib.Core.Bool.{true, false, cond}
-use mathlib.Core.List.{List, [], List·Memᴰ}
+use mathlib.Core.List.{List, [], _++_, List·Memᴰ}
 use lib.Dec.{leb}
-use lib.ListN.{length, drop}
+use lib.ListN.{length, take, drop, take-append-drop}
+use lib.Seq.{length-take-le, drop-append-add, drop-drop}
 use Rattle.laws.proofs.Numbers.{and-left, and-right}
 use Rattle.laws.specs.Lists.{every, joined, overlay, insertAt}
 use Rattle.laws.proofs.Lists.{every-mem, every-of-mem, leading-le, length-overlay, length-joined-le}
@@ -27,12 +28,12 @@ use Rattle.holdback.specs.Sound.{openedQueue}
 use Rattle.holdback.specs.Sound as sounds
 use Rattle.holdback.specs.Starts.{startUnit, sumPlace, StartTable, Moving, movedStarts}
 use Rattle.holdback.proofs.RoundTrip.{Bytes}
-use Rattle.holdback.proofs.Frames.{start-zero, start-within, start-most}
+use Rattle.holdback.proofs.Frames.{held-tab, take-start, start-zero, start-within, start-most}
 use Rattle.holdback.proofs.Changes.{formed-frames, length-held}
-use Rattle.holdback.proofs.Placed.{Wide, start-before, start-behind, count-behind, end-behind}
+use Rattle.holdback.proofs.Placed.{Wide, length-joined-insert, start-before, start-behind, count-behind, end-behind}
 use Rattle.holdback.proofs.Started.{moving, moved-table, no-frames}
 use Rattle.holdback.proofs.Seen.{seen-insert}
-use Rattle.node.specs.States.{Timed, Queued, Taking, Placing, QueueOpened}
+use Rattle.node.specs.States.{Timed, Queued, Taking, Placing, QueueOpened, openedBuffer}
 use Rattle.node.proofs.Verdicts.{taken-passed, judged-form, fits-when, late-window}
 
 -- ---- a sound queue
@@ -61,6 +62,37 @@ frames-long s queue limits ok few =
     let all : length (joined encode queue) ≤ length queue * longestFrame (s .epsilon) = length-joined-le encode queue (longestFrame (s .epsilon)) one in
     let d = depth (s .n) (s .epsilon) (s .delta) in
     omega (arith, mul-le-mul-right (longestFrame (s .epsilon)) few, mul-comm d (longestFrame (s .epsilon)))
+
+-- ---- the bytes of a queue are its frames, and what stands behind them
+
+module _ {A : Type 0} where
+  overlay-own : (n : ℕ) (l : List A) → n ≤ length l → overlay (take n l) l ≡ l
+  unfolding overlay
+  overlay-own n l h = ap (λ (k : ℕ). take n l ++ drop k l) (length-take-le n l h) ∙ take-append-drop n l
+
+  -- what is laid over a shorter one hides it
+  pub overlay-hides : (a b l : List A) → length b ≤ length a → overlay a (overlay b l) ≡ overlay a l
+  unfolding overlay
+  overlay-hides a b l h =
+      let n : ℕ = length a - length b in
+      let e : length a ≡ length b + n = omega arith in
+      ap (λ (r : List A). a ++ r)
+      (ap (λ (k : ℕ). drop k (b ++ drop (length b) l)) e ∙ drop-append-add b (drop (length b) l) n ∙ drop-drop n (length b) l ∙ ap (λ (k : ℕ). drop k l) (sym e))
+
+pub queue-own : (s : Setup) (v : ℕ) (buffer : List ℕ) → Bytes buffer → 2 ≤ length buffer → soundHoldback s v buffer ≡ true
+    → buffer ≡ overlay (encodeFrames (held (s .epsilon) buffer)) buffer
+unfolding encodeFrames
+queue-own s v buffer clean two h =
+    let epsilon : ℕ = s .epsilon in
+    let n : ℕ = twoAt buffer 0 in
+    let ok = formed-frames epsilon buffer (sound-formed s v buffer h) in
+    let front : take (endOf epsilon buffer) buffer ≡ encodeFrames (held epsilon buffer) =
+    take-start epsilon buffer clean n two ok ∙ sym (ap₂ (λ (k : ℕ) (q : List Frame). twoBytes k ++ joined encode q) (length-held epsilon buffer) (held-tab epsilon buffer)) in
+    sym (overlay-own (endOf epsilon buffer) buffer (start-within epsilon buffer n two ok)) ∙ ap (λ (l : List ℕ). overlay l buffer) front
+
+pub frames-longer : (place : ℕ) (f : Frame) (queue : List Frame) → length (encodeFrames queue) ≤ length (encodeFrames (insertAt place f queue))
+unfolding encodeFrames twoBytes
+frames-longer place f queue = omega (arith, length-joined-insert place f queue)
 
 -- ---- a frame that is to be taken
 
@@ -199,18 +231,19 @@ module _ {s : Setup} {v : ℕ} {buffer : List ℕ} {place : ℕ} {bytes : List �
 module _ (s : Setup) (v : ℕ) (buffer : List ℕ) (t : Timed s v) (size : length buffer ≡ holdbackSize s) where
   pub opened-sound : {stop : ℕ} {table starts : List ℕ} → soundHoldback s v buffer ≡ true → stop ≡ cond (soundHoldback s v buffer) (endOf (s .epsilon) buffer) 2 → table ≡ seenTable s v (openedQueue s v buffer)
       → {count : ℕ} → count ≡ cond (soundHoldback s v buffer) (twoAt buffer 0) 0 → StartTable s v buffer count starts → QueueOpened s v buffer 0 stop buffer table starts
-  unfolding openedQueue
+  unfolding openedQueue openedBuffer
   opened-sound h ends e counted m =
       record {
         repaired = rw h;
         queued = record { size = size; sound = h; table-is = rw h at e; started = rw (counted, h) at m };
         ends = rw h at ends;
+        buffer-is = rw h;
         queue = rw h;
       }
 
   pub opened-empty : {buffer′ table starts : List ℕ} → soundHoldback s v buffer ≡ false → table ≡ seenTable s v (openedQueue s v buffer)
       → {count : ℕ} → count ≡ cond (soundHoldback s v buffer) (twoAt buffer 0) 0 → StartTable s v buffer count starts → buffer′ ≡ encodeHoldback (length buffer) [] → QueueOpened s v buffer 2 2 buffer′ table starts
-  unfolding openedQueue
+  unfolding openedQueue openedBuffer
   opened-empty {buffer′} h e counted m b =
       let lim : Limits s = limits-from s (t .limits) in
       let none : (f : Frame) → List·Memᴰ f [] → length (f .stamp .kn) ≡ width (s .epsilon) = λ f m. queue-none s v .frames f m .sound .wide in
@@ -227,5 +260,6 @@ module _ (s : Setup) (v : ℕ) (buffer : List ℕ) (t : Timed s v) (size : lengt
               started = rw none-held (no-frames (rw (counted, h) at m));
             };
         ends = sym (ap (frameStart (s .epsilon) buffer′) none-held ∙ start-zero (s .epsilon) buffer′);
+        buffer-is = rw h b;
         queue = rw h empty;
       }

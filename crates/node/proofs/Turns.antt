@@ -9,20 +9,22 @@ use lib.Dec.{eqb}
 use lib.ListN.{length, take, drop, set, length-set, length-append, take-append-drop}
 use lib.Seq.{take-suc-set, drop-set-lt, length-take-le, drop-drop}
 use borrow.Author.Tests.{ne-eqb}
-use Rattle.laws.specs.Lists.{select, overlay}
+use Rattle.laws.specs.Lists.{select, overlay, insertAt}
 use Rattle.laws.proofs.Lists.{select-append, select-no}
 use Rattle.model.specs.Setup.{Setup}
 use Rattle.model.specs.Timestamp.{Timestamp, trimmed, widened, absorb}
 use Rattle.model.specs.Frame.{Frame, decode}
-use Rattle.model.specs.Holdback.{held}
+use Rattle.model.specs.Holdback.{held, encodeFrames}
 use Rattle.model.specs.Judge.{Heard, Verdict, taken, refused, judge, hearBy, hearOne, hear, readingOf}
 use Rattle.model.specs.Tick.{takenCount}
 use Rattle.lemmas.proofs.Counts.{trimmed-widened, absorb-wide}
 use Rattle.holdback.specs.Queue.{endOf}
+use Rattle.holdback.proofs.RoundTrip.{Bytes}
 use Rattle.batch.specs.Walk.{countOf, entryAt, nextAt, walked}
 use Rattle.batch.proofs.Walk.{batch-walked}
 use Rattle.node.specs.States.{Queued, Took, Listening, heardAll, HeardAll}
 use Rattle.node.proofs.Verdicts.{refused-number}
+use Rattle.node.proofs.Places.{size-two, queue-own, overlay-hides, frames-longer}
 
 -- what is heard so far, as the buffers and the stamp have it
 abbrev pub sofar : ℕ → Timestamp → List ℕ → List ℕ → Heard
@@ -34,21 +36,23 @@ pub record Turning (s : Setup) (v : ℕ) (t₀ : Timestamp) (batch buffer₀ ver
   pub narrow : t ≡ widened (trimmed (s .epsilon) t)
   pub queued : Queued s v buffer table starts
   pub ends : stop ≡ endOf (s .epsilon) buffer
+  pub laid : buffer ≡ overlay (encodeFrames (held (s .epsilon) buffer)) buffer₀
   pub whole : heardAll s v t₀ batch buffer₀ ≡ hear s v (sofar (s .epsilon) t buffer (take i verdicts)) (walked (countOf batch - i) batch at)
   pub counted : count ≡ takenCount (take i verdicts)
   pub few : count ≤ i
   pub long : length verdicts ≡ length verdicts₀
   pub after : drop i verdicts ≡ drop i verdicts₀
 
-pub turning-start : {s : Setup} {v : ℕ} {t : Timestamp} {stop : ℕ} {batch buffer table starts verdicts : List ℕ} → Listening (s .epsilon) t batch verdicts → Queued s v buffer table starts → stop ≡ endOf (s .epsilon) buffer
+pub turning-start : {s : Setup} {v : ℕ} {t : Timestamp} {stop : ℕ} {batch buffer table starts verdicts : List ℕ} → Bytes buffer → Listening (s .epsilon) t batch verdicts → Queued s v buffer table starts → stop ≡ endOf (s .epsilon) buffer
     → Turning s v t batch buffer verdicts t 0 stop 1 0 buffer table starts verdicts
 unfolding takenCount select
-turning-start {batch} l q ends =
+turning-start {s} {v} {batch} {buffer} clean l q ends =
     record {
       within = omega arith;
       narrow = l .narrow;
       queued = q;
       ends = ends;
+      laid = queue-own s v buffer clean (size-two s (length buffer) (q .size)) (q .sound);
       whole = rw (sub-zero (countOf batch), batch-walked batch (l .exact));
       counted = refl;
       few = omega arith;
@@ -109,6 +113,7 @@ module _ {s : Setup} {v : ℕ} {t₀ : Timestamp} {batch buffer₀ verdicts₀ :
         narrow = u .narrow;
         queued = u .queued;
         ends = u .ends;
+        laid = u .laid;
         whole =
             heard-one (refused number) e
             ∙ ap (λ (done : List ℕ). hear s v (sofar (s .epsilon) t buffer done) others) (ap (λ (k : ℕ). take i verdicts ++ (k ∷ [])) (sym same) ∙ sym next);
@@ -128,12 +133,17 @@ module _ {s : Setup} {v : ℕ} {t₀ : Timestamp} {batch buffer₀ verdicts₀ :
       let next : take (i + 1) (set verdicts i 0) ≡ take i verdicts ++ (0 ∷ []) = done-more verdicts i 0 inside in
       let kept : trimmed (s .epsilon) t′ ≡ a =
       ap (trimmed (s .epsilon)) (k .stamp) ∙ trimmed-widened (s .epsilon) a small (absorb-wide (s .epsilon) (s .modulus) (readingOf s v f) (trimmed (s .epsilon) t) (f .stamp)) in
+      let queue : List Frame = held (s .epsilon) buffer in
+      let longer : List ℕ = encodeFrames (insertAt place f queue) in
+      let hidden : overlay longer buffer ≡ overlay longer buffer₀ =
+      ap (overlay longer) (u .laid) ∙ overlay-hides longer (encodeFrames queue) buffer₀ (frames-longer place f queue) in
       let same : hearBy s v (taken place) f now ≡ sofar (s .epsilon) t′ buffer′ (take (i + 1) (set verdicts i 0)) = rw (kept, k .queue, next) in
       record {
         within = omega arith;
         narrow = k .stamp ∙ ap widened (sym kept);
         queued = k .queued;
         ends = ap (λ (n : ℕ). n + length bytes) (u .ends) ∙ sym (k .ends);
+        laid = k .buffer-is ∙ hidden ∙ ap (λ (q : List Frame). overlay (encodeFrames q) buffer₀) (sym (k .queue));
         whole = heard-one (taken place) e ∙ ap (λ (h : Heard). hear s v h others) same;
         counted = ap (λ (n : ℕ). n + 1) (u .counted) ∙ sym (ap takenCount next ∙ taken-more (take i verdicts));
         few = omega (arith, u .few);
@@ -157,6 +167,7 @@ turning-end {s} {v} {t₀} {batch} {buffer₀} {verdicts₀} {t} {count} {stop} 
       stamp = u .narrow ∙ ap (λ (x : Heard). widened (x .stamp)) (sym all);
       queued = u .queued;
       ends = u .ends;
+      buffer-is = u .laid ∙ ap (λ (x : Heard). overlay (encodeFrames (x .queue)) buffer₀) (sym all);
       queue = ap (λ (x : Heard). x .queue) (sym all);
       numbers =
           sym (take-append-drop i verdicts)

@@ -58,6 +58,7 @@ pub record Placing (epsilon : ℕ) (buffer : List ℕ) (place at stop : ℕ) : T
 pub record Took (s : Setup) (v : ℕ) (t : Timestamp) (place : ℕ) (bytes buffer : List ℕ) (t′ : Timestamp) (buffer′ table′ starts′ : List ℕ) : Type 0 where
   pub stamp : t′ ≡ widened (absorb (s .epsilon) (s .modulus) (trimmed (s .epsilon) t) (readingOf s v (decode (s .epsilon) bytes)) (decode (s .epsilon) bytes .stamp))
   pub queued : Queued s v buffer′ table′ starts′
+  pub buffer-is : buffer′ ≡ overlay (encodeFrames (insertAt place (decode (s .epsilon) bytes) (held (s .epsilon) buffer))) buffer
   pub queue : held (s .epsilon) buffer′ ≡ insertAt place (decode (s .epsilon) bytes) (held (s .epsilon) buffer)
   pub ends : endOf (s .epsilon) buffer′ ≡ endOf (s .epsilon) buffer + length bytes
 
@@ -79,6 +80,7 @@ pub record HeardAll (s : Setup) (v : ℕ) (t : Timestamp) (batch buffer verdicts
   pub stamp : t′ ≡ widened (heardAll s v t batch buffer .stamp)
   pub queued : Queued s v buffer′ table′ starts′
   pub ends : stop ≡ endOf (s .epsilon) buffer′
+  pub buffer-is : buffer′ ≡ overlay (encodeFrames (heardAll s v t batch buffer .queue)) buffer
   pub queue : held (s .epsilon) buffer′ ≡ heardAll s v t batch buffer .queue
   pub numbers : verdicts′ ≡ overlay (heardAll s v t batch buffer .verdicts) verdicts
   pub counted : count ≡ takenCount (heardAll s v t batch buffer .verdicts)
@@ -95,10 +97,14 @@ pub record StampOpened (s : Setup) (v : ℕ) (t t′ : Timestamp) (repair : ℕ)
   pub repaired : repair ≡ cond (stampSound s v t) 0 1
 
 -- 01, tick 1: the queue judged, and emptied if it is unsound
+unfoldable pub openedBuffer : Setup → ℕ → List ℕ → List ℕ
+openedBuffer s v buffer = cond (soundHoldback s v buffer) buffer (encodeHoldback (length buffer) [])
+
 pub record QueueOpened (s : Setup) (v : ℕ) (buffer : List ℕ) (repair stop : ℕ) (buffer′ table′ starts′ : List ℕ) : Type 0 where
   pub repaired : repair ≡ cond (soundHoldback s v buffer) 0 2
   pub queued : Queued s v buffer′ table′ starts′
   pub ends : stop ≡ endOf (s .epsilon) buffer′
+  pub buffer-is : buffer′ ≡ openedBuffer s v buffer
   pub queue : held (s .epsilon) buffer′ ≡ openedQueue s v buffer
 
 -- what the first three steps ask, of a call that has passed 1 and 2
@@ -120,6 +126,7 @@ pub record ListenedAll (s : Setup) (v : ℕ) (t : Timestamp) (batch buffer verdi
   pub size : length buffer′ ≡ holdbackSize s
   pub sound : soundHoldback s v buffer′ ≡ true
   pub ends : stop ≡ endOf (s .epsilon) buffer′
+  pub buffer-is : buffer′ ≡ overlay (encodeFrames (listenedAll s v t batch buffer .queue)) (openedBuffer s v buffer)
   pub queue : held (s .epsilon) buffer′ ≡ listenedAll s v t batch buffer .queue
   pub numbers : verdicts′ ≡ overlay (listenedAll s v t batch buffer .verdicts) verdicts
   pub counted : count ≡ takenCount (listenedAll s v t batch buffer .verdicts)

@@ -5,15 +5,14 @@ use crate::verdict::Verdict;
 use crate::verdict::number_of;
 use batch::count_of;
 use batch::walker::walk_step;
-use frame::r_of;
 use frame::stamp_of;
 use holdback::Place;
 use holdback::mark;
+use holdback::reading_of;
 use holdback::shift_starts;
 use holdback::sum_place;
 use timestamp::Setup;
 use timestamp::Timestamp;
-use timestamp::near;
 ghost use mathlib.Core.Path.{_≡_};
 ghost use Rattle.timestamp.specs.Views.{setupOf, stampOf};
 ghost use Rattle.holdback.specs.Queue.{endOf};
@@ -45,7 +44,7 @@ fn take(
     let floor = (place.index * 131072) as u32;
     shift_starts(starts, k + 1, floor, (131072 + s.len()) as u32);
     mark(setup, clock, s, seen);
-    let reading = near(epsilon, modulus, clock, r_of(s));
+    let reading = reading_of(setup, clock, s);
     let other = stamp_of(epsilon, s);
     stamp.absorb(epsilon, modulus, reading, other)
 }

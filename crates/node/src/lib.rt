@@ -13,4 +13,3 @@ pub use ticking::Answer;
 pub use ticking::tick;
 pub use verdict::Verdict;
 pub use verdict::number_of;
-pub use verdict::place_of;

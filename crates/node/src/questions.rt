@@ -2,14 +2,13 @@
 use crate::verdict::Verdict;
 use frame::c_of;
 use frame::check;
-use frame::r_of;
 use holdback::place_for;
+use holdback::reading_of;
 use holdback::repeats;
 use splice::two_at;
 use timestamp::Setup;
 use timestamp::counts_at_most;
 use timestamp::depth;
-use timestamp::near;
 ghost use mathlib.Core.Path.{_≡_};
 ghost use Rattle.model.specs.Frame.{decode};
 ghost use Rattle.model.specs.Question.{firstNo};
@@ -26,7 +25,7 @@ pub fn check_time(setup: Setup, clock: usize, s: &[u8]) -> u8
 {
     let epsilon = setup.epsilon as usize;
     let modulus = setup.modulus as usize;
-    let reading = near(epsilon, modulus, clock, r_of(s));
+    let reading = reading_of(setup, clock, s);
     if reading + (setup.delta as usize + epsilon) < modulus {
         return 13;
     }

@@ -1,7 +1,7 @@
 // 01: "A verdict is either taken, with its place on the shelf, or refused, with the number".
 use holdback::Place;
 ghost use mathlib.Core.Path.{_≡_};
-ghost use Rattle.model.specs.Judge.{verdictNumber, verdictPlace};
+ghost use Rattle.model.specs.Judge.{verdictNumber};
 ghost use Rattle.node.specs.Views.{verdictOf};
 
 pub enum Verdict {
@@ -18,15 +18,5 @@ pub fn number_of(verdict: Verdict) -> u8
     match verdict {
         Verdict::Taken(_) => 0,
         Verdict::Refused(number) => number,
-    }
-}
-
-// 01: "its place on the shelf"; 0 of a refused frame.
-pub fn place_of(verdict: Verdict) -> usize
-    ensures { λ r. ⌜ r ≡ verdictPlace (verdictOf verdict) ⌝ }
-{
-    match verdict {
-        Verdict::Taken(place) => place.index,
-        Verdict::Refused(_) => 0,
     }
 }

@@ -38,7 +38,7 @@ count-of-requires : tie.Need-count-of-requires Inv-loop μ-loop
 count-of-requires c κs = search needs
 
 loop-holds : tie.Need-loop-holds Inv-loop μ-loop
-loop-holds c = let start = c .before .before .before .before .before .before in turning-start (start .pre .1 .1 .1) (start .pre .1 .0) (start .pre .1 .1 .0)
+loop-holds c = let start = c .before .before .before .before .before .before in turning-start (λ i. omega (arith, c .before .before .before .before .slice-known .given i)) (start .pre .1 .1 .1) (start .pre .1 .0) (start .pre .1 .1 .0)
 
 -- so many entries have a place for their verdict
 few : (c : tie.After-count-of Inv-loop μ-loop) → (countOf (c .before .before .before .before .before .before .args .batch .now) ≤ 255) × (countOf (c .before .before .before .before .before .before .args .batch .now) ≤ length (c .before .before .before .before .before .before .args .verdicts .now))

@@ -4,7 +4,7 @@ use native.Mathlib.Omega.{arith}
 use mathlib.Core.Path.{_≡_, _∙_, ap, ap₂}
 use lib.ListN.{length}
 use borrow.Author.Needs.{needs}
-use Rattle.model.specs.Timestamp.{Timestamp, trimmed, widened, absorb, near}
+use Rattle.model.specs.Timestamp.{Timestamp, trimmed, widened, absorb}
 use Rattle.model.specs.Frame.{Frame, decode}
 use Rattle.model.specs.Holdback.{held}
 use Rattle.model.specs.Judge.{readingOf}
@@ -73,42 +73,33 @@ mark-requires c κs =
       (here start .window, ap length (start .pre .1 .1 .table-is) ∙ table-long (setupOf (start .args .setup)) (start .args .clock) (held (start .args .setup .epsilon) (start .args .holdback .now))),
     )
 
-r-of-requires : tie.Need-r-of-requires
-r-of-requires c κs = search needs
-
-r-below : (c : tie.After-r-of) → c .r-of .result < c .before .before .before .before .before .before .before .before .before .before .before .before .before .before .before .before .before .before .before .before .before .args .setup .modulus
-r-below c = omega (arith, c .r-of .ensures (c .before .before .before .before .before .before .before .before .before .before .before .before .before .before .before .before .before .before .before .before .before .args .setup .epsilon), here (c .before .before .before .before .before .before .before .before .before .before .before .before .before .before .before .before .before .before .before .before .before) .window .r-below)
-
-near-requires : tie.Need-near-requires
-near-requires c κs =
-    let known = here (c .before .before .before .before .before .before .before .before .before .before .before .before .before .before .before .before .before .before .before .before .before) in
-    (known .limits .epsilon-pos, (known .limits .modulus-most, (known .below, r-below c)))
+reading-of-requires : tie.Need-reading-of-requires
+reading-of-requires c κs =
+    let start = c .before .before .before .before .before .before .before .before .before .before .before .before .before .before .before .before .before .before .before .before in
+    ((start .pre .0 .timed .limits, start .pre .0 .timed .below), here start .window .r-below)
 
 stamp-of-requires : tie.Need-stamp-of-requires
-stamp-of-requires c κs = (here (c .before .before .before .before .before .before .before .before .before .before .before .before .before .before .before .before .before .before .before .before .before .before) .limits .epsilon-most, here (c .before .before .before .before .before .before .before .before .before .before .before .before .before .before .before .before .before .before .before .before .before .before) .form)
+stamp-of-requires c κs = (here (c .before .before .before .before .before .before .before .before .before .before .before .before .before .before .before .before .before .before .before .before .before) .limits .epsilon-most, here (c .before .before .before .before .before .before .before .before .before .before .before .before .before .before .before .before .before .before .before .before .before) .form)
 
-reads : (c : tie.After-near) → c .near .result ≡ readingOf (setupOf (c .before .before .before .before .before .before .before .before .before .before .before .before .before .before .before .before .before .before .before .before .before .before .args .setup)) (c .before .before .before .before .before .before .before .before .before .before .before .before .before .before .before .before .before .before .before .before .before .before .args .clock) (frame (c .before .before .before .before .before .before .before .before .before .before .before .before .before .before .before .before .before .before .before .before .before .before))
-unfolding readingOf
-reads c =
-    let start = c .before .before .before .before .before .before .before .before .before .before .before .before .before .before .before .before .before .before .before .before .before .before in
-    c .near .ensures ∙ ap (near (start .args .setup .epsilon) (start .args .setup .modulus) (start .args .clock)) (c .before .r-of .ensures (start .args .setup .epsilon))
+reads : (c : tie.After-reading-of) → c .reading-of .result ≡ readingOf (setupOf (c .before .before .before .before .before .before .before .before .before .before .before .before .before .before .before .before .before .before .before .before .before .args .setup)) (c .before .before .before .before .before .before .before .before .before .before .before .before .before .before .before .before .before .before .before .before .before .args .clock) (frame (c .before .before .before .before .before .before .before .before .before .before .before .before .before .before .before .before .before .before .before .before .before))
+reads c = c .reading-of .ensures
 
-high : (c : tie.After-near) → c .near .result ≤ 2 ^ 17
+high : (c : tie.After-reading-of) → c .reading-of .result ≤ 2 ^ 17
 unfolding readingOf
 high c =
-    let start = c .before .before .before .before .before .before .before .before .before .before .before .before .before .before .before .before .before .before .before .before .before .before in
+    let start = c .before .before .before .before .before .before .before .before .before .before .before .before .before .before .before .before .before .before .before .before .before in
     let lim = here start .limits in
     omega (arith, reads c, near-high (start .args .setup .epsilon) (start .args .setup .modulus) (start .args .clock) (frame start .stamp .r) (lim .epsilon-pos) (omega (arith, lim .modulus-least, lim .epsilon-pos)), lim .modulus-most, lim .epsilon-most)
 
 lead : (c : tie.After-stamp-of) → c .stamp-of .result .c ≤ 2 ^ 16
 unfolding widened
 lead c =
-    let known = here (c .before .before .before .before .before .before .before .before .before .before .before .before .before .before .before .before .before .before .before .before .before .before .before) in
-    let same : c .stamp-of .result .c ≡ frame (c .before .before .before .before .before .before .before .before .before .before .before .before .before .before .before .before .before .before .before .before .before .before .before) .stamp .c = ap (λ (t : Timestamp). t .c) (c .stamp-of .ensures) in
+    let known = here (c .before .before .before .before .before .before .before .before .before .before .before .before .before .before .before .before .before .before .before .before .before .before) in
+    let same : c .stamp-of .result .c ≡ frame (c .before .before .before .before .before .before .before .before .before .before .before .before .before .before .before .before .before .before .before .before .before .before) .stamp .c = ap (λ (t : Timestamp). t .c) (c .stamp-of .ensures) in
     omega (arith, known .passed .frame .sound .close, known .limits .epsilon-most)
 
 absorb-requires : tie.Need-absorb-requires
-absorb-requires c κs = (here (c .before .before .before .before .before .before .before .before .before .before .before .before .before .before .before .before .before .before .before .before .before .before .before) .limits .epsilon-most, (here (c .before .before .before .before .before .before .before .before .before .before .before .before .before .before .before .before .before .before .before .before .before .before .before) .limits .modulus-most, (high (c .before), lead c)))
+absorb-requires c κs = (here (c .before .before .before .before .before .before .before .before .before .before .before .before .before .before .before .before .before .before .before .before .before .before) .limits .epsilon-most, (here (c .before .before .before .before .before .before .before .before .before .before .before .before .before .before .before .before .before .before .before .before .before .before) .limits .modulus-most, (high (c .before), lead c)))
 
 same-length : tie.Need-same-length
 same-length c = search needs
@@ -119,22 +110,23 @@ same-length-2 c = search needs
 same-length-3 : tie.Need-same-length-3
 same-length-3 c = search needs
 
-other : (c : tie.After-stamp-of) → trimmed (c .before .before .before .before .before .before .before .before .before .before .before .before .before .before .before .before .before .before .before .before .before .before .before .args .setup .epsilon) (stampOf (c .stamp-of .result)) ≡ frame (c .before .before .before .before .before .before .before .before .before .before .before .before .before .before .before .before .before .before .before .before .before .before .before) .stamp
+other : (c : tie.After-stamp-of) → trimmed (c .before .before .before .before .before .before .before .before .before .before .before .before .before .before .before .before .before .before .before .before .before .before .args .setup .epsilon) (stampOf (c .stamp-of .result)) ≡ frame (c .before .before .before .before .before .before .before .before .before .before .before .before .before .before .before .before .before .before .before .before .before .before) .stamp
 other c =
-    let start = c .before .before .before .before .before .before .before .before .before .before .before .before .before .before .before .before .before .before .before .before .before .before .before in
+    let start = c .before .before .before .before .before .before .before .before .before .before .before .before .before .before .before .before .before .before .before .before .before .before in
     ap (trimmed (start .args .setup .epsilon)) (c .stamp-of .ensures) ∙ stamp-kept (start .args .setup .epsilon) (start .args .s .now) (here start .limits .epsilon-most) (here start .form)
 
 returns : tie.Need-returns
 returns c =
-    let start = c .before .before .before .before .before .before .before .before .before .before .before .before .before .before .before .before .before .before .before .before .before .before .before .before in
-    let placed = c .before .before .before .before .before .before .before .before .before .before .before .before .before .before .before .before .place-frame .ensures in
-    let clean : Bytes (start .args .holdback .now) = λ i. omega (arith, c .before .before .before .before .before .before .before .before .before .before .before .before .before .before .before .before .before .before .before .before .before .before .slice-known .given i) in
-    let bytes-clean : Bytes (start .args .s .now) = λ i. omega (arith, c .before .before .before .before .before .before .before .before .before .before .before .before .before .before .before .before .before .before .before .before .before .before .before .shared-slice-known .given i) in
+    let start = c .before .before .before .before .before .before .before .before .before .before .before .before .before .before .before .before .before .before .before .before .before .before .before in
+    let placed = c .before .before .before .before .before .before .before .before .before .before .before .before .before .before .before .place-frame .ensures in
+    let clean : Bytes (start .args .holdback .now) = λ i. omega (arith, c .before .before .before .before .before .before .before .before .before .before .before .before .before .before .before .before .before .before .before .before .before .slice-known .given i) in
+    let bytes-clean : Bytes (start .args .s .now) = λ i. omega (arith, c .before .before .before .before .before .before .before .before .before .before .before .before .before .before .before .before .before .before .before .before .before .before .shared-slice-known .given i) in
     record {
       stamp =
           c .absorb .ensures
           ∙ ap₂ (λ (x : ℕ) (t : Timestamp). widened (absorb (start .args .setup .epsilon) (start .args .setup .modulus) (trimmed (start .args .setup .epsilon) (stampOf (start .args .stamp))) x t)) (reads (c .before .before)) (other (c .before));
-      queued = more-queued (start .pre .0) placed clean bytes-clean (start .pre .1 .1) (c .before .before .before .before .before .before .mark .ensures) (c .before .before .before .before .before .before .before .before .before .before .before .before .before .sum-place .ensures) (c .before .before .before .before .before .before .before .before .before .before .shift-starts .ensures);
+      queued = more-queued (start .pre .0) placed clean bytes-clean (start .pre .1 .1) (c .before .before .before .before .before .mark .ensures) (c .before .before .before .before .before .before .before .before .before .before .before .before .sum-place .ensures) (c .before .before .before .before .before .before .before .before .before .shift-starts .ensures);
+      buffer-is = placed;
       queue = more-held (start .pre .0) placed;
       ends = more-ends (start .pre .0) placed clean bytes-clean;
     }
@@ -154,8 +146,7 @@ take-spec =
     cast-shift-starts
     shift-starts-requires
     mark-requires
-    r-of-requires
-    near-requires
+    reading-of-requires
     stamp-of-requires
     absorb-requires
     same-length

@@ -7,6 +7,7 @@ use borrow.Author.Tests.{not-true, not-false}
 use borrow.Author.Needs.{needs}
 use Rattle.model.specs.Timestamp.{near, atMost}
 use Rattle.model.specs.Frame.{Frame, decode}
+use Rattle.model.specs.Judge.{readingOf}
 use Rattle.timestamp.specs.Views.{setupOf}
 use Rattle.node.proofs.Times.{Given, given, late-no, early-no, counts-no, times-right, counts-there}
 use Rattle.node.proofs.questions.check_time.Statement.{statement}
@@ -18,11 +19,12 @@ frame c = decode (c .args .setup .epsilon) (c .args .s .now)
 known : (c : tie.Start) → Given (setupOf (c .args .setup)) (c .args .clock) (c .args .s .now)
 known c = given (setupOf (c .args .setup)) (c .args .clock) (c .args .s .now) (c .pre)
 
-reads : (c : tie.After-near) → c .near .result ≡ near (c .before .before .before .before .before .args .setup .epsilon) (c .before .before .before .before .before .args .setup .modulus) (c .before .before .before .before .before .args .clock) (frame (c .before .before .before .before .before) .stamp .r)
-reads c = c .near .ensures ∙ ap (near (c .before .before .before .before .before .args .setup .epsilon) (c .before .before .before .before .before .args .setup .modulus) (c .before .before .before .before .before .args .clock)) (c .before .r-of .ensures (c .before .before .before .before .before .args .setup .epsilon))
+reads : (c : tie.After-reading-of) → c .reading-of .result ≡ near (c .before .before .before .before .args .setup .epsilon) (c .before .before .before .before .args .setup .modulus) (c .before .before .before .before .args .clock) (frame (c .before .before .before .before) .stamp .r)
+unfolding readingOf
+reads c = c .reading-of .ensures
 
-high : (c : tie.After-near) → c .near .result < c .before .before .before .before .before .args .setup .modulus + c .before .before .before .before .before .args .setup .epsilon
-high c = omega (arith, reads c, known (c .before .before .before .before .before) .high)
+high : (c : tie.After-reading-of) → c .reading-of .result < c .before .before .before .before .args .setup .modulus + c .before .before .before .before .args .setup .epsilon
+high c = omega (arith, reads c, known (c .before .before .before .before) .high)
 
 cast-epsilon : tie.Need-cast-epsilon
 cast-epsilon c = search needs
@@ -30,14 +32,10 @@ cast-epsilon c = search needs
 cast-modulus : tie.Need-cast-modulus
 cast-modulus c = search needs
 
-r-of-requires : tie.Need-r-of-requires
-r-of-requires c κs = search needs
-
-r-below : (c : tie.After-r-of) → c .r-of .result < c .before .before .before .before .args .setup .modulus
-r-below c = omega (arith, c .r-of .ensures (c .before .before .before .before .args .setup .epsilon), known (c .before .before .before .before) .r-below)
-
-near-requires : tie.Need-near-requires
-near-requires c κs = (known (c .before .before .before .before) .limits .epsilon-pos, (known (c .before .before .before .before) .limits .modulus-most, (known (c .before .before .before .before) .below, r-below c)))
+reading-of-requires : tie.Need-reading-of-requires
+reading-of-requires c κs =
+    let start = c .before .before .before in
+    ((start .pre .timed .limits, known start .below), known start .r-below)
 
 cast-if1 : tie.Need-cast-if1
 cast-if1 c = search needs
@@ -46,13 +44,13 @@ add-if1 : tie.Need-add-if1
 add-if1 c = search needs
 
 add-if1-2 : tie.Need-add-if1-2
-add-if1-2 c = omega (arith, high (c .before), known (c .before .before .before .before .before .before) .limits)
+add-if1-2 c = omega (arith, high (c .before), known (c .before .before .before .before .before) .limits)
 
 returns : tie.Need-returns
-returns c = late-no (setupOf (c .before .before .before .before .before .before .before .args .setup)) (c .before .before .before .before .before .before .before .args .clock) (frame (c .before .before .before .before .before .before .before)) (c .before .before .near .result) (reads (c .before .before)) (c .if1 .taken)
+returns c = late-no (setupOf (c .before .before .before .before .before .before .args .setup)) (c .before .before .before .before .before .before .args .clock) (frame (c .before .before .before .before .before .before)) (c .before .before .reading-of .result) (reads (c .before .before)) (c .if1 .taken)
 
 sub-if2 : tie.Need-sub-if2
-sub-if2 c = omega (arith, known (c .before .before .before .before .before .before .before) .limits)
+sub-if2 c = omega (arith, known (c .before .before .before .before .before .before) .limits)
 
 add-if2 : tie.Need-add-if2
 add-if2 c = search needs
@@ -61,19 +59,19 @@ c-of-requires : tie.Need-c-of-requires
 c-of-requires c κs = search needs
 
 add-if2-2 : tie.Need-add-if2-2
-add-if2-2 c = omega (arith, high (c .before .before .before), known (c .before .before .before .before .before .before .before .before) .limits, known (c .before .before .before .before .before .before .before .before) .c-below, c .c-of .ensures (c .before .before .before .before .before .before .before .before .args .setup .epsilon))
+add-if2-2 c = omega (arith, high (c .before .before .before), known (c .before .before .before .before .before .before .before) .limits, known (c .before .before .before .before .before .before .before) .c-below, c .c-of .ensures (c .before .before .before .before .before .before .before .args .setup .epsilon))
 
-leads : (c : tie.After-c-of) → c .c-of .result ≡ frame (c .before .before .before .before .before .before .before .before) .stamp .c
-leads c = c .c-of .ensures (c .before .before .before .before .before .before .before .before .args .setup .epsilon)
+leads : (c : tie.After-c-of) → c .c-of .result ≡ frame (c .before .before .before .before .before .before .before) .stamp .c
+leads c = c .c-of .ensures (c .before .before .before .before .before .before .before .args .setup .epsilon)
 
-late-left : (c : tie.Else1) → c .before .before .before .before .before .before .before .args .setup .modulus ≤ c .before .before .near .result + (c .before .before .before .before .before .before .before .args .setup .delta + c .before .before .before .before .before .before .before .args .setup .epsilon)
+late-left : (c : tie.Else1) → c .before .before .before .before .before .before .args .setup .modulus ≤ c .before .before .reading-of .result + (c .before .before .before .before .before .before .args .setup .delta + c .before .before .before .before .before .before .args .setup .epsilon)
 late-left c = c .if1 .left
 
 returns-2 : tie.Need-returns-2
 returns-2 c =
-    early-no (setupOf (c .before .before .before .before .before .before .before .before .before .args .setup)) (c .before .before .before .before .before .before .before .before .before .args .clock) (frame (c .before .before .before .before .before .before .before .before .before)) (c .before .before .before .before .near .result) (reads (c .before .before .before .before)) (late-left (c .before .before)) (omega (arith, leads (c .before)))
+    early-no (setupOf (c .before .before .before .before .before .before .before .before .args .setup)) (c .before .before .before .before .before .before .before .before .args .clock) (frame (c .before .before .before .before .before .before .before .before)) (c .before .before .before .before .reading-of .result) (reads (c .before .before .before .before)) (late-left (c .before .before)) (omega (arith, leads (c .before)))
 
-early-left : (c : tie.Else2) → c .before .before .before .before .near .result + frame (c .before .before .before .before .before .before .before .before .before) .stamp .c ≤ c .before .before .before .before .before .before .before .before .before .args .setup .modulus + (c .before .before .before .before .before .before .before .before .before .args .setup .epsilon - 1)
+early-left : (c : tie.Else2) → c .before .before .before .before .reading-of .result + frame (c .before .before .before .before .before .before .before .before) .stamp .c ≤ c .before .before .before .before .before .before .before .before .args .setup .modulus + (c .before .before .before .before .before .before .before .before .args .setup .epsilon - 1)
 early-left c = omega (arith, leads (c .before))
 
 add-from : tie.Need-add-from
@@ -95,22 +93,22 @@ cast-counts-at-most : tie.Need-cast-counts-at-most
 cast-counts-at-most c = search needs
 
 sub-counts-at-most : tie.Need-sub-counts-at-most
-sub-counts-at-most c = omega (arith, known (c .before .before .before .before .before .before .before .before .before .before) .limits)
+sub-counts-at-most c = omega (arith, known (c .before .before .before .before .before .before .before .before .before) .limits)
 
 counts-at-most-requires : tie.Need-counts-at-most-requires
-counts-at-most-requires c κs = omega (arith, known (c .before .before .before .before .before .before .before .before .before .before) .long)
+counts-at-most-requires c κs = omega (arith, known (c .before .before .before .before .before .before .before .before .before) .long)
 
-counts : (c : tie.After-counts-at-most) → c .counts-at-most .result ≡ atMost (c .before .before .before .before .before .before .before .before .before .before .before .args .setup .n - 1) (drop (c .before .before .before .before .before .before .before .before .before .before .before .args .setup .modulus + c .before .before .before .before .before .before .before .before .before .before .before .args .setup .epsilon - c .before .before .before .before .before .before .near .result) (frame (c .before .before .before .before .before .before .before .before .before .before .before) .stamp .kn))
+counts : (c : tie.After-counts-at-most) → c .counts-at-most .result ≡ atMost (c .before .before .before .before .before .before .before .before .before .before .args .setup .n - 1) (drop (c .before .before .before .before .before .before .before .before .before .before .args .setup .modulus + c .before .before .before .before .before .before .before .before .before .before .args .setup .epsilon - c .before .before .before .before .before .before .reading-of .result) (frame (c .before .before .before .before .before .before .before .before .before .before) .stamp .kn))
 counts c =
-    c .counts-at-most .ensures ∙ ap (atMost (c .before .before .before .before .before .before .before .before .before .before .before .args .setup .n - 1)) (counts-there (c .before .before .before .before .before .before .before .before .before .before .before .args .setup .epsilon) (c .before .before .before .before .before .before .before .before .before .before .before .args .setup .modulus + c .before .before .before .before .before .before .before .before .before .before .before .args .setup .epsilon - c .before .before .before .before .before .before .near .result) (c .before .before .before .before .before .before .before .before .before .before .before .args .s .now))
+    c .counts-at-most .ensures ∙ ap (atMost (c .before .before .before .before .before .before .before .before .before .before .args .setup .n - 1)) (counts-there (c .before .before .before .before .before .before .before .before .before .before .args .setup .epsilon) (c .before .before .before .before .before .before .before .before .before .before .args .setup .modulus + c .before .before .before .before .before .before .before .before .before .before .args .setup .epsilon - c .before .before .before .before .before .before .reading-of .result) (c .before .before .before .before .before .before .before .before .before .before .args .s .now))
 
 returns-3 : tie.Need-returns-3
 returns-3 c =
-    counts-no (setupOf (c .before .before .before .before .before .before .before .before .before .before .before .before .args .setup)) (c .before .before .before .before .before .before .before .before .before .before .before .before .args .clock) (frame (c .before .before .before .before .before .before .before .before .before .before .before .before)) (c .before .before .before .before .before .before .before .near .result) (reads (c .before .before .before .before .before .before .before)) (late-left (c .before .before .before .before .before)) (early-left (c .before .before .before)) (sym (counts (c .before)) ∙ not-true (c .before .counts-at-most .result) (c .if3 .taken))
+    counts-no (setupOf (c .before .before .before .before .before .before .before .before .before .before .before .args .setup)) (c .before .before .before .before .before .before .before .before .before .before .before .args .clock) (frame (c .before .before .before .before .before .before .before .before .before .before .before)) (c .before .before .before .before .before .before .before .reading-of .result) (reads (c .before .before .before .before .before .before .before)) (late-left (c .before .before .before .before .before)) (early-left (c .before .before .before)) (sym (counts (c .before)) ∙ not-true (c .before .counts-at-most .result) (c .if3 .taken))
 
 returns-4 : tie.Need-returns-4
 returns-4 c =
-    times-right (setupOf (c .before .before .before .before .before .before .before .before .before .before .before .before .args .setup)) (c .before .before .before .before .before .before .before .before .before .before .before .before .args .clock) (frame (c .before .before .before .before .before .before .before .before .before .before .before .before)) (c .before .before .before .before .before .before .before .near .result) (reads (c .before .before .before .before .before .before .before)) (late-left (c .before .before .before .before .before)) (early-left (c .before .before .before)) (sym (counts (c .before)) ∙ not-false (c .before .counts-at-most .result) (c .if3 .left))
+    times-right (setupOf (c .before .before .before .before .before .before .before .before .before .before .before .args .setup)) (c .before .before .before .before .before .before .before .before .before .before .before .args .clock) (frame (c .before .before .before .before .before .before .before .before .before .before .before)) (c .before .before .before .before .before .before .before .reading-of .result) (reads (c .before .before .before .before .before .before .before)) (late-left (c .before .before .before .before .before)) (early-left (c .before .before .before)) (sym (counts (c .before)) ∙ not-false (c .before .counts-at-most .result) (c .if3 .left))
 
 pub check-time-spec : {M : Type 1} → statement M
 check-time-spec =
@@ -118,8 +116,7 @@ check-time-spec =
     (tie.spec
     cast-epsilon
     cast-modulus
-    r-of-requires
-    near-requires
+    reading-of-requires
     cast-if1
     add-if1
     add-if1-2
