@@ -1,8 +1,8 @@
 -- The frames of a delivery, by their positions, and their give lines. Assumes nothing.
 use Prim.Native.Nat.{ℕ, zero, suc, _+_, _-_, _*_, _≤_, _<_}
 use mathlib.Core.Path.{_≡_, refl, sym, ap, _∙_}
-use mathlib.Core.Bool.{Bool, true, false}
-use mathlib.Core.List.{List, [], _∷_, _++_, map}
+use mathlib.Core.Bool.{false}
+use mathlib.Core.List.{List, [], _∷_, _++_}
 use native.Mathlib.Nat.{zero-add, suc-add}
 use native.Mathlib.Omega.{arith}
 use lib.Dec.{leb}
@@ -12,7 +12,7 @@ use borrow.Author.Tests.{le-leb, lt-leb, leb-true}
 use Rattle.laws.specs.Lists.{joined}
 use Rattle.laws.proofs.Numbers.{same-test}
 use Rattle.model.specs.Setup.{width}
-use Rattle.model.specs.Frame.{Frame, twoAt, payloadCountAt, frameEnd, decode}
+use Rattle.model.specs.Frame.{twoAt, payloadCountAt, frameEnd, decode}
 use Rattle.model.specs.Holdback.{cutFrames, heldBytes, held}
 use Rattle.trace.specs.Text.{giveLine, giveText, giveLines, giveLinesFrom, frameAt}
 
