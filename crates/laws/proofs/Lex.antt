@@ -181,7 +181,7 @@ lex-dominated (x ∷ a) (y ∷ b) (suc j) f h =
       | inr k ↦ lex-head-eq x y a b (omega arith) ∙ r
     ]
 
--- before it the lists are the same
+-- before the first difference the lists are the same
 pub firstDifference-before : (a b : List ℕ) (i : ℕ) → i < firstDifference a b → getD a i 0 ≡ getD b i 0
 unfolding firstDifference
 firstDifference-before [] b i h = absurd (not-suc-le-zero h)

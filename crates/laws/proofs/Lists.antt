@@ -13,7 +13,7 @@ use lib.Dec.{eqb, eqb·zero-suc, eqb·suc-zero, eqb·suc-suc}
 use lib.ListN.{length, take, drop, getD, set, replicate, getElem?}
 use lib.ListN.{length-append, length-drop, length-replicate, List·getD-eq-default}
 use borrow.Author.Tests.{eqb-true, eq-eqb}
-use lib.Seq.{take-append-seam, drop-append-seam}
+use lib.Seq.{take-nil, take-append-seam, drop-append-seam}
 use Rattle.laws.specs.Lists.{tab, every, any, select, selectFrom, sameList, leading, insertAt, overlay, joined, largest, padded}
 use Rattle.laws.proofs.Numbers.{lt-or-ge, true-or-false, clash, and-intro, and-left, and-right, or-left, or-right, or-cases, or-false-left, or-false-right, false-of-no}
 
@@ -42,6 +42,12 @@ module _ {A : Type 0} where
   mem-of-drop zero l m = m
   mem-of-drop (suc k) [] m = m
   mem-of-drop (suc k) (y ∷ l) m = List·Memᴰ·tail (mem-of-drop k l m)
+
+  -- the first places dropped of a longer beginning
+  pub drop-take : (k m : ℕ) (l : List A) → drop k (take (k + m) l) ≡ take m (drop k l)
+  drop-take zero m l = ap (λ (n : ℕ). take n l) (zero-add m)
+  drop-take (suc k) m [] = ap (drop (suc k)) (take-nil (suc k + m)) ∙ sym (take-nil m)
+  drop-take (suc k) m (x ∷ l) = ap (λ (n : ℕ). drop (suc k) (take n (x ∷ l))) (suc-add k m) ∙ drop-take k m l
 
   -- n entries made by a function
   pub length-tab : (n : ℕ) (f : ℕ → A) → length (tab n f) ≡ n

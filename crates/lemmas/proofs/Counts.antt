@@ -16,6 +16,7 @@ use Rattle.laws.proofs.Numbers.{lt-or-ge, eq-or-ne, and-intro, and-left, and-ri
 use Rattle.laws.proofs.Lists.{length-tab, getD-tab, getD-tab-out, tab-getD, tab-ext, every-index, every-of-index, getD-zeros, getD-append-zeros, getD-padded}
 use Rattle.model.specs.Setup.{width, widest}
 use Rattle.model.specs.Timestamp.{Timestamp, countAt, sum, atMost, soundTimestamp, soundTables, shift, step, replaced, absorb, countOwn, trimmed, widened, fresh}
+use Rattle.model.specs.Order.{countsDown}
 use Rattle.lemmas.proofs.Bounds.{Sound, Opened}
 
 -- counts outside the window read 0
@@ -141,6 +142,15 @@ trimmed-widened epsilon t h w =
     tab-ext (width epsilon) (λ i. getD (padded widest (t .kn)) i 0) (λ i. getD (t .kn) i 0) (λ i k. getD-padded widest (t .kn) i)
     ∙ tab-getD (width epsilon) (t .kn) 0 w in
     λ i. record { r = t .r; c = t .c; kn = e i }
+
+pub trimmed-same : (epsilon : ℕ) (t : Timestamp) → length (t .kn) ≡ width epsilon → trimmed epsilon t ≡ t
+unfolding trimmed
+trimmed-same epsilon t w = ap (λ (l : List ℕ). record { r = t .r; c = t .c; kn = l }) (tab-getD (width epsilon) (t .kn) 0 w)
+
+-- the counts in the order of two timestamps
+pub length-down : (epsilon : ℕ) (t : Timestamp) → length (countsDown epsilon t) ≡ epsilon
+unfolding countsDown
+length-down epsilon t = length-tab epsilon (λ k. getD (t .kn) (epsilon + t .c - k) 0)
 
 -- counts one offset further down
 pub shift-at : (kn : List ℕ) (i : ℕ) → getD (shift 1 kn) i 0 ≡ getD kn (1 + i) 0
