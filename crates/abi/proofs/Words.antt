@@ -12,7 +12,7 @@ use Rattle.laws.specs.Lists.{padded, select}
 use Rattle.laws.proofs.Lists.{select-length-le}
 use Rattle.model.specs.Setup.{Setup, inLimits, width}
 use Rattle.model.specs.Timestamp.{Timestamp, widened, countOwn}
-use Rattle.model.specs.Frame.{Frame, twoBytes, twoAt, encode, decode, payloadCountAt}
+use Rattle.model.specs.Frame.{twoBytes, twoAt, encode, decode, payloadCountAt}
 use Rattle.model.specs.Batch.{batchEntries}
 use Rattle.model.specs.Question.{firstNo, askSetup, frameQuestions}
 use Rattle.model.specs.Codec.{ReadAnswer, readQuestions, readBy, read, frameOf, writeQuestions, writeBy, writeFrame, write}
@@ -224,9 +224,6 @@ pub write-small : (s : Setup) (station : ℕ) (t : Timestamp) (payload buffer : 
 unfolding writeFrame
 write-small s station t payload buffer = go (firstNo (writeQuestions s station t payload buffer)) refl
   where
-    f : Frame
-    f = frameOf (s .epsilon) station t payload
-
     go : (k : ℕ) → firstNo (writeQuestions s station t payload buffer) ≡ k → writeBy k (frameOf (s .epsilon) station t payload) buffer .size < 65536
     go zero q =
         let room : Room (s .epsilon) station t payload buffer = room-of s station t payload buffer q in

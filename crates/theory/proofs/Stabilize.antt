@@ -155,9 +155,6 @@ good-more s floor from w d good refused =
       heard-before = λ i k h. omega (arith, good .heard-before i k (sym (heard-same i k) ∙ h), length-append (w .past) (d ∷ []));
     }
   where
-    past′ : List Done
-    past′ = w .past ++ (d ∷ [])
-
     old : (k : ℕ) (m : Done) → getElem? (w .past ++ (d ∷ [])) k ≡ some m → isAccepted (m .output) ≡ true → getElem? (w .past) k ≡ some m
     old k m at acc =
         elim (getElem?-snoc-cases (w .past) d k at) [
