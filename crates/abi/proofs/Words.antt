@@ -12,13 +12,13 @@ use Rattle.laws.specs.Lists.{padded, select}
 use Rattle.laws.proofs.Lists.{select-length-le}
 use Rattle.model.specs.Setup.{Setup, inLimits, width}
 use Rattle.model.specs.Timestamp.{Timestamp, widened, countOwn}
-use Rattle.model.specs.Frame.{Frame, twoBytes, twoAt, encode, decode, payloadCountAt}
+use Rattle.model.specs.Frame.{twoBytes, twoAt, encode, decode, payloadCountAt}
 use Rattle.model.specs.Batch.{batchEntries}
 use Rattle.model.specs.Question.{firstNo, askSetup, frameQuestions}
 use Rattle.model.specs.Codec.{ReadAnswer, readQuestions, readBy, read, frameOf, writeQuestions, writeBy, writeFrame, write}
 use Rattle.model.specs.Tick.{Input, Answer, Output, callQuestions, refusal, heardOf, newStamp, sentBytes, takenCount, deliveredOf, acceptance, tick}
 use Rattle.lemmas.proofs.Bounds.{Limits, Sound, FrameOk}
-use Rattle.lemmas.proofs.Questions.{limits-from, first-yes, other-yes}
+use Rattle.lemmas.proofs.Questions.{limits-from, first-yes, other-yes, read-number}
 use Rattle.model.specs.Holdback.{passes}
 use Rattle.lemmas.proofs.RoundTrip.{formed-from, passes-decode, passes-formed}
 use Rattle.lemmas.proofs.OneTick.{Accepted, accepted-call, no-question-fails, tick-by, opening, new-sound, hear-length, delivered-most}
@@ -172,18 +172,10 @@ module _ (s : Setup) (bytes : List ℕ) where
     pub payload-short : length (read s bytes .payload) ≤ 32
     pub place : length bytes ≡ 7 + 2 * s .epsilon + length (read s bytes .payload)
 
-  read-zero : read s bytes .number ≡ 0 → firstNo (readQuestions s bytes) ≡ 0
-  unfolding read
-  read-zero e = go (firstNo (readQuestions s bytes)) refl
-    where
-      go : (k : ℕ) → firstNo (readQuestions s bytes) ≡ k → k ≡ 0
-      go zero q = refl
-      go (suc k) q = absurd (let z : suc k ≡ 0 = sym (ap (λ (m : ℕ). readBy m (decode (s .epsilon) bytes) .number) q) ∙ e in omega arith)
-
   pub fair : read s bytes .number ≡ 0 → Fair
   unfolding readQuestions askSetup read widened passes decode payloadCountAt width
   fair e =
-      let q = read-zero e in
+      let q = read-number s bytes e in
       let lim : Limits s = limits-from s (first-yes (inLimits s) 0 (frameQuestions s bytes) q) in
       let rest : firstNo (frameQuestions s bytes) ≡ 0 = other-yes (inLimits s) 0 (frameQuestions s bytes) q in
       let passed : passes s bytes ≡ true = eq-eqb (firstNo (frameQuestions s bytes)) 0 rest in
@@ -232,9 +224,6 @@ pub write-small : (s : Setup) (station : ℕ) (t : Timestamp) (payload buffer : 
 unfolding writeFrame
 write-small s station t payload buffer = go (firstNo (writeQuestions s station t payload buffer)) refl
   where
-    f : Frame
-    f = frameOf (s .epsilon) station t payload
-
     go : (k : ℕ) → firstNo (writeQuestions s station t payload buffer) ≡ k → writeBy k (frameOf (s .epsilon) station t payload) buffer .size < 65536
     go zero q =
         let room : Room (s .epsilon) station t payload buffer = room-of s station t payload buffer q in

@@ -6,7 +6,6 @@ use timestamp::Setup;
 use timestamp::Timestamp;
 use timestamp::in_limits;
 ghost use mathlib.Core.Path.{_≡_};
-ghost use mathlib.Core.List.{[]};
 ghost use Rattle.model.specs.Question.{firstNo};
 ghost use Rattle.model.specs.Codec as codec;
 ghost use Rattle.timestamp.specs.Views.{setupOf};

@@ -78,10 +78,6 @@ pub lex-head-eq : (x y : ℕ) (a b : List ℕ) → x ≡ y → lexCompare (x ∷
 unfolding lexCompare
 lex-head-eq x y a b h = rw (compare-eq h)
 
-pub lex-cons : (x y : ℕ) (a b : List ℕ) → lexCompare (x ∷ a) (y ∷ b) ≡ orElse (compare x y) (lexCompare a b)
-unfolding lexCompare
-lex-cons x y a b = refl
-
 -- how a list comes before another
 pub lex-lt-cases : (x y : ℕ) (a b : List ℕ) → lexCompare (x ∷ a) (y ∷ b) ≡ Ordering·lt → (x < y) ⊎ ((x ≡ y) × (lexCompare a b ≡ Ordering·lt))
 lex-lt-cases x y a b h =
@@ -123,9 +119,6 @@ lex-eq (x ∷ a) (y ∷ b) h =
           ]
     ]
 
-pub lex-gt-of-lt : (a b : List ℕ) → lexCompare a b ≡ Ordering·lt → lexCompare b a ≡ Ordering·gt
-lex-gt-of-lt a b h = lex-flip a b ∙ ap flipped h
-
 pub lex-lt-of-gt : (a b : List ℕ) → lexCompare a b ≡ Ordering·gt → lexCompare b a ≡ Ordering·lt
 lex-lt-of-gt a b h = lex-flip a b ∙ ap flipped h
 
@@ -149,9 +142,6 @@ lex-trans (x ∷ a) (y ∷ b) (z ∷ c) h k =
     go (inr p) (inl q) f = lex-head-lt x z a c (omega arith)
     go (inr p) (inr q) f = lex-head-eq x z a c (p .0 ∙ q .0) ∙ f (p .1) (q .1)
 
-pub lex-asym : (a b : List ℕ) → lexCompare a b ≡ Ordering·lt → lexCompare b a ≡ Ordering·lt → ⊥
-lex-asym a b h k = lt-not-gt k (lex-gt-of-lt a b h)
-
 pub lex-total : (a b : List ℕ) → (lexCompare a b ≡ Ordering·lt) ⊎ ((a ≡ b) ⊎ (lexCompare b a ≡ Ordering·lt))
 lex-total a b =
     elim (ordering-cases (lexCompare a b)) [
@@ -159,19 +149,7 @@ lex-total a b =
       | inr h ↦ elim h [ inl e ↦ inr (inl (lex-eq a b e)) | inr g ↦ inr (inr (lex-lt-of-gt a b g)) ]
     ]
 
--- no list that is not less comes before: what lies between
-pub lex-lt-of-le : (a b c : List ℕ) → (lexCompare b a ≡ Ordering·lt → ⊥) → lexCompare b c ≡ Ordering·lt → lexCompare a c ≡ Ordering·lt
-lex-lt-of-le a b c n k =
-    elim (lex-total a b) [
-      | inl h ↦ lex-trans a b c h k
-      | inr h ↦ elim h [ inl e ↦ rw e k | inr g ↦ absurd (n g) ]
-    ]
-
--- prefixes
-pub lex-prefix : (p a b : List ℕ) → lexCompare (p ++ a) (p ++ b) ≡ lexCompare a b
-lex-prefix [] a b = refl
-lex-prefix (x ∷ p) a b = lex-head-eq x x (p ++ a) (p ++ b) refl ∙ lex-prefix p a b
-
+-- lists that begin with parts of one length
 pub lex-append : (a b c d : List ℕ) → length a ≡ length b → lexCompare (a ++ c) (b ++ d) ≡ orElse (lexCompare a b) (lexCompare c d)
 unfolding lexCompare
 lex-append [] [] c d e = refl
@@ -179,16 +157,6 @@ lex-append [] (y ∷ b) c d e = absurd (omega arith)
 lex-append (x ∷ a) [] c d e = absurd (omega arith)
 lex-append (x ∷ a) (y ∷ b) c d e =
     rw (lex-append a b c d (suc-inj e)) (sym (orElse-assoc (compare x y) (lexCompare a b) (lexCompare c d)))
-
--- one number of each list compared, all others left out
-pub lex-single : (x y : ℕ) → lexCompare (x ∷ []) (y ∷ []) ≡ compare x y
-unfolding lexCompare
-lex-single x y = go (compare x y)
-  where
-    go : (o : Ordering) → orElse o Ordering·eq ≡ o
-    go Ordering·lt = refl
-    go Ordering·eq = refl
-    go Ordering·gt = refl
 
 -- the same added to the first and to the last number of both lists changes nothing
 pub lex-shift : (k x x′ a a′ y y′ : ℕ) (m m′ : List ℕ) → length m ≡ length m′
@@ -213,44 +181,7 @@ lex-dominated (x ∷ a) (y ∷ b) (suc j) f h =
       | inr k ↦ lex-head-eq x y a b (omega arith) ∙ r
     ]
 
--- no entry greater, in lists of one length: less or the same
-pub lex-no-greater : (a b : List ℕ) → length a ≡ length b → ((i : ℕ) → i < length a → getD a i 0 ≤ getD b i 0) → (lexCompare a b ≡ Ordering·lt) ⊎ (a ≡ b)
-unfolding lexCompare
-lex-no-greater [] [] e f = inr refl
-lex-no-greater [] (y ∷ b) e f = inl refl
-lex-no-greater (x ∷ a) [] e f = absurd (omega arith)
-lex-no-greater (x ∷ a) (y ∷ b) e f =
-    let l : x ≤ y = f 0 (suc-le-suc zero-le) in
-    elim (lt-or-ge x y) [
-      | inl k ↦ inl (lex-head-lt x y a b k)
-      | inr k ↦
-          let q : x ≡ y = omega arith in
-          elim (lex-no-greater a b (suc-inj e) (λ i t. f (suc i) (suc-le-suc t))) [
-            | inl s ↦ inl (lex-head-eq x y a b q ∙ s)
-            | inr s ↦ inr (ap₂ _∷_ q s)
-          ]
-    ]
-
--- the first difference
-pub firstDifference-same : (x y : ℕ) (a b : List ℕ) → x ≡ y → firstDifference (x ∷ a) (y ∷ b) ≡ suc (firstDifference a b)
-unfolding firstDifference
-firstDifference-same x y a b e = rw (eq-eqb x y e)
-
-pub firstDifference-differ : (x y : ℕ) (a b : List ℕ) → (x ≡ y → ⊥) → firstDifference (x ∷ a) (y ∷ b) ≡ 0
-unfolding firstDifference
-firstDifference-differ x y a b n = rw (ne-eqb x y n)
-
-pub firstDifference-le : (a b : List ℕ) → firstDifference a b ≤ length a
-unfolding firstDifference
-firstDifference-le [] b = zero-le
-firstDifference-le (x ∷ a) [] = zero-le
-firstDifference-le (x ∷ a) (y ∷ b) =
-    elim (eq-or-ne x y) [
-      | inl e ↦ rw (eq-eqb x y e) (suc-le-suc (firstDifference-le a b))
-      | inr n ↦ rw (ne-eqb x y n) zero-le
-    ]
-
--- before it the lists are the same
+-- before the first difference the lists are the same
 pub firstDifference-before : (a b : List ℕ) (i : ℕ) → i < firstDifference a b → getD a i 0 ≡ getD b i 0
 unfolding firstDifference
 firstDifference-before [] b i h = absurd (not-suc-le-zero h)
@@ -292,33 +223,3 @@ lex-firstDifference (x ∷ a) (y ∷ b) e h =
             | inr k ↦ let g : y < x = omega arith in lex-head-gt x y a b g ∙ sym (compare-gt g)
           ])
     ]
-
-pub same-firstDifference : (a b : List ℕ) → length a ≡ length b → firstDifference a b ≡ length a → a ≡ b
-unfolding firstDifference
-same-firstDifference [] [] e h = refl
-same-firstDifference [] (y ∷ b) e h = absurd (omega arith)
-same-firstDifference (x ∷ a) [] e h = absurd (omega arith)
-same-firstDifference (x ∷ a) (y ∷ b) e h =
-    elim (eq-or-ne x y) [
-      | inl s ↦ ap₂ _∷_ s (same-firstDifference a b (suc-inj e) (suc-inj (rw (eq-eqb x y s) at h)))
-      | inr n ↦ let z : 0 ≡ suc (length a) = rw (ne-eqb x y n) at h in absurd (omega arith)
-    ]
-
-pub lex-no-difference : (a b : List ℕ) → length a ≡ length b → firstDifference a b ≡ length a → lexCompare a b ≡ Ordering·eq
-lex-no-difference a b e h = rw (same-firstDifference a b e h) (lex-refl b)
-
-pub firstDifference-refl : (a : List ℕ) → firstDifference a a ≡ length a
-unfolding firstDifference
-firstDifference-refl [] = refl
-firstDifference-refl (x ∷ a) = rw (eq-eqb x x refl) (ap suc (firstDifference-refl a))
-
--- a position before which all is the same and at which the lists differ is the first difference
-pub firstDifference-unique : (a b : List ℕ) (k : ℕ) → k < length a → k < length b → ((i : ℕ) → i < k → getD a i 0 ≡ getD b i 0) → (getD a k 0 ≡ getD b k 0 → ⊥) → firstDifference a b ≡ k
-unfolding firstDifference
-firstDifference-unique [] b k h g f n = absurd (not-suc-le-zero h)
-firstDifference-unique (x ∷ a) [] k h g f n = absurd (not-suc-le-zero g)
-firstDifference-unique (x ∷ a) (y ∷ b) zero h g f n = rw (ne-eqb x y n)
-firstDifference-unique (x ∷ a) (y ∷ b) (suc k) h g f n =
-    rw (eq-eqb x y (f 0 (suc-le-suc zero-le)))
-    (ap suc
-    (firstDifference-unique a b k (le-of-suc-le-suc h) (le-of-suc-le-suc g) (λ i t. f (suc i) (suc-le-suc t)) n))

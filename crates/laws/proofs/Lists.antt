@@ -1,8 +1,8 @@
 -- Laws of the tools on lists.
 -- Assumes nothing.
-use Prim.Native.Nat.{ℕ, zero, suc, _+_, _*_, _-_, _≤_, _<_, max, zero-le, suc-le-suc}
+use Prim.Native.Nat.{ℕ, zero, suc, _+_, _*_, _-_, _≤_, _<_, zero-le, suc-le-suc}
 use native.Mathlib.Omega.{arith}
-use native.Mathlib.Nat.{suc-inj, not-suc-le-zero, le-of-suc-le-suc, zero-add, add-zero, suc-add, add-suc, zero-sub, sub-zero, suc-sub-suc, suc-mul, zero-mul}
+use native.Mathlib.Nat.{suc-inj, not-suc-le-zero, le-of-suc-le-suc, zero-add, add-zero, suc-add, add-suc, suc-mul}
 use mathlib.Core.Bool.{Bool, true, false, _&&_, _||_, cond}
 use mathlib.Core.List.{List, [], _∷_, _++_, map, append-assoc}
 use mathlib.Core.List.{List·Memᴰ, List·Memᴰ·head, List·Memᴰ·tail, List·Memᴰ·not-nil, List·Memᴰ·cases-cons, Memᴰ·append-right, List·Memᴰ·append-cases}
@@ -13,15 +13,12 @@ use lib.Dec.{eqb, eqb·zero-suc, eqb·suc-zero, eqb·suc-suc}
 use lib.ListN.{length, take, drop, getD, set, replicate, getElem?}
 use lib.ListN.{length-append, length-drop, length-replicate, List·getD-eq-default}
 use borrow.Author.Tests.{eqb-true, eq-eqb}
-use lib.Seq.{take-append-seam, drop-append-seam, take-append-le}
+use lib.Seq.{take-nil, take-append-seam, drop-append-seam}
 use Rattle.laws.specs.Lists.{tab, every, any, select, selectFrom, sameList, leading, insertAt, overlay, joined, largest, padded}
 use Rattle.laws.proofs.Numbers.{lt-or-ge, true-or-false, clash, and-intro, and-left, and-right, or-left, or-right, or-cases, or-false-left, or-false-right, false-of-no}
 
 module _ {A : Type 0} where
   -- membership
-  pub mem-here : (x : A) (l : List A) → List·Memᴰ x (x ∷ l)
-  mem-here x l = List·Memᴰ·head refl
-
   pub mem-getD : (l : List A) (i : ℕ) (d : A) → i < length l → List·Memᴰ (getD l i d) l
   mem-getD [] i d h = absurd (not-suc-le-zero h)
   mem-getD (x ∷ xs) zero d h = List·Memᴰ·head refl
@@ -45,6 +42,12 @@ module _ {A : Type 0} where
   mem-of-drop zero l m = m
   mem-of-drop (suc k) [] m = m
   mem-of-drop (suc k) (y ∷ l) m = List·Memᴰ·tail (mem-of-drop k l m)
+
+  -- the first places dropped of a longer beginning
+  pub drop-take : (k m : ℕ) (l : List A) → drop k (take (k + m) l) ≡ take m (drop k l)
+  drop-take zero m l = ap (λ (n : ℕ). take n l) (zero-add m)
+  drop-take (suc k) m [] = ap (drop (suc k)) (take-nil (suc k + m)) ∙ sym (take-nil m)
+  drop-take (suc k) m (x ∷ l) = ap (λ (n : ℕ). drop (suc k) (take n (x ∷ l))) (suc-add k m) ∙ drop-take k m l
 
   -- n entries made by a function
   pub length-tab : (n : ℕ) (f : ℕ → A) → length (tab n f) ≡ n
@@ -91,21 +94,6 @@ module _ {A : Type 0} where
   take-tab (suc k) zero f h = absurd (not-suc-le-zero h)
   take-tab (suc k) (suc n) f h = ap₂ _∷_ refl (take-tab k n (λ i. f (suc i)) (le-of-suc-le-suc h))
 
-  pub drop-tab : (k n : ℕ) (f : ℕ → A) → drop k (tab n f) ≡ tab (n - k) (λ i. f (k + i))
-  unfolding tab
-  drop-tab zero n f = rw sub-zero (tab-ext n f (λ i. f (0 + i)) (λ i h. rw zero-add))
-  drop-tab (suc k) zero f = rw zero-sub
-  drop-tab (suc k) (suc n) f =
-      rw suc-sub-suc (drop-tab k n (λ i. f (suc i)) ∙ tab-ext (n - k) (λ i. f (suc (k + i))) (λ i. f (suc k + i)) (λ i h. rw suc-add))
-
-  pub tab-append : (n m : ℕ) (f : ℕ → A) → tab (n + m) f ≡ tab n f ++ tab m (λ i. f (n + i))
-  unfolding tab
-  tab-append zero m f = rw zero-add (tab-ext m f (λ i. f (0 + i)) (λ i h. rw zero-add))
-  tab-append (suc n) m f =
-      rw suc-add
-      (ap₂ _∷_ refl (tab-append n m (λ i. f (suc i))
-      ∙ ap (λ (l : List A). tab n (λ i. f (suc i)) ++ l) (tab-ext m (λ i. f (suc (n + i))) (λ i. f (suc n + i)) (λ i h. rw suc-add))))
-
   pub tab-suc : (n : ℕ) (f : ℕ → A) → tab (suc n) f ≡ tab n f ++ (f n ∷ [])
   unfolding tab
   tab-suc zero f = refl
@@ -150,10 +138,6 @@ module _ {A : Type 0} where
   every-of-mem p (x ∷ xs) h =
       and-intro (h x (List·Memᴰ·head refl)) (every-of-mem p xs (λ y m. h y (List·Memᴰ·tail m)))
 
-  pub every-cons : (p : A → Bool) (x : A) (l : List A) → p x ≡ true → every p l ≡ true → every p (x ∷ l) ≡ true
-  unfolding every
-  every-cons p x l h k = and-intro h k
-
   pub every-mono-mem : (p q : A → Bool) (l : List A) → ((x : A) → List·Memᴰ x l → p x ≡ true → q x ≡ true) → every p l ≡ true → every q l ≡ true
   every-mono-mem p q l f h = every-of-mem q l (λ x m. f x m (every-mem p h m))
 
@@ -189,18 +173,6 @@ module _ {A : Type 0} where
   every-tab p zero f h = refl
   every-tab p (suc n) f h =
       and-intro (h 0 (suc-le-suc zero-le)) (every-tab p n (λ i. f (suc i)) (λ i k. h (suc i) (suc-le-suc k)))
-
-  pub every-replicate : (p : A → Bool) (n : ℕ) (a : A) → p a ≡ true → every p (replicate n a) ≡ true
-  unfolding every
-  every-replicate p zero a h = refl
-  every-replicate p (suc n) a h = and-intro h (every-replicate p n a h)
-
-  pub every-set : (p : A → Bool) (l : List A) (i : ℕ) (a : A) → p a ≡ true → every p l ≡ true → every p (set l i a) ≡ true
-  unfolding every
-  every-set p [] i a h k = refl
-  every-set p (x ∷ xs) zero a h k = and-intro h (and-right (p x) (every p xs) k)
-  every-set p (x ∷ xs) (suc i) a h k =
-      and-intro (and-left (p x) (every p xs) k) (every-set p xs i a h (and-right (p x) (every p xs) k))
 
   -- a test that holds of some element
   pub any-of-mem : (p : A → Bool) {l : List A} {x : A} → List·Memᴰ x l → p x ≡ true → any p l ≡ true
@@ -294,12 +266,6 @@ module _ {A : Type 0} where
   select-none p (x ∷ xs) h =
       rw (or-false-left (p x) (any p xs) h) (select-none p xs (or-false-right (p x) (any p xs) h))
 
-  pub select-ext : (p q : A → Bool) (l : List A) → ((x : A) → List·Memᴰ x l → p x ≡ q x) → select p l ≡ select q l
-  unfolding select
-  select-ext p q [] h = refl
-  select-ext p q (x ∷ xs) h =
-      rw (h x (List·Memᴰ·head refl), select-ext p q xs (λ y m. h y (List·Memᴰ·tail m)))
-
   pub select-length-le : (p : A → Bool) (l : List A) → length (select p l) ≤ length l
   unfolding select
   select-length-le p [] = zero-le
@@ -312,21 +278,6 @@ module _ {A : Type 0} where
 
   pub every-select : (p q : A → Bool) (l : List A) → every p l ≡ true → every p (select q l) ≡ true
   every-select p q l h = every-of-mem p (select q l) (λ x m. every-mem p h (mem-of-select q l m .0))
-
-  pub every-select-self : (p : A → Bool) (l : List A) → every p (select p l) ≡ true
-  every-select-self p l = every-of-mem p (select p l) (λ x m. mem-of-select p l m .1)
-
-  pub any-select : (p q : A → Bool) (l : List A) → any p l ≡ false → any p (select q l) ≡ false
-  any-select p q l h = any-of-false p (select q l) (λ x m. any-false p h (mem-of-select q l m .0))
-
-  pub select-select : (p q : A → Bool) (l : List A) → select p (select q l) ≡ select (λ x. q x && p x) l
-  unfolding select
-  select-select p q [] = refl
-  select-select p q (x ∷ xs) =
-      elim (true-or-false (q x)) [
-        | inl e ↦ rw (e, select-select p q xs)
-        | inr e ↦ rw e (select-select p q xs)
-      ]
 
   -- the first elements that pass
   pub leading-le : (p : A → Bool) (l : List A) → leading p l ≤ length l
@@ -357,18 +308,6 @@ module _ {A : Type 0} where
         | inr e ↦ rw (e, e)
       ]
 
-  pub leading-all : (p : A → Bool) (l : List A) → every p l ≡ true → leading p l ≡ length l
-  unfolding leading every
-  leading-all p [] h = refl
-  leading-all p (x ∷ xs) h =
-      rw (and-left (p x) (every p xs) h) (ap suc (leading-all p xs (and-right (p x) (every p xs) h)))
-
-  pub leading-ext : (p q : A → Bool) (l : List A) → ((x : A) → List·Memᴰ x l → p x ≡ q x) → leading p l ≡ leading q l
-  unfolding leading
-  leading-ext p q [] h = refl
-  leading-ext p q (x ∷ xs) h =
-      rw (h x (List·Memᴰ·head refl), leading-ext p q xs (λ y m. h y (List·Memᴰ·tail m)))
-
   -- a count that has the two properties of leading is leading
   pub leading-unique : (p : A → Bool) (l : List A) (k : ℕ) (d : A) → k ≤ length l → every p (take k l) ≡ true → (k < length l → p (getD l k d) ≡ false) → leading p l ≡ k
   unfolding leading every
@@ -380,31 +319,12 @@ module _ {A : Type 0} where
       (ap suc
       (leading-unique p xs k d (le-of-suc-le-suc h) (and-right (p x) (every p (take k xs)) e) (λ t. f (suc-le-suc t))))
 
-  pub leading-at : (p : A → Bool) (a : List A) (x : A) (b : List A) → every p a ≡ true → p x ≡ false → leading p (a ++ (x ∷ b)) ≡ length a
-  unfolding leading every
-  leading-at p [] x b h e = rw e
-  leading-at p (y ∷ a) x b h e =
-      rw (and-left (p y) (every p a) h) (ap suc (leading-at p a x b (and-right (p y) (every p a) h) e))
-
   -- an element put in
-  pub insertAt-zero : (x : A) (l : List A) → insertAt 0 x l ≡ x ∷ l
-  unfolding insertAt
-  insertAt-zero x l = refl
-
-  pub insertAt-suc : (i : ℕ) (x y : A) (l : List A) → insertAt (suc i) x (y ∷ l) ≡ y ∷ insertAt i x l
-  unfolding insertAt
-  insertAt-suc i x y l = refl
-
   pub length-insertAt : (i : ℕ) (x : A) (l : List A) → length (insertAt i x l) ≡ suc (length l)
   unfolding insertAt
   length-insertAt zero x l = refl
   length-insertAt (suc i) x [] = refl
   length-insertAt (suc i) x (y ∷ l) = ap suc (length-insertAt i x l)
-
-  pub insertAt-end : (x : A) (l : List A) → insertAt (length l) x l ≡ l ++ (x ∷ [])
-  unfolding insertAt
-  insertAt-end x [] = refl
-  insertAt-end x (y ∷ l) = ap₂ _∷_ refl (insertAt-end x l)
 
   pub getD-insertAt : (i : ℕ) (x : A) (l : List A) (d : A) → i ≤ length l → getD (insertAt i x l) i d ≡ x
   unfolding insertAt
@@ -452,23 +372,6 @@ module _ {A : Type 0} where
       go true false c = refl
       go false b c = refl
 
-  -- selecting after an insertion: an element that fails leaves no trace, one that passes is put in among those that do
-  pub select-insertAt-no : (p : A → Bool) (i : ℕ) (x : A) (l : List A) → p x ≡ false → select p (insertAt i x l) ≡ select p l
-  unfolding insertAt select
-  select-insertAt-no p zero x l e = rw e
-  select-insertAt-no p (suc i) x [] e = rw e
-  select-insertAt-no p (suc i) x (y ∷ l) e = rw (select-insertAt-no p i x l e)
-
-  pub select-insertAt-yes : (p : A → Bool) (i : ℕ) (x : A) (l : List A) → p x ≡ true → select p (insertAt i x l) ≡ insertAt (length (select p (take i l))) x (select p l)
-  unfolding insertAt select
-  select-insertAt-yes p zero x l e = rw e
-  select-insertAt-yes p (suc i) x [] e = rw e
-  select-insertAt-yes p (suc i) x (y ∷ l) e =
-      elim (true-or-false (p y)) [
-        | inl h ↦ rw h (ap₂ _∷_ refl (select-insertAt-yes p i x l e))
-        | inr h ↦ rw h (select-insertAt-yes p i x l e)
-      ]
-
   -- new laid over the front of old
   pub length-overlay : (new old : List A) → length new ≤ length old → length (overlay new old) ≡ length old
   unfolding overlay
@@ -482,19 +385,11 @@ module _ {A : Type 0} where
   unfolding overlay
   drop-overlay new old = drop-append-seam new (drop (length new) old)
 
-  pub overlay-nil : (old : List A) → overlay [] old ≡ old
-  unfolding overlay
-  overlay-nil old = refl
-
   -- elements by position
   pub getElem?-append : (l r : List A) (i : ℕ) → i < length l → getElem? (l ++ r) i ≡ getElem? l i
   getElem?-append [] r i h = absurd (not-suc-le-zero h)
   getElem?-append (x ∷ l) r zero h = refl
   getElem?-append (x ∷ l) r (suc i) h = getElem?-append l r i (le-of-suc-le-suc h)
-
-  pub getElem?-append-add : (l r : List A) (i : ℕ) → getElem? (l ++ r) (length l + i) ≡ getElem? r i
-  getElem?-append-add [] r i = rw zero-add
-  getElem?-append-add (x ∷ l) r i = rw suc-add (getElem?-append-add l r i)
 
   pub getElem?-seam : (l : List A) (x : A) (r : List A) → getElem? (l ++ (x ∷ r)) (length l) ≡ some x
   getElem?-seam [] x r = refl
@@ -607,42 +502,6 @@ module _ {A : Type 0} where
       let r = mem-of-selectFrom p 0 l m in
       let t : p (r .0) x ≡ true = rw (zero-add (r .0)) at (r .2) in (r .0, r .1, t)
 
-  pub selectFrom-append : (p : ℕ → A → Bool) (i : ℕ) (a b : List A) → selectFrom p i (a ++ b) ≡ selectFrom p i a ++ selectFrom p (i + length a) b
-  unfolding selectFrom
-  selectFrom-append p i [] b = rw (add-zero i)
-  selectFrom-append p i (x ∷ a) b =
-      let t : selectFrom p (suc i) (a ++ b) ≡ selectFrom p (suc i) a ++ selectFrom p (i + suc (length a)) b =
-      rw (add-suc i (length a), ← suc-add i (length a)) (selectFrom-append p (suc i) a b)
-      in
-      elim (true-or-false (p i x)) [
-        | inl e ↦ rw e (ap₂ _∷_ refl t)
-        | inr e ↦ rw e t
-      ]
-
-  pub selectFrom-ext : (p q : ℕ → A → Bool) (i : ℕ) (l : List A) → ((k : ℕ) (x : A) → getElem? l k ≡ some x → p (i + k) x ≡ q (i + k) x) → selectFrom p i l ≡ selectFrom q i l
-  unfolding selectFrom
-  selectFrom-ext p q i [] h = refl
-  selectFrom-ext p q i (x ∷ l) h =
-      let e : p i x ≡ q i x = rw (add-zero i) at (h 0 x refl) in
-      let t : selectFrom p (suc i) l ≡ selectFrom q (suc i) l =
-      selectFrom-ext p q (suc i) l (λ k y g. rw (suc-add i k, ← add-suc i k) (h (suc k) y g))
-      in
-      rw (e, t)
-
-  pub selectFrom-const : (p : A → Bool) (i : ℕ) (l : List A) → selectFrom (λ k. p) i l ≡ select p l
-  unfolding selectFrom select
-  selectFrom-const p i [] = refl
-  selectFrom-const p i (x ∷ l) = rw (selectFrom-const p (suc i) l)
-
-  pub select-selectFrom : (q : A → Bool) (p : ℕ → A → Bool) (i : ℕ) (l : List A) → select q (selectFrom p i l) ≡ selectFrom (λ k x. p k x && q x) i l
-  unfolding selectFrom select
-  select-selectFrom q p i [] = refl
-  select-selectFrom q p i (x ∷ l) =
-      elim (true-or-false (p i x)) [
-        | inl e ↦ rw (e, select-selectFrom q p (suc i) l)
-        | inr e ↦ rw e (select-selectFrom q p (suc i) l)
-      ]
-
   -- how many elements pass
   unfoldable pub countOf : (A → Bool) → List A → ℕ
   countOf p l = length (select p l)
@@ -650,10 +509,6 @@ module _ {A : Type 0} where
   pub countOf-le : (p : A → Bool) (l : List A) → countOf p l ≤ length l
   unfolding countOf
   countOf-le p l = select-length-le p l
-
-  pub countOf-append : (p : A → Bool) (a b : List A) → countOf p (a ++ b) ≡ countOf p a + countOf p b
-  unfolding countOf
-  countOf-append p a b = rw (select-append p a b) (length-append (select p a) (select p b))
 
   pub countOf-yes : (p : A → Bool) (x : A) (l : List A) → p x ≡ true → countOf p (x ∷ l) ≡ suc (countOf p l)
   unfolding countOf
@@ -663,17 +518,6 @@ module _ {A : Type 0} where
   unfolding countOf
   countOf-no p x l e = ap length (select-no p x l e)
 
-  pub countOf-mono : (p q : A → Bool) (l : List A) → ((x : A) → List·Memᴰ x l → p x ≡ true → q x ≡ true) → countOf p l ≤ countOf q l
-  unfolding countOf select
-  countOf-mono p q [] f = zero-le
-  countOf-mono p q (x ∷ l) f = go (true-or-false (p x)) (true-or-false (q x)) (countOf-mono p q l (λ y m. f y (List·Memᴰ·tail m)))
-    where
-      go : (p x ≡ true) ⊎ (p x ≡ false) → (q x ≡ true) ⊎ (q x ≡ false) → countOf p l ≤ countOf q l → countOf p (x ∷ l) ≤ countOf q (x ∷ l)
-      go (inl h) (inl k) r = rw (countOf-yes p x l h, countOf-yes q x l k) (suc-le-suc r)
-      go (inl h) (inr k) r = absurd (clash (f x (List·Memᴰ·head refl) h) k)
-      go (inr h) (inl k) r = rw (countOf-no p x l h, countOf-yes q x l k) (omega arith)
-      go (inr h) (inr k) r = rw (countOf-no p x l h, countOf-no q x l k) r
-
   -- an element that fails leaves the count below the length
   pub countOf-lt : (p : A → Bool) {l : List A} {x : A} → List·Memᴰ x l → p x ≡ false → countOf p l < length l
   countOf-lt p (List·Memᴰ·head {x = y} {xs} e) h = rw (countOf-no p y xs (rw e at h)) (suc-le-suc (countOf-le p xs))
@@ -682,10 +526,6 @@ module _ {A : Type 0} where
       go : (p y ≡ true) ⊎ (p y ≡ false) → countOf p xs < length xs → countOf p (y ∷ xs) < length (y ∷ xs)
       go (inl k) r = rw (countOf-yes p y xs k) (suc-le-suc r)
       go (inr k) r = rw (countOf-no p y xs k) (omega arith)
-
-  pub countOf-all : (p : A → Bool) (l : List A) → every p l ≡ true → countOf p l ≡ length l
-  unfolding countOf
-  countOf-all p l h = ap length (select-all p l h)
 
   -- one element changed
   pub countOf-set-same : (p : A → Bool) (l : List A) (i : ℕ) (a d : A) → p (getD l i d) ≡ p a → countOf p (set l i a) ≡ countOf p l
@@ -712,10 +552,6 @@ module _ {A : Type 0} where
       go (inl k) r = countOf-yes p x (set l i a) k ∙ ap suc (r ∙ sym (countOf-yes p x l k))
       go (inr k) r = countOf-no p x (set l i a) k ∙ r ∙ ap suc (sym (countOf-no p x l k))
 
-  pub countOf-ext : (p q : A → Bool) (l : List A) → ((x : A) → List·Memᴰ x l → p x ≡ q x) → countOf p l ≡ countOf q l
-  unfolding countOf
-  countOf-ext p q l h = ap length (select-ext p q l h)
-
 module _ {A B : Type 0} where
   -- maps
   pub mem-map : (f : A → B) {l : List A} {x : A} → List·Memᴰ x l → List·Memᴰ (f x) (map f l)
@@ -730,20 +566,6 @@ module _ {A B : Type 0} where
         | inr t ↦ let r = mem-of-map f l t in (r .0, List·Memᴰ·tail (r .1), r .2)
       ]
 
-  pub map-append : (f : A → B) (a b : List A) → map f (a ++ b) ≡ map f a ++ map f b
-  map-append f [] b = refl
-  map-append f (x ∷ a) b = ap₂ _∷_ refl (map-append f a b)
-
-  pub map-take : (f : A → B) (k : ℕ) (l : List A) → map f (take k l) ≡ take k (map f l)
-  map-take f zero l = refl
-  map-take f (suc k) [] = refl
-  map-take f (suc k) (x ∷ l) = ap₂ _∷_ refl (map-take f k l)
-
-  pub map-drop : (f : A → B) (k : ℕ) (l : List A) → map f (drop k l) ≡ drop k (map f l)
-  map-drop f zero l = refl
-  map-drop f (suc k) [] = refl
-  map-drop f (suc k) (x ∷ l) = map-drop f k l
-
   pub map-ext : (f g : A → B) (l : List A) → ((x : A) → List·Memᴰ x l → f x ≡ g x) → map f l ≡ map g l
   map-ext f g [] h = refl
   map-ext f g (x ∷ l) h = ap₂ _∷_ (h x (List·Memᴰ·head refl)) (map-ext f g l (λ y m. h y (List·Memᴰ·tail m)))
@@ -753,26 +575,10 @@ module _ {A B : Type 0} where
   map-tab g zero f = refl
   map-tab g (suc n) f = ap₂ _∷_ refl (map-tab g n (λ i. f (suc i)))
 
-  pub map-set : (f : A → B) (l : List A) (i : ℕ) (a : A) → map f (set l i a) ≡ set (map f l) i (f a)
-  map-set f [] i a = refl
-  map-set f (x ∷ l) zero a = refl
-  map-set f (x ∷ l) (suc i) a = ap₂ _∷_ refl (map-set f l i a)
-
-  pub map-insertAt : (f : A → B) (i : ℕ) (x : A) (l : List A) → map f (insertAt i x l) ≡ insertAt i (f x) (map f l)
-  unfolding insertAt
-  map-insertAt f zero x l = refl
-  map-insertAt f (suc i) x [] = refl
-  map-insertAt f (suc i) x (y ∷ l) = ap₂ _∷_ refl (map-insertAt f i x l)
-
   pub every-map : (p : B → Bool) (f : A → B) (l : List A) → every p (map f l) ≡ every (λ x. p (f x)) l
   unfolding every
   every-map p f [] = refl
   every-map p f (x ∷ l) = ap (λ (b : Bool). p (f x) && b) (every-map p f l)
-
-  pub any-map : (p : B → Bool) (f : A → B) (l : List A) → any p (map f l) ≡ any (λ x. p (f x)) l
-  unfolding any
-  any-map p f [] = refl
-  any-map p f (x ∷ l) = ap (λ (b : Bool). p (f x) || b) (any-map p f l)
 
   pub select-map : (p : B → Bool) (f : A → B) (l : List A) → select p (map f l) ≡ map f (select (λ x. p (f x)) l)
   unfolding select
@@ -782,11 +588,6 @@ module _ {A B : Type 0} where
         | inl e ↦ rw e (ap₂ _∷_ refl (select-map p f l))
         | inr e ↦ rw e (select-map p f l)
       ]
-
-  pub leading-map : (p : B → Bool) (f : A → B) (l : List A) → leading p (map f l) ≡ leading (λ x. p (f x)) l
-  unfolding leading
-  leading-map p f [] = refl
-  leading-map p f (x ∷ l) = rw (leading-map p f l)
 
   pub getElem?-map : (f : A → B) (l : List A) (i : ℕ) {x : A} → getElem? l i ≡ some x → getElem? (map f l) i ≡ some (f x)
   getElem?-map f [] i {x} e = let z : _≡_ {A = ℕ} 0 1 = cc in absurd (omega arith)
@@ -799,23 +600,11 @@ module _ {A B : Type 0} where
   joined-append f [] b = refl
   joined-append f (x ∷ a) b = rw (joined-append f a b, append-assoc)
 
-  pub joined-ext : (f g : A → List B) (l : List A) → ((x : A) → List·Memᴰ x l → f x ≡ g x) → joined f l ≡ joined g l
-  unfolding joined
-  joined-ext f g [] h = refl
-  joined-ext f g (x ∷ l) h = ap₂ _++_ (h x (List·Memᴰ·head refl)) (joined-ext f g l (λ y m. h y (List·Memᴰ·tail m)))
-
   pub joined-insertAt : (f : A → List B) (i : ℕ) (x : A) (l : List A) → joined f (insertAt i x l) ≡ joined f (take i l) ++ (f x ++ joined f (drop i l))
   unfolding joined insertAt
   joined-insertAt f i x l = joined-append f (take i l) (x ∷ drop i l)
 
-  -- pieces that all have one length, or at most that length
-  pub length-joined : (f : A → List B) (l : List A) (k : ℕ) → ((x : A) → List·Memᴰ x l → length (f x) ≡ k) → length (joined f l) ≡ length l * k
-  unfolding joined
-  length-joined f [] k h = sym (zero-mul k)
-  length-joined f (x ∷ l) k h =
-      let r : length (joined f l) ≡ length l * k = length-joined f l k (λ y m. h y (List·Memᴰ·tail m)) in
-      omega (arith, length-append (f x) (joined f l), h x (List·Memᴰ·head refl), suc-mul (length l) k)
-
+  -- pieces of at most one length
   pub length-joined-le : (f : A → List B) (l : List A) (k : ℕ) → ((x : A) → List·Memᴰ x l → length (f x) ≤ k) → length (joined f l) ≤ length l * k
   unfolding joined
   length-joined-le f [] k h = zero-le
@@ -828,11 +617,6 @@ module _ {A B C : Type 0} where
   map-map g f [] = refl
   map-map g f (x ∷ l) = ap₂ _∷_ refl (map-map g f l)
 
-  pub joined-map : (g : B → List C) (f : A → B) (l : List A) → joined g (map f l) ≡ joined (λ x. g (f x)) l
-  unfolding joined
-  joined-map g f [] = refl
-  joined-map g f (x ∷ l) = ap (λ (r : List C). g (f x) ++ r) (joined-map g f l)
-
 -- the largest number
 pub largest-mem : {l : List ℕ} {x : ℕ} → List·Memᴰ x l → x ≤ largest l
 unfolding largest
@@ -844,40 +628,9 @@ unfolding largest
 largest-le [] b h = zero-le
 largest-le (x ∷ l) b h = omega (arith, h x (List·Memᴰ·head refl), largest-le l b (λ y m. h y (List·Memᴰ·tail m)))
 
-pub largest-append : (a b : List ℕ) → largest (a ++ b) ≡ max (largest a) (largest b)
-unfolding largest
-largest-append [] b = omega arith
-largest-append (x ∷ a) b = omega (arith, largest-append a b)
-
--- it is 0 or one of them
-pub largest-cases : (l : List ℕ) → (largest l ≡ 0) ⊎ List·Memᴰ (largest l) l
-unfolding largest
-largest-cases [] = inl refl
-largest-cases (x ∷ l) = go (largest-cases l) (lt-or-ge (largest l) x)
-  where
-    go : (largest l ≡ 0) ⊎ List·Memᴰ (largest l) l → (largest l < x) ⊎ (x ≤ largest l) → (max x (largest l) ≡ 0) ⊎ List·Memᴰ (max x (largest l)) (x ∷ l)
-    go c (inl h) = let q : max x (largest l) ≡ x = omega arith in inr (List·Memᴰ·head q)
-    go (inl e) (inr h) = inl (omega arith)
-    go (inr m) (inr h) =
-        let q : max x (largest l) ≡ largest l = omega arith in
-        let t : List·Memᴰ (max x (largest l)) l = rw q m in
-        inr (List·Memᴰ·tail t)
-
 module _ {A : Type 0} where
   pub largest-map-mem : (f : A → ℕ) {l : List A} {x : A} → List·Memᴰ x l → f x ≤ largest (map f l)
   largest-map-mem f m = largest-mem (mem-map f m)
-
-  pub largest-map-le : (f : A → ℕ) (l : List A) (b : ℕ) → ((x : A) → List·Memᴰ x l → f x ≤ b) → largest (map f l) ≤ b
-  unfolding largest
-  largest-map-le f [] b h = zero-le
-  largest-map-le f (x ∷ l) b h =
-      omega (arith, h x (List·Memᴰ·head refl), largest-map-le f l b (λ y m. h y (List·Memᴰ·tail m)))
-
-  pub largest-map-mono : (f g : A → ℕ) (l : List A) → ((x : A) → List·Memᴰ x l → f x ≤ g x) → largest (map f l) ≤ largest (map g l)
-  unfolding largest
-  largest-map-mono f g [] h = zero-le
-  largest-map-mono f g (x ∷ l) h =
-      omega (arith, h x (List·Memᴰ·head refl), largest-map-mono f g l (λ y m. h y (List·Memᴰ·tail m)))
 
 -- the test that two lists are the same
 pub sameList-true : (a b : List ℕ) → sameList a b ≡ true → a ≡ b
@@ -900,18 +653,6 @@ sameList-eq {a} {b} e = rw e (sameList-refl b)
 pub length-padded : (n : ℕ) (l : List ℕ) → length l ≤ n → length (padded n l) ≡ n
 unfolding padded
 length-padded n l h = omega (arith, length-append l (replicate (n - length l) 0), length-replicate {A = ℕ} (n - length l) 0)
-
-pub take-padded : (n : ℕ) (l : List ℕ) → take (length l) (padded n l) ≡ l
-unfolding padded
-take-padded n l = take-append-seam l (replicate (n - length l) 0)
-
-pub take-padded-le : (n k : ℕ) (l : List ℕ) → k ≤ length l → take k (padded n l) ≡ take k l
-unfolding padded
-take-padded-le n k l h = take-append-le k l (replicate (n - length l) 0) h
-
-pub drop-padded : (n : ℕ) (l : List ℕ) → drop (length l) (padded n l) ≡ replicate (n - length l) 0
-unfolding padded
-drop-padded n l = drop-append-seam l (replicate (n - length l) 0)
 
 pub getD-zeros : (n i : ℕ) → _≡_ {A = ℕ} (getD (replicate n 0) i 0) 0
 getD-zeros zero i = refl

@@ -4,8 +4,8 @@ use Prim.Native.Nat.{ℕ, zero, suc, _+_, _*_, _-_, _/_, _%_, _≤_, _<_, zero-l
 use Prim.Native.Nat.{compare, Ordering·lt, Ordering·eq, Ordering·gt}
 use Prim.Native.Nat.{compare·zero-zero, compare·zero-suc, compare·suc-zero, compare·suc-suc}
 use native.Mathlib.Omega.{arith}
-use native.Mathlib.Nat.{suc-inj, suc-ne-zero, not-suc-le-zero, le-of-suc-le-suc, add-zero, add-suc, zero-add, suc-add}
-use native.Mathlib.Nat.{mul-suc, mul-le-mul-left, div-add-mod, mod-lt, mod-add-mod, add-mod-mod, mod-eq-of-lt, add-mul-mod-self-left}
+use native.Mathlib.Nat.{suc-inj, suc-ne-zero, not-suc-le-zero, le-of-suc-le-suc, add-zero, add-suc}
+use native.Mathlib.Nat.{mul-suc, mul-le-mul-left, div-add-mod, mod-lt, mod-add-mod, mod-eq-of-lt, add-mul-mod-self-left}
 use mathlib.Core.Bool.{Bool, true, false, _&&_, _||_, not, cond, true≢false}
 use mathlib.Core.Logic.{_⊎_, inl, inr}
 use mathlib.Core.Path.{_≡_, refl, sym, ap, _∙_}
@@ -54,53 +54,10 @@ compare-gt {a = suc a} {b = suc b} h = compare·suc-suc a b ∙ compare-gt (le-o
 pub compare-eq : {a b : ℕ} → a ≡ b → compare a b ≡ Ordering·eq
 compare-eq {a} {b} e = rw (← e) (compare-refl a)
 
--- and what follows from its answer
-pub lt-of-compare : (a b : ℕ) → compare a b ≡ Ordering·lt → a < b
-lt-of-compare a b e = go (lt-or-ge a b) (lt-or-ge b a)
-  where
-    go : (a < b) ⊎ (b ≤ a) → (b < a) ⊎ (a ≤ b) → a < b
-    go (inl h) m = h
-    go (inr h) (inl k) =
-        let q : compare a b ≡ Ordering·gt = compare-gt k in
-        let z : _≡_ {A = ℕ} 0 1 = cc in omega arith
-    go (inr h) (inr k) =
-        let s : a ≡ b = omega arith in
-        let q : compare a b ≡ Ordering·eq = compare-eq s in
-        let z : _≡_ {A = ℕ} 0 1 = cc in omega arith
-
-pub eq-of-compare : (a b : ℕ) → compare a b ≡ Ordering·eq → a ≡ b
-eq-of-compare a b e = go (lt-or-ge a b) (lt-or-ge b a)
-  where
-    go : (a < b) ⊎ (b ≤ a) → (b < a) ⊎ (a ≤ b) → a ≡ b
-    go (inl h) m =
-        let q : compare a b ≡ Ordering·lt = compare-lt h in
-        let z : _≡_ {A = ℕ} 0 1 = cc in omega arith
-    go (inr h) (inl k) =
-        let q : compare a b ≡ Ordering·gt = compare-gt k in
-        let z : _≡_ {A = ℕ} 0 1 = cc in omega arith
-    go (inr h) (inr k) = omega arith
-
-pub gt-of-compare : (a b : ℕ) → compare a b ≡ Ordering·gt → b < a
-gt-of-compare a b e = go (lt-or-ge a b) (lt-or-ge b a)
-  where
-    go : (a < b) ⊎ (b ≤ a) → (b < a) ⊎ (a ≤ b) → b < a
-    go (inl h) m =
-        let q : compare a b ≡ Ordering·lt = compare-lt h in
-        let z : _≡_ {A = ℕ} 0 1 = cc in omega arith
-    go (inr h) (inl k) = k
-    go (inr h) (inr k) =
-        let s : a ≡ b = omega arith in
-        let q : compare a b ≡ Ordering·eq = compare-eq s in
-        let z : _≡_ {A = ℕ} 0 1 = cc in omega arith
-
 -- the same added on both sides changes nothing
 pub compare-add : (x y k : ℕ) → compare (x + k) (y + k) ≡ compare x y
 compare-add x y zero = rw (add-zero x, add-zero y)
 compare-add x y (suc k) = rw (add-suc x k, add-suc y k, compare·suc-suc) (compare-add x y k)
-
-pub compare-add-left : (k x y : ℕ) → compare (k + x) (k + y) ≡ compare x y
-compare-add-left zero x y = rw (zero-add x, zero-add y)
-compare-add-left (suc k) x y = rw (suc-add k x, suc-add k y, compare·suc-suc) (compare-add-left k x y)
 
 -- tests
 pub true-or-false : (b : Bool) → (b ≡ true) ⊎ (b ≡ false)
@@ -167,10 +124,6 @@ pub false-of-no : (b : Bool) → (b ≡ true → ⊥) → b ≡ false
 false-of-no true h = absurd (h refl)
 false-of-no false h = refl
 
-pub true-of-no : (b : Bool) → (b ≡ false → ⊥) → b ≡ true
-true-of-no true h = refl
-true-of-no false h = absurd (h refl)
-
 -- two tests that follow from one another are equal
 pub same-test : (a b : Bool) → (a ≡ true → b ≡ true) → (b ≡ true → a ≡ true) → a ≡ b
 same-test true b f g = sym (f refl)
@@ -213,9 +166,6 @@ within-intro {lo} {hi} {x} h k = and-intro (le-leb lo x h) (le-leb x hi k)
 -- remainders
 pub mod-add-left : (a b B : ℕ) → (a % B + b) % B ≡ (a + b) % B
 mod-add-left a b B = mod-add-mod a B b
-
-pub mod-add-right : (a b B : ℕ) → (a + b % B) % B ≡ (a + b) % B
-mod-add-right a b B = add-mod-mod a b B
 
 -- two numbers of one window as long as the divisor, with the same remainder, are equal
 pub eq-in-window : (B a b : ℕ) → a ≤ b → b < a + B → a % B ≡ b % B → a ≡ b

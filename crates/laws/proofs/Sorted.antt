@@ -15,7 +15,7 @@ use borrow.Author.Tests.{eqb-true, eqb-false, eq-eqb, ne-eqb}
 use Rattle.laws.specs.Lists.{every, any, select, selectFrom, leading, insertAt, chained, apart}
 use Rattle.laws.specs.Lex.{isLess, lexCompare}
 use Rattle.laws.proofs.Numbers.{lt-or-ge, true-or-false, clash, and-intro, and-left, and-right, not-of-true, not-of-false, false-of-not, false-of-no}
-use Rattle.laws.proofs.Lists.{every-index, every-of-index, every-mem, every-of-mem, every-mono, every-mono-mem, every-take, every-select, every-append-intro, every-append-left, every-append-right, every-insertAt, every-map, every-ext}
+use Rattle.laws.proofs.Lists.{every-index, every-of-index, every-mem, every-of-mem, every-mono, every-mono-mem, every-take, every-select, every-append-intro, every-append-right, every-insertAt, every-map, every-ext}
 use Rattle.laws.proofs.Lists.{any-false, any-of-false, mem-of-take, mem-of-drop, mem-of-select, select-all, select-none, mem-of-selectFrom}
 use Rattle.laws.proofs.Lex.{isLess-lt, lt-isLess, lex-irrefl, lex-trans, lex-total}
 
@@ -90,16 +90,6 @@ module _ {A : Type 0} (r : A → A → Bool) where
       (every-append-intro (r x) a b (pairwise-head x a h) (every-of-mem (r x) b (λ y m. f x y (List·Memᴰ·head refl) m)))
       (pairwise-append a b (pairwise-tail x a h) k (λ y z m n. f y z (List·Memᴰ·tail m) n))
 
-  pub pairwise-append-left : (a b : List A) → pairwise r (a ++ b) ≡ true → pairwise r a ≡ true
-  unfolding pairwise
-  pairwise-append-left [] b h = refl
-  pairwise-append-left (x ∷ a) b h =
-      and-intro (every-append-left (r x) a b (pairwise-head x (a ++ b) h)) (pairwise-append-left a b (pairwise-tail x (a ++ b) h))
-
-  pub pairwise-append-right : (a b : List A) → pairwise r (a ++ b) ≡ true → pairwise r b ≡ true
-  pairwise-append-right [] b h = h
-  pairwise-append-right (x ∷ a) b h = pairwise-append-right a b (pairwise-tail x (a ++ b) h)
-
   pub pairwise-across : (a b : List A) {x y : A} → pairwise r (a ++ b) ≡ true → List·Memᴰ x a → List·Memᴰ y b → r x y ≡ true
   pairwise-across [] b h m n = absurd (List·Memᴰ·not-nil m)
   pairwise-across (z ∷ a) b {x} {y} h m n =
@@ -159,19 +149,6 @@ module _ {A : Type 0} (r : A → A → Bool) where
       let a : r x y ≡ true = and-left (r x y) (chained r (y ∷ l)) h in
       let t : pairwise r (y ∷ l) ≡ true = pairwise-of-chained f (y ∷ l) (and-right (r x y) (chained r (y ∷ l)) h) in
       and-intro (and-intro a (every-mono (r y) (r x) l (λ z e. f x y z a e) (pairwise-head y l t))) t
-
-  -- two elements that are not in the relation, either way round, are the same element
-  pub pairwise-member : {l : List A} {x y : A} → pairwise r l ≡ true → List·Memᴰ x l → List·Memᴰ y l → (x ≡ y) ⊎ ((r x y ≡ true) ⊎ (r y x ≡ true))
-  pairwise-member {x} {y} h (List·Memᴰ·head {x = z} {xs} e) n =
-      elim (List·Memᴰ·cases-cons n) [
-        | inl q ↦ inl (e ∙ sym q)
-        | inr t ↦ inr (inl (rw e (every-mem (r z) (pairwise-head z xs h) t)))
-      ]
-  pairwise-member {x} {y} h (List·Memᴰ·tail {x = z} {xs} m) n =
-      elim (List·Memᴰ·cases-cons n) [
-        | inl q ↦ inr (inr (rw q (every-mem (r z) (pairwise-head z xs h) m)))
-        | inr t ↦ pairwise-member (pairwise-tail z xs h) m t
-      ]
 
 module _ {A : Type 0} where
   pub pairwise-ext : (r s : A → A → Bool) (l : List A) → ((x y : A) → List·Memᴰ x l → List·Memᴰ y l → r x y ≡ s x y) → pairwise r l ≡ pairwise s l
@@ -233,12 +210,6 @@ module _ {A : Type 0} (key : A → List ℕ) where
 
   pub sorted-select : (p : A → Bool) (l : List A) → Sorted key l → Sorted key (select p l)
   sorted-select p l h = pairwise-select (lessBy key) p l h
-
-  pub sorted-take : (k : ℕ) (l : List A) → Sorted key l → Sorted key (take k l)
-  sorted-take k l h = pairwise-take (lessBy key) k l h
-
-  pub sorted-drop : (k : ℕ) (l : List A) → Sorted key l → Sorted key (drop k l)
-  sorted-drop k l h = pairwise-drop (lessBy key) k l h
 
   pub sorted-tail : (x : A) (l : List A) → Sorted key (x ∷ l) → Sorted key l
   sorted-tail x l h = pairwise-tail (lessBy key) x l h
@@ -335,9 +306,6 @@ module _ {A : Type 0} where
   pub sorted-map : {B : Type 0} (key : A → List ℕ) (f : B → A) (l : List B) → Sorted (λ x. key (f x)) l → Sorted key (map f l)
   sorted-map key f l h = pairwise-map (lessBy key) f l ∙ h
 
-  pub sorted-of-map : {B : Type 0} (key : A → List ℕ) (f : B → A) (l : List B) → Sorted key (map f l) → Sorted (λ x. key (f x)) l
-  sorted-of-map key f l h = sym (pairwise-map (lessBy key) f l) ∙ h
-
 -- no two elements alike
 module _ {A : Type 0} (same : A → A → Bool) where
   not-any : (p : A → Bool) (l : List A) → not (any p l) ≡ every (λ x. not (p x)) l
@@ -379,12 +347,6 @@ module _ {A : Type 0} (same : A → A → Bool) where
   pub apart-select : (p : A → Bool) (l : List A) → apart same l ≡ true → apart same (select p l) ≡ true
   apart-select p l h = apart-of-pairwise (select p l) (pairwise-select (λ x y. not (same x y)) p l (pairwise-of-apart l h))
 
-  pub apart-take : (k : ℕ) (l : List A) → apart same l ≡ true → apart same (take k l) ≡ true
-  apart-take k l h = apart-of-pairwise (take k l) (pairwise-take (λ x y. not (same x y)) k l (pairwise-of-apart l h))
-
-  pub apart-drop : (k : ℕ) (l : List A) → apart same l ≡ true → apart same (drop k l) ≡ true
-  apart-drop k l h = apart-of-pairwise (drop k l) (pairwise-drop (λ x y. not (same x y)) k l (pairwise-of-apart l h))
-
   -- where alike is symmetric, a new element may be put in anywhere
   pub apart-insertAt : ((x y : A) → same x y ≡ same y x) → (i : ℕ) (f : A) (l : List A) → any (same f) l ≡ false → apart same l ≡ true → apart same (insertAt i f l) ≡ true
   apart-insertAt s i f l e h =
@@ -399,18 +361,6 @@ module _ {A : Type 0} (same : A → A → Bool) where
   apart-append a b h k f =
       apart-of-pairwise (a ++ b)
       (pairwise-append (λ x y. not (same x y)) a b (pairwise-of-apart a h) (pairwise-of-apart b k) (λ x y m n. not-of-false (f x y m n)))
-
-  -- two members that are alike are one
-  pub apart-unique : ((x y : A) → same x y ≡ same y x) → {l : List A} {x y : A} → apart same l ≡ true → List·Memᴰ x l → List·Memᴰ y l → same x y ≡ true → x ≡ y
-  apart-unique s {l} {x} {y} h m n e =
-      elim (pairwise-member (λ a b. not (same a b)) (pairwise-of-apart l h) m n) [
-        | inl q ↦ q
-        | inr q ↦
-            elim q [
-              | inl t ↦ absurd (clash e (false-of-not (same x y) t))
-              | inr t ↦ absurd (clash (sym (s x y) ∙ e) (false-of-not (same y x) t))
-            ]
-      ]
 
 -- how many there can be
 module _ {A : Type 0} where

@@ -10,12 +10,13 @@ use mathlib.Core.List.{List}
 use lib.ListN.{length, drop, getD, set, replicate, length-append, length-drop, length-set, length-replicate, List·getD-eq-default}
 use lib.Dec.{leb, ltb, eqb}
 use lib.Seq.{getD-drop, getD-set-same, getD-set-other}
-use borrow.Author.Tests.{le-leb, lt-leb, leb-true, ltb-true, lt-ltb, eqb-true, eq-eqb}
+use borrow.Author.Tests.{le-leb, lt-leb, leb-true, lt-ltb, eq-eqb}
 use Rattle.laws.specs.Lists.{tab, padded}
 use Rattle.laws.proofs.Numbers.{lt-or-ge, eq-or-ne, and-intro, and-left, and-right}
 use Rattle.laws.proofs.Lists.{length-tab, getD-tab, getD-tab-out, tab-getD, tab-ext, every-index, every-of-index, getD-zeros, getD-append-zeros, getD-padded}
 use Rattle.model.specs.Setup.{width, widest}
 use Rattle.model.specs.Timestamp.{Timestamp, countAt, sum, atMost, soundTimestamp, soundTables, shift, step, replaced, absorb, countOwn, trimmed, widened, fresh}
+use Rattle.model.specs.Order.{countsDown}
 use Rattle.lemmas.proofs.Bounds.{Sound, Opened}
 
 -- counts outside the window read 0
@@ -120,11 +121,6 @@ tables-rest : (n epsilon B v : ℕ) (t : Timestamp) → soundTables n epsilon B 
 unfolding soundTables
 tables-rest n epsilon B v t h = and-right (soundTimestamp n epsilon t) _ h
 
-pub tables-r : (n epsilon B v : ℕ) (t : Timestamp) → soundTables n epsilon B v t ≡ true → (t .r < B) × ((t .r + 1) % B ≡ v)
-tables-r n epsilon B v t h =
-    let rest = tables-rest n epsilon B v t h in
-    (ltb-true (t .r) B (and-left _ _ rest), eqb-true ((t .r + 1) % B) v (and-left _ _ (and-right (ltb (t .r) B) _ rest)))
-
 pub tables-sound : (n epsilon B v : ℕ) (t : Timestamp) → soundTables n epsilon B v t ≡ true → soundTimestamp n epsilon t ≡ true
 unfolding soundTables
 tables-sound n epsilon B v t h = and-left (soundTimestamp n epsilon t) _ h
@@ -146,6 +142,15 @@ trimmed-widened epsilon t h w =
     tab-ext (width epsilon) (λ i. getD (padded widest (t .kn)) i 0) (λ i. getD (t .kn) i 0) (λ i k. getD-padded widest (t .kn) i)
     ∙ tab-getD (width epsilon) (t .kn) 0 w in
     λ i. record { r = t .r; c = t .c; kn = e i }
+
+pub trimmed-same : (epsilon : ℕ) (t : Timestamp) → length (t .kn) ≡ width epsilon → trimmed epsilon t ≡ t
+unfolding trimmed
+trimmed-same epsilon t w = ap (λ (l : List ℕ). record { r = t .r; c = t .c; kn = l }) (tab-getD (width epsilon) (t .kn) 0 w)
+
+-- the counts in the order of two timestamps
+pub length-down : (epsilon : ℕ) (t : Timestamp) → length (countsDown epsilon t) ≡ epsilon
+unfolding countsDown
+length-down epsilon t = length-tab epsilon (λ k. getD (t .kn) (epsilon + t .c - k) 0)
 
 -- counts one offset further down
 pub shift-at : (kn : List ℕ) (i : ℕ) → getD (shift 1 kn) i 0 ≡ getD kn (1 + i) 0
@@ -227,20 +232,6 @@ absorb-count epsilon B v R reading t f wide e w lo hi =
     count-index v (absorb epsilon B t reading f .kn) w (w - v) (omega arith)
     ∙ absorb-at epsilon B reading t f (w - v) (omega arith)
     ∙ rw (count-index v (t .kn) w (w - v) (omega arith), count-moved reading R (f .kn) (B + (w - v)) w (omega arith))
-
--- and everywhere, in the window or not, no more than the larger
-pub absorb-most : (epsilon B v R reading : ℕ) (t f : Timestamp) → reading + v ≡ B + R → (w : ℕ) → countAt v (absorb epsilon B t reading f .kn) w ≤ max (countAt v (t .kn) w) (countAt R (f .kn) w)
-absorb-most epsilon B v R reading t f e w =
-    elim (lt-or-ge w v) [
-      | inl h ↦ rw (count-below v (absorb epsilon B t reading f .kn) w h) (omega arith)
-      | inr h ↦
-          rw (
-            count-index v (absorb epsilon B t reading f .kn) w (w - v) (omega arith),
-            count-index v (t .kn) w (w - v) (omega arith),
-            ← count-moved reading R (f .kn) (B + (w - v)) w (omega arith),
-          )
-          (absorb-bound (max (getD (t .kn) (w - v) 0) (countAt reading (f .kn) (B + (w - v)))) epsilon B reading t f (w - v) (omega arith) (omega arith))
-    ]
 
 pub absorb-sum : (epsilon B v R reading : ℕ) (t f : Timestamp) → reading + v ≡ B + R → v + absorb epsilon B t reading f .c ≡ max (v + t .c) (max v (R + f .c))
 unfolding absorb sum

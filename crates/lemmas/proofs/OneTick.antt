@@ -13,7 +13,7 @@ use lib.Seq.{getD-append-seam}
 use borrow.Author.Tests.{leb-true, ltb-true}
 use Rattle.laws.specs.Lists.{select, overlay}
 use Rattle.laws.proofs.Numbers.{and-left}
-use Rattle.laws.proofs.Lists.{mem-of-select, take-overlay, select-length-le, getElem?-lt}
+use Rattle.laws.proofs.Lists.{mem-of-select, take-overlay, select-append, select-length-le, getElem?-lt}
 use Rattle.model.specs.Setup.{Setup, width, longestFrame, inLimits, depth}
 use Rattle.model.specs.Timestamp.{Timestamp, sum, trimmed, step, widened, replaced, absorb, soundTables}
 use Rattle.model.specs.Frame.{Frame, encode, decode}
@@ -22,7 +22,7 @@ use Rattle.model.specs.Holdback.{heldBytes, held, notEarly, soundHoldback, enco
 use Rattle.model.specs.Question.{askSetup, firstNo}
 use Rattle.model.specs.Codec.{askPayload}
 use Rattle.model.specs.Judge.{Heard, taken, verdictBy, judge, hearBy, hear, hearOne, judgeQuestions, placeFor, readingOf}
-use Rattle.model.specs.Tick.{Input, Output, holdbackSize, roomy, callQuestions, ownStamp, tablesSound, queueSound, openingStamp, openingQueue, heardOf, newStamp, sentBytes, deliveredOf, keptOf, dueNow, repairOf, acceptance, refusal, tickBy, tick}
+use Rattle.model.specs.Tick.{Input, Output, holdbackSize, roomy, callQuestions, ownStamp, tablesSound, queueSound, openingStamp, openingQueue, heardOf, newStamp, sentBytes, takenCount, deliveredOf, keptOf, dueNow, repairOf, acceptance, refusal, tickBy, tick}
 use Rattle.lemmas.proofs.Bounds.{Limits, Sound, Opened, FrameOk, QueueOk}
 use Rattle.lemmas.proofs.Questions.{first-yes, other-yes, limits-from}
 use Rattle.lemmas.proofs.Counts.{opened-step, opened-replaced, opened-absorb, own-sound, own-tables, trimmed-wide, trimmed-widened}
@@ -288,6 +288,11 @@ hear-length s v h (bytes ∷ rest) =
     let one = hear-one-length s v h bytes in
     let all = hear-length s v (hearOne s v h bytes) rest in
     omega arith
+
+-- a frame more is taken
+pub taken-more : (verdicts : List ℕ) → takenCount (verdicts ++ (0 ∷ [])) ≡ takenCount verdicts + 1
+unfolding takenCount select
+taken-more verdicts = ap length (select-append (λ x. eqb x 0) verdicts (0 ∷ [])) ∙ length-append (select (λ x. eqb x 0) verdicts) (0 ∷ [])
 
 -- what was written stays
 pub hear-keeps : (s : Setup) (v : ℕ) (h : Heard) (entries : List (List ℕ)) (k : ℕ) → k < length (h .verdicts) → getD (hear s v h entries .verdicts) k 0 ≡ getD (h .verdicts) k 0

@@ -1,6 +1,6 @@
 -- What it says that no question gets a no, and the limits of a setup as facts.
 -- Assumes nothing.
-use Prim.Native.Nat.{ℕ, suc, _+_, _*_}
+use Prim.Native.Nat.{ℕ, zero, suc, _+_, _*_}
 use native.Mathlib.Omega.{arith}
 use mathlib.Core.Path.{_≡_, refl}
 use mathlib.Core.Bool.{Bool, true, false}
@@ -10,7 +10,9 @@ use borrow.Author.Tests.{leb-true, ltb-true, le-leb, lt-ltb}
 use Rattle.laws.specs.Lists.{within}
 use Rattle.laws.proofs.Numbers.{and-left, and-right, and-intro, within-low, within-high}
 use Rattle.model.specs.Setup.{Setup, inLimits, leastModulus}
+use Rattle.model.specs.Frame.{decode}
 use Rattle.model.specs.Question.{Question, ask, firstNo}
+use Rattle.model.specs.Codec.{readQuestions, readBy, read}
 use Rattle.lemmas.proofs.Bounds.{Limits}
 
 -- a list with no no: the first question gets a yes, and so do the others
@@ -58,3 +60,12 @@ limits-to s l =
     (and-intro (and-intro (le-leb _ _ (l .epsilon-pos)) (le-leb _ _ (l .epsilon-most)))
     (and-intro (le-leb _ _ (l .delta-most))
     (and-intro (and-intro (le-leb _ _ (l .modulus-least)) (le-leb _ _ (l .modulus-most))) (lt-ltb _ _ (l .own-below)))))
+
+-- the reader's number 0 says that no question got a no
+pub read-number : (s : Setup) (bytes : List ℕ) → read s bytes .number ≡ 0 → firstNo (readQuestions s bytes) ≡ 0
+unfolding read
+read-number s bytes = go (firstNo (readQuestions s bytes))
+  where
+    go : (k : ℕ) → readBy k (decode (s .epsilon) bytes) .number ≡ 0 → k ≡ 0
+    go zero e = refl
+    go (suc k) e = e

@@ -39,14 +39,7 @@ near-reads epsilon B v r e b =
       | inr h ↦ late h (near-behind epsilon B v r e b h)
     ]
 
--- every reading lies in one window of B clocks
-pub near-low : (epsilon B v r : ℕ) → 1 ≤ epsilon → epsilon < B → epsilon ≤ near epsilon B v r
-near-low epsilon B v r e b = go (near-reads epsilon B v r e (omega arith))
-  where
-    go : Reads epsilon B (ahead B v r) (near epsilon B v r) → epsilon ≤ near epsilon B v r
-    go (early h q) = omega arith
-    go (late h q) = omega arith
-
+-- every reading lies below B + epsilon
 pub near-high : (epsilon B v r : ℕ) → 1 ≤ epsilon → epsilon < B → near epsilon B v r < B + epsilon
 near-high epsilon B v r e b = go (near-reads epsilon B v r e (omega arith)) (ahead-below B v r (omega arith))
   where

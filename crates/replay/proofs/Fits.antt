@@ -1,10 +1,10 @@
 -- The lines of any tick have room in 131,072 bytes, where the hold-back queue has at most 65,536. Assumes nothing.
-use Prim.Native.Nat.{ℕ, _+_, _*_, _^_, _≤_, _<_}
+use Prim.Native.Nat.{ℕ, _*_, _^_, _≤_, _<_}
 use native.Mathlib.Omega.{arith}
 use native.Mathlib.Nat.{mul-le-mul-right}
-use mathlib.Core.Path.{_≡_, sym, ap, _∙_}
+use mathlib.Core.Path.{_≡_, ap, _∙_}
 use mathlib.Core.Logic.{⊎-elim}
-use mathlib.Core.List.{List, List·Memᴰ}
+use mathlib.Core.List.{List}
 use lib.ListN.{length, drop, length-append}
 use Rattle.laws.specs.Lists.{joined, overlay}
 use Rattle.laws.proofs.Lists.{length-joined-le, select-length-le}
@@ -17,7 +17,7 @@ use Rattle.lemmas.proofs.Bounds.{Limits, FrameOk}
 use Rattle.lemmas.proofs.RoundTrip.{held-frames}
 use Rattle.lemmas.proofs.Queue.{queue-room}
 use Rattle.lemmas.proofs.OneTick.{Accepted, accepted-call, hearing-end, delivery-is, delivered-frames, delivered-most}
-use Rattle.trace.specs.Text.{payloadText, giveLine, giveText, giveLines, tickLine, tickLines, linesOf}
+use Rattle.trace.specs.Text.{payloadText, giveLine, giveLines, tickLine, tickLines, linesOf}
 use Rattle.trace.proofs.Numerals.{digitCount-le, digitCount-most}
 use Rattle.trace.proofs.Putting.{length-tick, length-give, length-hex, payload-empty, payload-hex}
 use Rattle.replay.specs.Playing.{Ready, textRoom}

@@ -3,34 +3,12 @@
 use mathlib.Core.Path.{_≡_, refl, sym, ap, _∙_}
 use mathlib.Core.List.{List, [], _∷_, _++_, append-assoc}
 use mathlib.Core.Logic.{_⊎_, ⊎-elim}
-use Prim.Native.Nat.{ℕ, zero, suc, _+_, _-_, _≤_, _<_}
-use native.Mathlib.Nat.{add-zero, zero-add, suc-add}
+use Prim.Native.Nat.{ℕ, suc, _+_, _-_, _≤_, _<_}
+use native.Mathlib.Nat.{add-zero}
 use native.Mathlib.Numerals.{add-one}
 use native.Mathlib.Omega.{arith}
-use lib.ListN.{length, take, drop, getD, set, length-append, length-take, length-drop, length-set, length-replicate, replicate-append-replicate, take-append-drop, List·getD-append}
-use lib.Seq.{
-  length-take-le,
-  take-append-le,
-  drop-append-le,
-  drop-append-add,
-  drop-append-seam,
-  take-take,
-  take-at,
-  take-all,
-  take-nil,
-  take-suc,
-  drop-at,
-  drop-drop,
-  drop-length,
-  set-split,
-  getD-take,
-  getD-drop,
-  getD-append-add,
-  slice,
-  slice-empty,
-  slice-cons,
-  length-slice,
-}
+use lib.ListN.{length, take, drop, getD, set, length-append, length-take, length-drop, length-set, length-replicate, replicate-append-replicate, take-append-drop}
+use lib.Seq.{length-take-le, take-append-le, drop-append-le, drop-append-add, take-take, take-at, take-all, take-suc, drop-at, drop-drop, drop-length, set-split, getD-take, getD-drop, slice, slice-empty, slice-cons, length-slice}
 use Rattle.splice.specs.Bytes.{pasted, part, usedFrom, zeros, cleared, inserted, cutOut}
 
 -- a list with nothing pasted into it
@@ -58,12 +36,6 @@ length-part l from n h = simp (length-take, length-drop) (omega arith)
 
 pub getD-part : (l : List ℕ) (from n i : ℕ) → i < n → getD (part l from n) i 0 ≡ getD l (from + i) 0
 getD-part l from n i h = getD-take n (drop from l) i 0 h ∙ getD-drop from l i 0
-
--- a part is what a longer beginning has past a shorter one
-part-take : (l : List ℕ) (from n : ℕ) → part l from n ≡ drop from (take (from + n) l)
-part-take l zero n = ap (λ (k : ℕ). take k l) (sym (zero-add n))
-part-take [] (suc from) n = take-nil n ∙ sym (ap (drop (suc from)) (take-nil (suc from + n)))
-part-take (x ∷ l) (suc from) n = part-take l from n ∙ ap (λ (k : ℕ). drop (suc from) (take k (x ∷ l))) (sym (suc-add from n))
 
 pub length-zeros : (n : ℕ) → length (zeros n) ≡ n
 length-zeros n = length-replicate {A = ℕ} n 0
@@ -102,27 +74,7 @@ module _ (l : List ℕ) (at : ℕ) (s : List ℕ) (h : at ≤ length l) where
       ∙ drop-drop (n - (at + length s)) (at + length s) l
       ∙ ap (λ (m : ℕ). drop m l) (sym e)
 
-  -- the part, or a part of it
-  pub part-pasted : (n k m : ℕ) → n ≡ at + k → k + m ≤ length s → part (pasted l at s) n m ≡ part s k m
-  part-pasted n k m e i =
-      rw (drop-pasted n k e (omega arith)) (take-append-le m (drop k s) (drop (at + length s) l) (simp length-drop (omega arith)))
-
-  -- bytes before it, and past it: as they were
-  pub part-pasted-before : (k m : ℕ) → k + m ≤ at → part (pasted l at s) k m ≡ part l k m
-  part-pasted-before k m i =
-      part-take (pasted l at s) k m ∙ ap (drop k) (take-pasted (k + m) i) ∙ sym (part-take l k m)
-
-  pub part-pasted-after : (k m : ℕ) → at + length s ≤ k → part (pasted l at s) k m ≡ part l k m
-  part-pasted-after k m i = ap (take m) (drop-pasted-after k i)
-
-  -- one byte of the part, one before it, one past it
-  pub getD-pasted : (n k : ℕ) → n ≡ at + k → k < length s → getD (pasted l at s) n 0 ≡ getD s k 0
-  unfolding pasted
-  getD-pasted n k e i =
-      ap (λ (m : ℕ). getD (pasted l at s) m 0) (e ∙ ap (λ (m : ℕ). m + k) (sym (length-take-le at l h)))
-      ∙ getD-append-add (take at l) (s ++ drop (at + length s) l) k 0
-      ∙ List·getD-append s (drop (at + length s) l) 0 k i
-
+  -- one byte before the part, one past it
   pub getD-pasted-before : (k : ℕ) → k < at → getD (pasted l at s) k 0 ≡ getD l k 0
   getD-pasted-before k i =
       sym (getD-take at (pasted l at s) k 0 i) ∙ ap (λ (r : List ℕ). getD r k 0) (take-pasted at (omega arith)) ∙ getD-take at l k 0 i
@@ -163,16 +115,6 @@ module _ (l : List ℕ) (at : ℕ) (s : List ℕ) (p : ℕ) (e : p ≡ at + leng
         drop-pasted l p t h (at + length s) 0 (omega arith) (omega arith),
       )
       (pasted-append l at s t (p + length t) (omega arith))
-
--- the same place pasted twice: the second stays
-pub pasted-over : (l : List ℕ) (at : ℕ) (s t : List ℕ) → at ≤ length l → length s ≡ length t → pasted (pasted l at s) at t ≡ pasted l at t
-pasted-over l at s t h e =
-    rw (
-      pasted-is (pasted l at s) at t,
-      pasted-is l at t,
-      take-pasted l at s h at (omega arith),
-      drop-pasted-after l at s h (at + length t) (omega arith),
-    )
 
 -- a part pasted where it stands: nothing changes
 pub pasted-own : (l : List ℕ) (from to n : ℕ) → to ≡ from → from + n ≤ length l → l ≡ pasted l to (part l from n)
@@ -279,22 +221,6 @@ module _ (l : List ℕ) (used at : ℕ) (s : List ℕ) (h : at ≤ used) (room :
       copied
       ∙ rw moved (pasted-left l at s (at + length s) refl (usedFrom l used at) (omega arith) ∙ sym inserted-pasted)
 
-  end-of-inserted : used + length s ≡ at + length (s ++ usedFrom l used at)
-  end-of-inserted = simp length-append (omega (arith, length-part l at (used - at) (omega arith)))
-
-  pub length-inserted : length (inserted l used at s) ≡ length l
-  length-inserted = rw inserted-pasted (length-pasted l at (s ++ usedFrom l used at) (omega (arith, end-of-inserted)))
-
-  -- the bytes that are in use then
-  pub take-inserted : take (used + length s) (inserted l used at s) ≡ take at l ++ (s ++ usedFrom l used at)
-  take-inserted =
-      rw inserted-pasted (take-pasted-through l at (s ++ usedFrom l used at) (omega arith) (used + length s) end-of-inserted)
-
-  -- those past them: as they were
-  pub drop-inserted : (k : ℕ) → used + length s ≤ k → drop k (inserted l used at s) ≡ drop k l
-  drop-inserted k i =
-      rw inserted-pasted (drop-pasted-after l at (s ++ usedFrom l used at) (omega arith) k (omega (arith, end-of-inserted)))
-
 -- ---- n bytes cut out of the used bytes of l: a paste of the used bytes after them and of zeros
 
 module _ (l : List ℕ) (used at n : ℕ) (h : at + n ≤ used) (room : used ≤ length l) where
@@ -327,25 +253,6 @@ module _ (l : List ℕ) (used at n : ℕ) (h : at + n ≤ used) (room : used ≤
       (append-assoc (usedFrom l used (at + n)) (zeros n) (zeros (to - used))
       ∙ ap (λ (r : List ℕ). usedFrom l used (at + n) ++ r) (replicate-append-replicate n (to - used) 0))
 
-  pub length-cutOut : length (cutOut l used at n) ≡ length l
-  length-cutOut =
-      rw cutOut-pasted (length-pasted l at (usedFrom l used (at + n) ++ zeros n) (omega (arith, end-of-cutOut)))
-
-  -- the bytes that are in use then
-  pub take-cutOut : take (used - n) (cutOut l used at n) ≡ take at l ++ usedFrom l used (at + n)
-  take-cutOut =
-      let moved : List ℕ = pasted l at (usedFrom l used (at + n)) in
-      let long : length moved ≡ length l = length-pasted l at (usedFrom l used (at + n)) (omega (arith, rest-size)) in
-      rw (← cutOut-made {a = moved} refl refl)
-      (take-pasted moved (used - n) (zeros (used - (used - n))) (omega arith) (used - n) (omega arith)
-      ∙ take-pasted-through l at (usedFrom l used (at + n)) (omega arith) (used - n) (omega (arith, rest-size)))
-
-  -- those past what was in use: as they were
-  pub drop-cutOut : (k : ℕ) → used ≤ k → drop k (cutOut l used at n) ≡ drop k l
-  drop-cutOut k i =
-      rw cutOut-pasted
-      (drop-pasted-after l at (usedFrom l used (at + n) ++ zeros n) (omega arith) k (omega (arith, end-of-cutOut)))
-
 -- ---- two bytes stored
 
 pub two-stored : (l : List ℕ) (at a b : ℕ) → at + 2 ≤ length l → set (set l at a) (at + 1) b ≡ pasted l at (a ∷ b ∷ [])
@@ -374,17 +281,4 @@ inserted-pieces a b c s used at e d =
       drop-at a (b ++ c) at e,
       take-at b c (used - at) (omega arith),
       drop-two a b c (used + length s) (length s) (omega arith),
-    )
-
--- m taken out, where a, m and b are in use and c is free
-pub cutOut-pieces : (a m b c : List ℕ) (used at n : ℕ) → length a ≡ at → length m ≡ n → used ≡ at + n + length b
-    → cutOut (a ++ (m ++ (b ++ c))) used at n ≡ a ++ (b ++ (zeros n ++ c))
-unfolding cutOut
-cutOut-pieces a m b c used at n e d u =
-    rw (
-      take-at a (m ++ (b ++ c)) at e,
-      drop-two a m (b ++ c) (at + n) 0 (omega arith),
-      take-at b c (used - (at + n)) (omega arith),
-      drop-two a m (b ++ c) used (length b) (omega arith),
-      drop-append-seam b c,
     )

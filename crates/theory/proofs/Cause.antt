@@ -8,13 +8,13 @@ use mathlib.Core.List.{List, _++_}
 use lib.ListN.{length, getD}
 use Rattle.laws.specs.Lex.{lexCompare}
 use Rattle.laws.proofs.Numbers.{lt-or-ge}
-use Rattle.laws.proofs.Lists.{length-tab, getD-tab}
+use Rattle.laws.proofs.Lists.{getD-tab}
 use Rattle.laws.proofs.Lex.{lex-head-lt, lex-head-eq, lex-append, lex-dominated}
 use Rattle.model.specs.Timestamp.{Timestamp, countAt, sum}
 use Rattle.model.specs.Frame.{Frame}
 use Rattle.model.specs.Order.{key, countsDown}
 use Rattle.lemmas.proofs.Bounds.{Sound}
-use Rattle.lemmas.proofs.Counts.{count-index}
+use Rattle.lemmas.proofs.Counts.{count-index, length-down}
 
 -- entry k of the counts of a key is for the clock k below the sum
 counts-down-at : (epsilon R : ℕ) (t : Timestamp) (k : ℕ) → k < epsilon → getD (countsDown epsilon t) k 0 ≡ countAt R (t .kn) (R + t .c + epsilon - k)
@@ -22,10 +22,6 @@ unfolding countsDown
 counts-down-at epsilon R t k h =
     getD-tab epsilon (λ k. getD (t .kn) (epsilon + t .c - k) 0) k 0 h
     ∙ sym (count-index R (t .kn) (R + t .c + epsilon - k) (epsilon + t .c - k) (omega arith))
-
-pub length-down : (epsilon : ℕ) (t : Timestamp) → length (countsDown epsilon t) ≡ epsilon
-unfolding countsDown
-length-down epsilon t = length-tab epsilon (λ k. getD (t .kn) (epsilon + t .c - k) 0)
 
 -- lists of one length of which the first comes first, whatever follows
 -- general

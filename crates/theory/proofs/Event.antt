@@ -11,7 +11,6 @@ use lib.ListN.{length}
 use borrow.Author.Tests.{eqb-true}
 use Rattle.laws.specs.Lists.{overlay}
 use Rattle.laws.proofs.Numbers.{and-right, mod-add-left}
-use Rattle.laws.proofs.Lists.{tab-getD}
 use Rattle.model.specs.Setup.{Setup, width}
 use Rattle.model.specs.Timestamp.{Timestamp, trimmed, widened, step, countOwn, soundTables, replaced}
 use Rattle.model.specs.Frame.{Frame, encode, decode}
@@ -22,7 +21,7 @@ use Rattle.theory.specs.Premises.{withOwn}
 use Rattle.theory.specs.Demand3.{newTimestamp, written}
 use Rattle.lemmas.proofs.Bounds.{Limits, Sound, Opened, FrameOk}
 use Rattle.lemmas.proofs.Questions.{limits-to}
-use Rattle.lemmas.proofs.Counts.{trimmed-widened, opened-step, opened-replaced, trimmed-wide}
+use Rattle.lemmas.proofs.Counts.{trimmed-widened, opened-step, opened-replaced, trimmed-wide, trimmed-same}
 use Rattle.lemmas.proofs.RoundTrip.{decode-encode, length-encode}
 use Rattle.theory.proofs.Readers.{written-to}
 use Rattle.lemmas.proofs.OneTick.{Accepted, accepted-call, tables-are, sent-is, outgoing-is, new-sound, next-stamp, next-queue, sent-bytes}
@@ -100,10 +99,6 @@ pub event-stamp : (s : Setup) (node : Node) (call : Call) → Due-call s node ca
 unfolding eventFrame frameOf withOwn
 event-stamp s node call c =
     ap (trimmed (s .epsilon)) (tables-stamp s node call c) ∙ trimmed-widened (s .epsilon) (newStamp (inputOf node call)) (limits-at s node call c .epsilon-most) (sound-at s node call c .wide)
-
-pub trimmed-same : (epsilon : ℕ) (t : Timestamp) → length (t .kn) ≡ width epsilon → trimmed epsilon t ≡ t
-unfolding trimmed
-trimmed-same epsilon t h = ap (λ (l : List ℕ). record { r = t .r; c = t .c; kn = l }) (tab-getD (width epsilon) (t .kn) 0 h)
 
 -- the frame, with its stamp named
 event-frame :

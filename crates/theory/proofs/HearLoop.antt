@@ -34,7 +34,7 @@ use Rattle.lemmas.proofs.Queue.{Passed, judged-passed, passed-judged, repeat-ju
 use Rattle.lemmas.proofs.OneTick.{Hearing, hearing-one}
 use Rattle.theory.proofs.Event.{frame-own}
 use Rattle.theory.proofs.Stamps.{early-bounded, absorb-bounded, absorb-under, under-absorb}
-use Rattle.theory.proofs.World.{eventFrame, reached, Bounded, Under, followed, Explained, AllExplained, AllPresent, Event}
+use Rattle.theory.proofs.World.{eventFrame, reached, Bounded, Under, followed, Explained, AllExplained, explained-more, AllPresent, Event}
 
 -- from `from` on a message is heard at the floor or later
 abbrev pub Settles : Setup → ℕ → ℕ → Type 0
@@ -284,12 +284,6 @@ module _ (s : Setup) (floor from own : ℕ) (settles : Settles s floor from) (no
   unfolding withOwn
   arrival-under = arrival-below
 
-  explained-more :
-      (heard heard′ : ℕ → Bool) (f : Frame) → ((j : ℕ) → heard j ≡ true → heard′ j ≡ true) → Explained s from past heard v f
-      → Explained s from past heard′ v f
-  explained-more heard heard′ f more (inl h) = inl h
-  explained-more heard heard′ f more (inr x) = inr (x .0, x .1, x .2, x .3, more (x .0) (x .4), x .5, x .6)
-
   -- a refused entry leaves all as it was
   loop-keep :
       (heard heard′ : ℕ → Bool) (h : Heard) (bytes : List ℕ) (k : ℕ) → Loop s floor from own nodes past v opening heard h
@@ -302,7 +296,7 @@ module _ (s : Setup) (floor from own : ℕ) (settles : Settles s floor from) (no
       record {
         hearing = hearing-one (withOwn s own) (v % s .modulus) h bytes (around .limits) arrival-under (loop .hearing);
         bounded = subst (λ (t : Timestamp). Bounded s floor nodes v (t .kn)) (sym (r .0)) (loop .bounded);
-        members = subst (λ (q : List Frame). AllExplained s from past heard′ v q) (sym (r .1)) (λ f mem. explained-more heard heard′ f more (loop .members f mem));
+        members = subst (λ (q : List Frame). AllExplained s from past heard′ v q) (sym (r .1)) (λ f mem. explained-more s from past heard heard′ v f more (loop .members f mem));
         present = subst (λ (q : List Frame). AllPresent s from past heard′ v q) (sym (r .1)) (λ j m at fol hd un. loop .present j m at fol (back j m at fol hd) un);
         wider = subst (λ (t : Timestamp). (R : ℕ) (f : Timestamp) → Under R f v opening → Under R f v t) (sym (r .0)) (loop .wider);
       }
@@ -343,7 +337,7 @@ module _ (s : Setup) (floor from own : ℕ) (settles : Settles s floor from) (no
       members g mem =
           elim (mem-of-insertAt place f (h .queue) mem) [
             | inl q ↦ subst (λ (y : Frame). Explained s from past heard′ v y) (sym q) new
-            | inr q ↦ explained-more heard heard′ g more (loop .members g q)
+            | inr q ↦ explained-more s from past heard heard′ v g more (loop .members g q)
           ]
 
       present : AllPresent s from past heard′ v (insertAt place f (h .queue))

@@ -1,5 +1,4 @@
 pub mod Cause
-pub mod Bytes
 pub mod Readers
 pub mod Demand1
 pub mod AnyState

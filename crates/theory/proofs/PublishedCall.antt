@@ -31,10 +31,11 @@ use Rattle.model.specs.Run.{Node, Call, Done, World, inputOf, outputOf, doneOf,
 use Rattle.theory.specs.Premises.{withOwn}
 use Rattle.theory.specs.Demand2.{reduced, reducedFrame, messagesHeard, verdictsOn, outcomeOf, SameAs}
 use Rattle.theory.specs.Demand3.{isFrom, heardIn}
+use Rattle.lemmas.proofs.Counts.{trimmed-same}
 use Rattle.lemmas.proofs.Bounds.{Limits, Sound}
 use Rattle.lemmas.proofs.OneTick.{hearing-end, tables-are, holdback-is, delivery-is, outgoing-is, sent-is, verdicts-are, next-repair}
 use Rattle.theory.proofs.World.{nextInput, nextStamp, nextQueue, eventFrame, heardAt, Good, Legal}
-use Rattle.theory.proofs.Event.{Due-call, accepted-input, setup-at, clock-at, done-clock, after-clock, sound-at, opens-stamp, opens-queue, leaves-stamp, leaves-queue, trimmed-same}
+use Rattle.theory.proofs.Event.{Due-call, accepted-input, setup-at, clock-at, done-clock, after-clock, sound-at, opens-stamp, opens-queue, leaves-stamp, leaves-queue}
 use Rattle.theory.proofs.Event as event
 use Rattle.theory.proofs.Stabilize.{heardTo, stateAt, called, around, entry-at, loop-at}
 use Rattle.theory.proofs.PublishedEvent.{ReadsTrue, absorbAll, event-stamp, event-wide, Knows, knows-refl, knows-trans, next-knows, next-more}

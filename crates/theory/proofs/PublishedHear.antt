@@ -10,7 +10,7 @@ use mathlib.Core.List.{List, [], _∷_, _++_, map, append-assoc, append-nil}
 use mathlib.Core.List.{List·Memᴰ, List·Memᴰ·head, List·Memᴰ·tail, List·Memᴰ·not-nil, List·Memᴰ·cases-cons, List·Memᴰ·append-cases, List·Memᴰ·eq-of-singleton, Memᴰ·append-left, Memᴰ·append-right}
 use mathlib.Core.Option.{Option, some}
 use lib.Dec.{eqb}
-use lib.ListN.{length, getElem?, length-append}
+use lib.ListN.{length, getElem?}
 use borrow.Author.Tests.{eqb-true, eq-eqb, ne-eqb}
 use Rattle.laws.specs.Lists.{any, select, insertAt, apart}
 use Rattle.laws.proofs.Numbers.{true-or-false, clash, and-intro, or-left, or-right, or-cases, or-false-left, or-false-right, or-false-intro, false-of-no, eq-or-ne}
@@ -28,7 +28,7 @@ use Rattle.theory.specs.Demand2.{reduced, reducedFrame, messagesHeard, v
 use Rattle.theory.specs.Demand3.{isFrom}
 use Rattle.lemmas.proofs.Bounds.{FrameOk}
 use Rattle.lemmas.proofs.RoundTrip.{decode-encode}
-use Rattle.lemmas.proofs.OneTick.{hear-one-verdict}
+use Rattle.lemmas.proofs.OneTick.{hear-one-verdict, taken-more}
 use Rattle.theory.proofs.HearLoop.{some-inj, hear-refused}
 use Rattle.theory.proofs.PublishedEvent.{absorbAll}
 use Rattle.theory.proofs.PublishedQueue.{SameMembers}
@@ -107,10 +107,6 @@ taken-no : (l : List ℕ) → takenCount (l ++ (16 ∷ [])) ≡ takenCount l
 unfolding takenCount select
 taken-no l = ap length (select-append (λ x. eqb x 0) l (16 ∷ []) ∙ append-nil (select (λ x. eqb x 0) l))
 
-taken-yes : (l : List ℕ) → takenCount (l ++ (0 ∷ [])) ≡ takenCount l + 1
-unfolding takenCount select
-taken-yes l = ap length (select-append (λ x. eqb x 0) l (0 ∷ [])) ∙ length-append (select (λ x. eqb x 0) l) (0 ∷ [])
-
 module _ (s : Setup) (v : ℕ) (sent : List (Option Message)) where
   decoded : (k : ℕ) (m : Message) (bytes : List ℕ) → Incoming s v sent k m bytes → decode (s .epsilon) bytes ≡ reducedFrame (s .modulus) m
   decoded k m bytes a = rw (a .bytes-are) (decode-encode (s .epsilon) (reducedFrame (s .modulus) m) (a .frame .sound .wide))
@@ -158,7 +154,7 @@ module _ (s : Setup) (v : ℕ) (sent : List (Option Message)) where
       news-taken rest ∙ ap (λ (n : ℕ). n + length fresh) one
   news-taken (new {h} {bytes} {entries} {fresh} k m a old e rest) =
       let one : takenCount (hearOne s (v % s .modulus) h bytes .verdicts) ≡ takenCount (h .verdicts) + 1 =
-      ap takenCount (hear-one-verdict s (v % s .modulus) h bytes ∙ ap (λ (n : ℕ). h .verdicts ++ (n ∷ [])) e) ∙ taken-yes (h .verdicts) in
+      ap takenCount (hear-one-verdict s (v % s .modulus) h bytes ∙ ap (λ (n : ℕ). h .verdicts ++ (n ∷ [])) e) ∙ taken-more (h .verdicts) in
       let more : takenCount (hear s (v % s .modulus) (hearOne s (v % s .modulus) h bytes) entries .verdicts) ≡ takenCount (hearOne s (v % s .modulus) h bytes .verdicts) + length fresh = news-taken rest in
       omega arith
 

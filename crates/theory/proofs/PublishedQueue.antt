@@ -24,7 +24,8 @@ use Rattle.model.specs.Tick.{dueNow}
 use Rattle.model.specs.Published.{Event, Message, known, rank, less, deliverable, inOrder, sameMessage}
 use Rattle.theory.specs.Demand2.{reduced, reducedFrame}
 use Rattle.lemmas.proofs.Bounds.{Sound}
-use Rattle.theory.proofs.Cause.{length-down, counts-down-first}
+use Rattle.lemmas.proofs.Counts.{length-down}
+use Rattle.theory.proofs.Cause.{counts-down-first}
 use Rattle.theory.proofs.PublishedEvent.{ReadsTrue, Knows, known-count}
 
 -- general: one more place behind the last does not change which list comes first, and readings move both sums alike

@@ -21,7 +21,7 @@ use Rattle.model.specs.Holdback.{cutFrames, heldBytes, held, passes, soundHoldb
 use Rattle.model.specs.Tick.{holdbackSize}
 use Rattle.theory.specs.Demand2.{areBytes, hasWidth, Demand2Codec}
 use Rattle.lemmas.proofs.Bounds.{FrameOk}
-use Rattle.lemmas.proofs.Questions.{limits-from, first-yes}
+use Rattle.lemmas.proofs.Questions.{limits-from, first-yes, read-number}
 use Rattle.lemmas.proofs.Counts.{sound-to, trimmed-wide, trimmed-widened}
 use Rattle.lemmas.proofs.RoundTrip.{none-no, bounds-passed, form-passed, passes-formed, decode-encode, encode-decode, frame-passes, frame-passed, held-frames, held-holdback}
 
@@ -62,14 +62,6 @@ unfolding writeFrame
 write-number s f buffer = go (firstNo (writeFrameQuestions s f buffer))
   where
     go : (k : ℕ) → writeBy k f buffer .number ≡ 0 → k ≡ 0
-    go zero e = refl
-    go (suc k) e = e
-
-read-number : (s : Setup) (bytes : List ℕ) → read s bytes .number ≡ 0 → firstNo (readQuestions s bytes) ≡ 0
-unfolding read
-read-number s bytes = go (firstNo (readQuestions s bytes))
-  where
-    go : (k : ℕ) → readBy k (decode (s .epsilon) bytes) .number ≡ 0 → k ≡ 0
     go zero e = refl
     go (suc k) e = e
 

@@ -40,7 +40,7 @@ use Rattle.theory.proofs.Reach.{reached-some, reached-not-all, reached-
 use Rattle.theory.proofs.Stamps.{bounded-grows, own-bounded, step-bounded, step-under, own-under, own-strict}
 use Rattle.theory.proofs.HearLoop.{Settles, Arrival, Entry, Around, Loop, loop-verdict, loop-takes, loop-one, some-inj, followed-sends}
 use Rattle.theory.proofs.Delivery.{delivery}
-use Rattle.theory.proofs.World.{nextStamp, nextQueue, eventFrame, eventKey, reached, Bounded, Under, followed, heardAt, Explained, AllExplained, AllPresent, Maker, Settled, Passed-on, NodeOk, Group, Good, Legal, SentEntry, Kept, AllKept, dueFollowed, followedFrame}
+use Rattle.theory.proofs.World.{nextStamp, nextQueue, eventFrame, eventKey, reached, Bounded, Under, followed, heardAt, Explained, AllExplained, explained-more, AllPresent, Maker, Settled, Passed-on, NodeOk, Group, Good, Legal, SentEntry, Kept, AllKept, dueFollowed, followedFrame}
 
 -- lists of entries
 hear-snoc : (s : Setup) (v : ℕ) (h : Heard) (xs : List (List ℕ)) (b : List ℕ) → hear s v h (xs ++ (b ∷ [])) ≡ hearOne s v (hear s v h xs) b
@@ -110,12 +110,6 @@ opened-here s node call c =
     rw (opens-stamp s node call c, opens-queue s node call c, setup-at s node call c, clock-at s node call c) at
     (hearing-opens (inputOf node call) (accepted-input node call (c .accepted)))
 
-explained-mono :
-    (s : Setup) (from : ℕ) (past : List Done) (heard heard′ : ℕ → Bool) (v : ℕ) (f : Frame) → ((j : ℕ) → heard j ≡ true → heard′ j ≡ true)
-    → Explained s from past heard v f → Explained s from past heard′ v f
-explained-mono s from past heard heard′ v f more (inl h) = inl h
-explained-mono s from past heard heard′ v f more (inr x) = inr (x .0, x .1, x .2, x .3, more (x .0) (x .4), x .5, x .6)
-
 pub sends-accepted : (m : Done) → sends m ≡ true → isAccepted (m .output) ≡ true
 unfolding sends
 sends-accepted m e = and-left (isAccepted (m .output)) (m .call .send) e
@@ -161,9 +155,6 @@ good-more s floor from w d good refused =
       heard-before = λ i k h. omega (arith, good .heard-before i k (sym (heard-same i k) ∙ h), length-append (w .past) (d ∷ []));
     }
   where
-    past′ : List Done
-    past′ = w .past ++ (d ∷ [])
-
     old : (k : ℕ) (m : Done) → getElem? (w .past ++ (d ∷ [])) k ≡ some m → isAccepted (m .output) ≡ true → getElem? (w .past) k ≡ some m
     old k m at acc =
         elim (getElem?-snoc-cases (w .past) d k at) [
@@ -300,7 +291,7 @@ module _ (s : Setup) (floor from : ℕ) (settles : Settles s floor from) where
         record {
           hearing = opened-here s node call called;
           bounded = here .bounded;
-          members = λ f mem. explained-mono s from (w .past) (heardAt (w .past) (call .node)) (heardTo (w .past) call 0) (suc (node .clock)) f (λ j h. or-left false h) (here .members f mem);
+          members = λ f mem. explained-more s from (w .past) (heardAt (w .past) (call .node)) (heardTo (w .past) call 0) (suc (node .clock)) f (λ j h. or-left false h) (here .members f mem);
           present = λ k m at fol hd un. here .present k m at fol (sym (or-false (heardAt (w .past) (call .node) k)) ∙ hd) un;
           wider = λ R f u. u;
         }
@@ -400,7 +391,7 @@ module _ (s : Setup) (floor from : ℕ) (settles : Settles s floor from) where
         ap (select (followedFrame s from (suc (node .clock)))) held-here
         ∙ delivery s from (node .own) (suc (node .clock)) (call .node) (w .past) (doneOf node call) (stateAt s node call many .queue) (around .limits)
         (loop-end .hearing .queue) (λ k m at acc. good .calls k m at acc .event) (good .unique) (done-clock s node call called)
-        (λ f mem. explained-mono s from (w .past) (heardTo (w .past) call many) (heardAt (w .past ++ (doneOf node call ∷ [])) (call .node)) (suc (node .clock)) f (λ j h. sym (heard-end j) ∙ h) (loop-end .members f mem))
+        (λ f mem. explained-more s from (w .past) (heardTo (w .past) call many) (heardAt (w .past ++ (doneOf node call ∷ [])) (call .node)) (suc (node .clock)) f (λ j h. sym (heard-end j) ∙ h) (loop-end .members f mem))
         (λ k m at fol hd un. loop-end .present k m at fol (heard-end k ∙ hd) un)
 
     delivers :

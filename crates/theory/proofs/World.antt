@@ -5,7 +5,7 @@ use Prim.Native.Nat.{ℕ, suc, _+_, _%_, _≤_, _<_, Ordering·lt}
 use mathlib.Core.Path.{_≡_}
 use mathlib.Core.Bool.{Bool, true, false, _&&_, _||_, cond}
 use mathlib.Core.List.{List, [], _∷_, _++_, map, List·Memᴰ}
-use mathlib.Core.Logic.{_⊎_}
+use mathlib.Core.Logic.{_⊎_, inl, inr}
 use mathlib.Core.Option.{some}
 use lib.Dec.{leb}
 use lib.ListN.{length, take, getD, getElem?}
@@ -86,6 +86,12 @@ Explained s from past heard v f =
 
 abbrev pub AllExplained : Setup → ℕ → List Done → (ℕ → Bool) → ℕ → List Frame → Type 0
 AllExplained s from past heard v queue = (f : Frame) → List·Memᴰ f queue → Explained s from past heard v f
+
+pub explained-more :
+    (s : Setup) (from : ℕ) (past : List Done) (heard heard′ : ℕ → Bool) (v : ℕ) (f : Frame) → ((j : ℕ) → heard j ≡ true → heard′ j ≡ true)
+    → Explained s from past heard v f → Explained s from past heard′ v f
+explained-more s from past heard heard′ v f more (inl h) = inl h
+explained-more s from past heard heard′ v f more (inr x) = inr (x .0, x .1, x .2, x .3, more (x .0) (x .4), x .5, x .6)
 
 -- each followed message that was heard and is not yet due before v lies in the queue
 abbrev pub AllPresent : Setup → ℕ → List Done → (ℕ → Bool) → ℕ → List Frame → Type 0

@@ -4,4 +4,3 @@ pub mod Readings
 pub mod Steps
 pub mod Soundness
 pub mod Ordered
-pub mod Lengths

@@ -15,6 +15,7 @@ use Rattle.laws.proofs.Lex.{lex-head-lt, lex-head-gt, lex-head-eq, lex-append}
 use Rattle.model.specs.Timestamp.{Timestamp, sum, trimmed}
 use Rattle.model.specs.Frame.{Frame}
 use Rattle.model.specs.Order.{countsDown, key}
+use Rattle.lemmas.proofs.Counts.{length-down}
 use Rattle.timestamp.proofs.Steps.{trimmed-all}
 use Rattle.timestamp.specs.declared.ordering.Order.{Order}
 use Rattle.timestamp.specs.declared.ordering.Order.the-variants.{First, Same, After}
@@ -33,10 +34,6 @@ down-cons epsilon c k kn h =
       getD-tab epsilon (λ j. getD kn (epsilon + c - j) 0) k 0 h,
       add-one k,
     )
-
-pub length-down : (epsilon : ℕ) (t : Timestamp) → length (countsDown epsilon t) ≡ epsilon
-unfolding countsDown
-length-down epsilon t = length-tab epsilon (λ j. getD (t .kn) (epsilon + t .c - j) 0)
 
 down-none : (epsilon c k : ℕ) (kn : List ℕ) → epsilon ≤ k → drop k (countsFrom epsilon c kn) ≡ []
 down-none epsilon c k kn h =

@@ -1,27 +1,22 @@
 -- The frames of a delivery, by their positions, and their give lines. Assumes nothing.
-use Prim.Native.Nat.{ℕ, zero, suc, _+_, _-_, _*_, _≤_, _<_}
+use Prim.Native.Nat.{ℕ, suc, _+_, _-_, _*_, _≤_, _<_}
 use mathlib.Core.Path.{_≡_, refl, sym, ap, _∙_}
-use mathlib.Core.Bool.{Bool, true, false}
-use mathlib.Core.List.{List, [], _∷_, _++_, map}
-use native.Mathlib.Nat.{zero-add, suc-add}
+use mathlib.Core.Bool.{false}
+use mathlib.Core.List.{List, [], _++_}
 use native.Mathlib.Omega.{arith}
 use lib.Dec.{leb}
 use lib.ListN.{length, take, drop, getD, length-append}
-use lib.Seq.{take-nil, getD-take, getD-drop, drop-drop}
+use lib.Seq.{getD-take, getD-drop, drop-drop}
 use borrow.Author.Tests.{le-leb, lt-leb, leb-true}
 use Rattle.laws.specs.Lists.{joined}
 use Rattle.laws.proofs.Numbers.{same-test}
+use Rattle.laws.proofs.Lists.{drop-take}
 use Rattle.model.specs.Setup.{width}
-use Rattle.model.specs.Frame.{Frame, twoAt, payloadCountAt, frameEnd, decode}
+use Rattle.model.specs.Frame.{twoAt, payloadCountAt, frameEnd, decode}
 use Rattle.model.specs.Holdback.{cutFrames, heldBytes, held}
 use Rattle.trace.specs.Text.{giveLine, giveText, giveLines, giveLinesFrom, frameAt}
 
 -- ---- the frame at a position
-
-pub drop-take : (k m : ℕ) (t : List ℕ) → drop k (take (k + m) t) ≡ take m (drop k t)
-drop-take zero m t = ap (λ (n : ℕ). take n t) (zero-add m)
-drop-take (suc k) m [] = ap (drop (suc k)) (take-nil (suc k + m)) ∙ sym (take-nil m)
-drop-take (suc k) m (x ∷ t) = ap (λ (n : ℕ). drop (suc k) (take n (x ∷ t))) (suc-add k m) ∙ drop-take k m t
 
 -- where its last section's count stands, and where it ends
 module _ (epsilon : ℕ) (s : List ℕ) (at count : ℕ) (e : count ≡ at + (6 + 2 * epsilon)) where

@@ -1,26 +1,19 @@
 -- What reading a tick as it comes rests on: whoever reads up to where it ends so far never reads past the tick, and a tick that is whole stays so.
 -- So the definition of the whole program is what reading tick by tick gives. The batch of a whole tick ends exactly after its last entry. Assumes nothing.
-use Prim.Native.Nat.{ℕ, zero, suc, _+_, _-_, _%_, _≤_, _<_}
-use mathlib.Core.Path.{_≡_, refl, sym, ap, subst, _∙_}
-use mathlib.Core.Bool.{true}
+use Prim.Native.Nat.{ℕ, zero, suc, _+_, _≤_, _<_}
+use mathlib.Core.Path.{_≡_, refl, sym, ap, _∙_}
 use mathlib.Core.List.{List, [], _∷_, _++_}
 use mathlib.Core.Logic.{⊎-elim}
-use native.Mathlib.Nat.{mod-self, mod-eq-of-lt}
-use native.Mathlib.Numerals.{one-add, add-one}
 use native.Mathlib.Omega.{arith}
-use lib.Dec.{leb}
-use lib.ListN.{length, take, drop, getD, length-append, length-drop, length-take, List·getD-append, List·getD-eq-default, drop-of-length-le}
-use lib.Seq.{drop-append-le, drop-cons, take-all, take-append-seam, drop-append-seam}
-use borrow.Author.Tests.{le-leb, eq-eqb, ne-eqb}
-use Rattle.laws.proofs.Numbers.{lt-or-ge, eq-or-ne}
+use lib.ListN.{length, drop, getD, length-drop, List·getD-append, List·getD-eq-default, drop-of-length-le}
+use lib.Seq.{drop-append-le, take-all, take-append-seam, drop-append-seam}
+use Rattle.laws.proofs.Numbers.{lt-or-ge}
 use Rattle.model.specs.Setup.{Setup}
 use Rattle.model.specs.Timestamp.{Timestamp}
-use Rattle.model.specs.Batch.{endsAfter, exactBatch}
-use Rattle.trace.proofs.Giving.{drop-take}
 use Rattle.trace.proofs.Ticks.{call-cut}
 use Rattle.trace.specs.Text.{refusedLine}
 use Rattle.trace.specs.Replay.{stopped, turn, replayTicks}
-use Rattle.trace.specs.Trace.{entriesSize, payloadSize, batchAt, batchOf, tickEnd, oneBefore}
+use Rattle.trace.specs.Trace.{entriesSize, payloadSize, batchAt, tickEnd}
 
 -- ---- k entries, of which the first bytes are there
 
@@ -66,24 +59,6 @@ entries-same (suc k) (x ∷ s) t h =
     let rest : entriesSize k (drop (1 + x) (x ∷ s) ++ t) ≡ entriesSize k (drop (1 + x) (x ∷ s))
     = entries-same k (drop (1 + x) (x ∷ s)) t (omega (arith, entries-one k (x ∷ s), length-drop (1 + x) (x ∷ s))) in
     omega (arith, entries-one k (x ∷ s), entries-one k (x ∷ (s ++ t)), ap (entriesSize k) (drop-append-le (1 + x) (x ∷ s) t long), rest)
-
-ends-cons : (k x : ℕ) (rest : List ℕ) → x ≤ length rest → endsAfter k (drop x rest) ≡ true → endsAfter (suc k) (x ∷ rest) ≡ true
-unfolding endsAfter
-ends-cons k x rest h e = rw (le-leb x (length rest) h) e
-
--- just so many bytes end after the last one
-entries-exact : (k : ℕ) (s : List ℕ) → entriesSize k s ≤ length s → endsAfter k (take (entriesSize k s) s) ≡ true
-unfolding entriesSize endsAfter
-entries-exact zero s h = refl
-entries-exact (suc k) [] h = let no-room : ⊥ = omega (arith, entries-none (suc k)) in absurd no-room
-entries-exact (suc k) (x ∷ s) h =
-    let past : drop (1 + x) (x ∷ s) ≡ drop x s = ap (λ (n : ℕ). drop n (x ∷ s)) (one-add x) in
-    let rest : ℕ = entriesSize k (drop x s) in
-    let size : entriesSize (suc k) (x ∷ s) ≡ suc (x + rest) = omega (arith, entries-one k (x ∷ s), ap (entriesSize k) past) in
-    let fits : rest ≤ length (drop x s) = omega (arith, length-drop x s) in
-    ap (λ (n : ℕ). endsAfter (suc k) (take n (x ∷ s))) size
-    ∙ ends-cons k x (take (x + rest) s) (omega (arith, length-take (x + rest) s))
-    (ap (endsAfter k) (drop-take x rest s) ∙ entries-exact k (drop x s) fits)
 
 -- ---- a tick, of which the first bytes are there
 
@@ -135,36 +110,7 @@ stays-whole s t h =
     (entries-same (getD s (batchAt s) 0) (drop (batchAt s + 1) s) t (omega (arith, tick-is s, length-drop (batchAt s + 1) s)))
     ∙ sym (tick-is s)
 
-exact-cons : (count : ℕ) (rest : List ℕ) → exactBatch (count ∷ rest) ≡ endsAfter count rest
-unfolding exactBatch
-exact-cons count rest = refl
-
--- 01, 5: so the call's question 5 gets no no
-pub batch-exact : (s : List ℕ) → tickEnd s ≤ length s → exactBatch (batchOf s) ≡ true
-unfolding batchOf
-batch-exact s h =
-    let b : ℕ = batchAt s in
-    let count : ℕ = getD s b 0 in
-    let size : ℕ = entriesSize count (drop (b + 1) s) in
-    let e : tickEnd s - b ≡ suc size = omega (arith, tick-is s) in
-    let there : drop b s ≡ count ∷ drop (b + 1) s = drop-cons s b 0 (omega (arith, tick-is s)) ∙ ap (λ (n : ℕ). count ∷ drop n s) (sym (add-one b)) in
-    rw (e, there)
-    (exact-cons count (take size (drop (b + 1) s))
-    ∙ entries-exact count (drop (b + 1) s) (omega (arith, tick-is s, length-drop (b + 1) s)))
-
 -- ---- 01: "one before the first clock", modulo B
-
-pub one-before-next : (modulus clock : ℕ) → clock < modulus → (oneBefore modulus clock + 1) % modulus ≡ clock
-unfolding oneBefore
-one-before-next modulus clock h =
-    ⊎-elim
-    (λ zero-clock.
-    let e : modulus - 1 + 1 ≡ modulus = omega arith in
-    rw (eq-eqb clock 0 zero-clock, e, mod-self) (sym zero-clock))
-    (λ later.
-    let e : clock - 1 + 1 ≡ clock = omega arith in
-    rw (ne-eqb clock 0 later, e) (mod-eq-of-lt h))
-    (eq-or-ne clock 0)
 
 -- ---- so the lines of a trace are those of its ticks, read one by one
 

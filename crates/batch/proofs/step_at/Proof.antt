@@ -1,5 +1,4 @@
 -- `batch::step_at` meets its contract. Assumes nothing.
-use native.Mathlib.Omega.{arith}
 use borrow.Author.Needs.{needs}
 use Rattle.batch.proofs.Walk.{step-past, step-inside}
 use Rattle.batch.proofs.step_at.Statement.{statement}

@@ -7,8 +7,6 @@ use native.Mathlib.Omega.{arith}
 use borrow.Author.Needs.{needs}
 use Rattle.splice.proofs.part.Statement.{statement}
 use Rattle.splice.proofs.part.Tie as tie
-use Rattle.splice.proofs.part.Reads as reads
-use Rattle.splice.proofs.part.Lts as lts
 
 slice-aggregate-result : tie.Need-slice-aggregate-result
 slice-aggregate-result c = search needs

@@ -1,12 +1,9 @@
 -- `trace::digits::glyph_of` meets its contract. Assumes nothing.
 use borrow.Author.Tests.{lt-ltb, le-ltb}
-use native.Mathlib.Omega.{arith}
 use Rattle.trace.specs.Text.{glyph}
 use borrow.Author.Needs.{needs}
 use Rattle.trace.proofs.digits.glyph_of.Statement.{statement}
 use Rattle.trace.proofs.digits.glyph_of.Tie as tie
-use Rattle.trace.proofs.digits.glyph_of.Reads as reads
-use Rattle.trace.proofs.digits.glyph_of.Lts as lts
 
 cast-result : tie.Need-cast-result
 cast-result c = search needs

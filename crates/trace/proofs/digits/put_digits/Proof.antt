@@ -11,9 +11,6 @@ use Rattle.trace.specs.Text.{digits}
 use Rattle.trace.proofs.Numerals.{length-digits, front-last, front-before}
 use Rattle.trace.proofs.digits.put_digits.Statement.{statement}
 use Rattle.trace.proofs.digits.put_digits.Tie as tie
-use Rattle.trace.proofs.digits.put_digits.Reads as reads
-use Rattle.trace.proofs.digits.put_digits.Lts as lts
-use Rattle.trace.proofs.digits.glyph_of.Reads as glyph-of-reads
 
 abbrev Inv-loop : tie.InvT-loop
 Inv-loop buf₀ at base count x left₀ rest₀ buf left rest =

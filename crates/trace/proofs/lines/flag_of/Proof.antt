@@ -3,8 +3,6 @@ use borrow.Author.Tests.{eq-eqb, ne-eqb}
 use Rattle.trace.specs.Text.{flag}
 use Rattle.trace.proofs.lines.flag_of.Statement.{statement}
 use Rattle.trace.proofs.lines.flag_of.Tie as tie
-use Rattle.trace.proofs.lines.flag_of.Reads as reads
-use Rattle.trace.proofs.lines.flag_of.Lts as lts
 
 returns : tie.Need-returns
 unfolding flag

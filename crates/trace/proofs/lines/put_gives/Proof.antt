@@ -2,8 +2,7 @@
 use lib.ListN.{drop}
 use Rattle.model.specs.Frame.{frameEnd}
 use Prim.Native.Nat.{suc, _+_, _-_, _*_, _≤_}
-use mathlib.Core.Path.{_≡_, refl, sym, ap, _∙_, subst}
-use mathlib.Core.List.{List}
+use mathlib.Core.Path.{_≡_, refl, sym, ap, _∙_}
 use Prim.Native.Nat.{ℕ}
 use Rattle.trace.specs.Text.{giveLine, giveLines, giveLinesFrom, frameAt, Put}
 use Rattle.trace.proofs.Putting.{Ahead, ahead, ahead-first, ahead-next, ahead-as, put-nothing, put-length}

@@ -1,6 +1,6 @@
 -- `trace::lines::put_lines` meets its contract. Assumes nothing.
 use Prim.Native.Nat.{_+_, _<_, _≤_, _-_}
-use mathlib.Core.Path.{_≡_, sym, _∙_}
+use mathlib.Core.Path.{sym, _∙_}
 use lib.ListN.{length, length-append}
 use borrow.Author.Tests.{leb-true, leb-false, not-true, not-false}
 use Rattle.trace.specs.Text.{tickLine, giveLines, tickLines}

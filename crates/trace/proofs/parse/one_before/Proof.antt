@@ -5,8 +5,6 @@ use Rattle.trace.specs.Trace.{oneBefore}
 use borrow.Author.Needs.{needs}
 use Rattle.trace.proofs.parse.one_before.Statement.{statement}
 use Rattle.trace.proofs.parse.one_before.Tie as tie
-use Rattle.trace.proofs.parse.one_before.Reads as reads
-use Rattle.trace.proofs.parse.one_before.Lts as lts
 
 sub-result : tie.Need-sub-result
 sub-result c = search needs

@@ -4,8 +4,6 @@ use Rattle.trace.specs.Trace.{payloadOf, payloadSize}
 use borrow.Author.Needs.{needs}
 use Rattle.trace.proofs.parse.payload_of.Statement.{statement}
 use Rattle.trace.proofs.parse.payload_of.Tie as tie
-use Rattle.trace.proofs.parse.payload_of.Reads as reads
-use Rattle.trace.proofs.parse.payload_of.Lts as lts
 
 byte-at-requires : tie.Need-byte-at-requires
 byte-at-requires c κs = search needs

@@ -1,7 +1,4 @@
 -- `trace::parse::read_call` meets its contract. Assumes nothing.
-use mathlib.Core.Path.{_≡_, refl, sym, ap, _∙_}
-use lib.Dec.{eqb}
-use Prim.Native.Nat.{ℕ}
 use Rattle.trace.proofs.Ticks.{clock-is, call-cut, call-bad, call-good, send-flag, send-not}
 use borrow.Author.Needs.{needs}
 use Rattle.trace.proofs.parse.read_call.Statement.{statement}

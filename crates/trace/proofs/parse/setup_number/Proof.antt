@@ -1,13 +1,10 @@
 -- `trace::parse::setup_number` meets its contract. Assumes nothing.
-use mathlib.Core.Path.{_≡_, sym, ap, _∙_}
-use mathlib.Core.Bool.{true, false}
+use mathlib.Core.Path.{sym, ap, _∙_}
 use borrow.Author.Tests.{not-true, not-false}
-use Rattle.model.specs.Setup.{Setup, inLimits}
+use Rattle.model.specs.Setup.{inLimits}
 use Rattle.model.specs.Tick.{holdbackSize}
-use Rattle.lemmas.proofs.Bounds.{Limits}
 use Rattle.lemmas.proofs.Questions.{limits-from}
 use Rattle.timestamp.specs.Views.{setupOf}
-use Rattle.trace.specs.Trace.{traceSetup}
 use Rattle.trace.proofs.Ticks.{setup-cut, setup-out, setup-large, setup-good}
 use borrow.Author.Needs.{needs}
 use native.Mathlib.Omega.{arith}

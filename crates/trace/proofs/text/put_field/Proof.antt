@@ -1,6 +1,6 @@
 -- `trace::text::put_field` meets its contract. Assumes nothing.
 use Rattle.trace.specs.Text.{field, decimal}
-use Rattle.trace.proofs.Putting.{Ahead, ahead, ahead-first, ahead-next}
+use Rattle.trace.proofs.Putting.{ahead, ahead-first, ahead-next}
 use borrow.Author.Needs.{needs}
 use Rattle.trace.proofs.text.put_field.Statement.{statement}
 use Rattle.trace.proofs.text.put_field.Tie as tie

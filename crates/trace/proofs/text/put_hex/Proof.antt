@@ -1,7 +1,7 @@
 -- `trace::text::put_hex` meets its contract. The invariant of its loop: the digits of the first bytes are written. Assumes nothing.
 use Prim.Native.Nat.{_-_}
 use lib.ListN.{length}
-use Rattle.trace.proofs.Putting.{Hexing, hex-starts, hex-turn, hex-ends, put-length}
+use Rattle.trace.proofs.Putting.{Hexing, hex-starts, hex-turn, hex-ends}
 use borrow.Author.Needs.{needs}
 use native.Mathlib.Omega.{arith}
 use Rattle.trace.proofs.text.put_hex.Statement.{statement}
