@@ -1,17 +1,17 @@
 -- What placing a frame and cutting off a prefix do to the bytes of a queue.
 -- Assumes nothing.
-use Prim.Native.Nat.{ℕ, zero, suc, _+_, _*_, _-_, _≤_, _<_}
+use Prim.Native.Nat.{ℕ, suc, _+_, _-_, _≤_}
 use native.Mathlib.Nat.{zero-add, sub-zero, le-of-eq}
 use native.Mathlib.Omega.{arith}
 use mathlib.Core.Path.{_≡_, refl, sym, ap, ap₂, _∙_}
-use mathlib.Core.Bool.{Bool, true}
+use mathlib.Core.Bool.{true}
 use mathlib.Core.List.{List, [], _∷_, _++_, append-assoc, append-nil}
-use lib.ListN.{length, take, drop, replicate, length-append, length-take, length-drop, length-replicate, take-append-drop, drop-of-length-le}
-use lib.Seq.{drop-drop, length-take-le, take-at, drop-at, drop-append-add, drop-length, drop-append-seam}
+use lib.ListN.{length, take, drop, replicate, length-append, length-drop, length-replicate, take-append-drop, drop-of-length-le}
+use lib.Seq.{drop-drop, length-take-le, take-at, drop-at}
 use Rattle.laws.specs.Lists.{tab, every, joined, overlay, padded, insertAt}
 use Rattle.laws.proofs.Lists.{length-tab, take-tab, joined-append, joined-insertAt, length-insertAt}
-use Rattle.splice.specs.Bytes.{pasted, part, cleared, inserted, cutOut, zeros, twoBytes as lowFirst}
-use Rattle.splice.proofs.Laws.{pasted-pieces, inserted-pieces, cutOut-cleared, pasted-right, pasted-left, length-pasted}
+use Rattle.splice.specs.Bytes.{pasted, part, cleared, inserted, cutOut, zeros}
+use Rattle.splice.proofs.Laws.{pasted-pieces, inserted-pieces, cutOut-cleared, pasted-right, pasted-left}
 use Rattle.model.specs.Frame.{Frame, twoBytes, twoAt, encode, decode, wellFormed}
 use Rattle.model.specs.Holdback.{heldBytes, held, encodeFrames, encodeHoldback}
 use Rattle.holdback.specs.Queue.{frameStart, bytesAt, frameAt, Figures}
@@ -206,7 +206,7 @@ module _ {epsilon : ℕ} {s : List ℕ} {count stop index at : ℕ} (known : Fig
       (omega (arith, p .front, known .starts), (omega (arith, p .back, known .starts, stop-is), omega (arith, p .ends, stop-is)))
 
   pub put-placed : (frame a l : List ℕ) → Bytes frame → wellFormed epsilon frame ≡ true → a ≡ inserted s stop at frame
-      → l ≡ pasted a 0 (lowFirst (count + 1)) → l ≡ overlay (encodeFrames (insertAt index (decode epsilon frame) (held epsilon s))) s
+      → l ≡ pasted a 0 (twoBytes (count + 1)) → l ≡ overlay (encodeFrames (insertAt index (decode epsilon frame) (held epsilon s))) s
   unfolding twoBytes
   put-placed frame a l clean well moved counted =
       put-made epsilon s index figures-pieces (decode epsilon frame) frame l (encode-decode epsilon frame clean well)
@@ -214,7 +214,7 @@ module _ {epsilon : ℕ} {s : List ℕ} {count stop index at : ℕ} (known : Fig
       ∙ ap₂ (λ (r : List ℕ) (n : ℕ). pasted r 0 (twoBytes (n + 1)))
       (moved ∙ ap₂ (λ (n m : ℕ). inserted s n m frame) stop-is (known .starts)) (known .counted))
 
-  pub prefix-written : (d a l : List ℕ) → a ≡ pasted d 0 (lowFirst index) → l ≡ pasted a 2 (take (at - 2) (drop 2 s))
+  pub prefix-written : (d a l : List ℕ) → a ≡ pasted d 0 (twoBytes index) → l ≡ pasted a 2 (take (at - 2) (drop 2 s))
       → l ≡ overlay (encodeFrames (take index (held epsilon s))) d
   unfolding twoBytes
   prefix-written d a l counted copied =
@@ -222,7 +222,7 @@ module _ {epsilon : ℕ} {s : List ℕ} {count stop index at : ℕ} (known : Fig
       (copied ∙ ap₂ (λ (r : List ℕ) (n : ℕ). pasted r 2 (take (n - 2) (drop 2 s))) counted (known .starts))
 
   pub prefix-cut : (a b l : List ℕ) → a ≡ cutOut s stop 2 (at - 2) → b ≡ cleared a stop (length s)
-      → l ≡ pasted b 0 (lowFirst (count - index)) → l ≡ encodeHoldback (length s) (drop index (held epsilon s))
+      → l ≡ pasted b 0 (twoBytes (count - index)) → l ≡ encodeHoldback (length s) (drop index (held epsilon s))
   unfolding twoBytes
   prefix-cut a b l cut-out emptied counted =
       let (low, (below, inside)) = located in

@@ -1,16 +1,14 @@
 -- The order of frames: what is due is a prefix of a sound queue.
 -- Assumes nothing.
-use Prim.Native.Nat.{ℕ, zero, suc, _+_, _*_, _-_, _≤_, _<_}
+use Prim.Native.Nat.{ℕ, _≤_, _<_}
 use native.Mathlib.Omega.{arith}
-use mathlib.Core.Path.{_≡_, refl, sym, ap, _∙_}
-use mathlib.Core.Bool.{Bool, true, false, not}
-use mathlib.Core.Logic.{_⊎_, inl, inr}
+use mathlib.Core.Path.{_≡_}
+use mathlib.Core.Bool.{true, not}
+use mathlib.Core.Logic.{inl, inr}
 use mathlib.Core.List.{List, [], _∷_, _++_, List·Memᴰ}
-use lib.Dec.{leb, eqb}
-use lib.ListN.{length, take, drop}
+use lib.ListN.{take, drop}
 use borrow.Author.Tests.{eqb-true, eq-eqb, leb-true}
 use Rattle.laws.specs.Lists.{every, select, leading, chained}
-use Rattle.laws.specs.Lex.{lexCompare, isLess}
 use Rattle.laws.proofs.Lists.{every-mem}
 use Rattle.laws.proofs.Lex.{isLess-lt, lt-isLess, lex-head-lt, lex-lt-cases}
 use Rattle.laws.proofs.Sorted.{Sorted, sorted-of-chained, select-prefix, select-suffix}

@@ -23,13 +23,13 @@ use Rattle.timestamp.specs.declared.ordering.Order.{Order}
 use Rattle.timestamp.specs.declared.ordering.Rank.{Rank}
 use Rattle.timestamp.specs.Ranks.{orderOf, rankedFrame, Ranked}
 use Rattle.lemmas.proofs.Bounds.{Limits}
+use Rattle.lemmas.proofs.Queue.{reading-high}
 use Rattle.timestamp.proofs.Ordered.{Tags}
 use Rattle.frame.proofs.Asking.{counts-part, counts-long}
 use Rattle.holdback.proofs.Shapes.{formed}
 use Rattle.holdback.specs.Queue.{rankOf, rankBefore}
 use Rattle.holdback.specs.Sound.{fits, timely, Summed}
 use Rattle.holdback.specs.Starts.{rankPlace, sumPlace}
-use Rattle.lemmas.proofs.Reading.{near-high}
 use Rattle.holdback.proofs.RoundTrip.{passing}
 
 -- ---- 10 to 12 by their number
@@ -48,16 +48,12 @@ unfit-passes s v bytes r e z = rw (check-no s bytes r e z)
 
 -- ---- sums
 
-pub reading-small : (s : Setup) (v : ℕ) (f : Frame) → Limits s → readingOf s v f < s .modulus + s .epsilon
-unfolding readingOf
-reading-small s v f limits = near-high (s .epsilon) (s .modulus) v (f .stamp .r) (limits .epsilon-pos) (omega arith)
-
 pub summed : (s : Setup) (v : ℕ) (bytes : List ℕ) (reading c : ℕ) → Limits s → passes s bytes ≡ true
     → reading ≡ readingOf s v (decode (s .epsilon) bytes) → c ≡ decode (s .epsilon) bytes .stamp .c
     → Summed s v (decode (s .epsilon) bytes) (reading + c)
 summed s v bytes reading c limits ok er ec =
     let p = passing s bytes ok in
-    let h = reading-small s v (decode (s .epsilon) bytes) limits in
+    let h = reading-high s v (decode (s .epsilon) bytes) limits in
     record { is-sum = ap₂ _+_ er ec; small = omega arith }
 
 -- early or overdue, by the rank
@@ -129,7 +125,7 @@ pub ranked : (s : Setup) (v : ℕ) (bytes kn : List ℕ) (rank : Rank) → Limit
     → Ranked (s .epsilon) rank kn
 ranked s v bytes kn rank limits ok ek e =
     let p = passing s bytes ok in
-    let h = reading-small s v (decode (s .epsilon) bytes) limits in
+    let h = reading-high s v (decode (s .epsilon) bytes) limits in
     let ec : rank .c ≡ decode (s .epsilon) bytes .stamp .c = ap (λ (q : Rank). q .c) e in
     let er : rank .reading ≡ readingOf s v (decode (s .epsilon) bytes) = ap (λ (q : Rank). q .reading) e in
     let wide : length kn ≡ 2 * s .epsilon = ap length (ek ∙ sym (counts-part (s .epsilon) bytes)) ∙ counts-long (s .epsilon) bytes (p .well) in

@@ -53,7 +53,7 @@ not-due s v f h =
     eqb-false (near (s .epsilon) (s .modulus) v (f .stamp .r) + f .stamp .c + s .delta + s .epsilon) (s .modulus)
     (false-of-not (eqb (near (s .epsilon) (s .modulus) v (f .stamp .r) + f .stamp .c + s .delta + s .epsilon) (s .modulus)) h)
 
-reading-high : (s : Setup) (v : ℕ) (f : Frame) → Limits s → readingOf s v f < s .modulus + s .epsilon
+pub reading-high : (s : Setup) (v : ℕ) (f : Frame) → Limits s → readingOf s v f < s .modulus + s .epsilon
 unfolding readingOf
 reading-high s v f limits = near-high (s .epsilon) (s .modulus) v (f .stamp .r) (limits .epsilon-pos) (omega arith)
 

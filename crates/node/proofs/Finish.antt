@@ -9,7 +9,7 @@ use lib.ListN.{length, getD}
 use borrow.Author.Tests.{leb-true, eqb-true}
 use Rattle.laws.specs.Lists.{select, overlay}
 use Rattle.laws.proofs.Numbers.{and-left, and-right}
-use Rattle.laws.proofs.Lists.{getD-padded, tab-getD}
+use Rattle.laws.proofs.Lists.{getD-padded}
 use Rattle.model.specs.Setup.{Setup, inLimits, width, longestFrame}
 use Rattle.model.specs.Timestamp.{Timestamp, trimmed, widened, step, replaced, countOwn}
 use Rattle.model.specs.Frame.{Frame, encode}
@@ -21,7 +21,7 @@ use Rattle.model.specs.Judge.{Heard, hear}
 use Rattle.model.specs.Tick.{Input, holdbackSize, roomy, callQuestions, refusal, ownStamp, tablesSound, queueSound, repairOf, openingStamp, openingQueue, heardOf, newStamp, sentBytes, dueNow, deliveredOf, keptOf, takenCount, acceptance, tick}
 use Rattle.lemmas.proofs.Bounds.{Limits}
 use Rattle.lemmas.proofs.Questions.{first-yes, other-yes}
-use Rattle.lemmas.proofs.Counts.{opened-step, opened-replaced, trimmed-wide, trimmed-widened}
+use Rattle.lemmas.proofs.Counts.{opened-step, opened-replaced, trimmed-wide, trimmed-same, trimmed-widened}
 use Rattle.lemmas.proofs.OneTick.{Accepted, passes-questions, tick-by, hearing-end, new-sound}
 use Rattle.holdback.specs.Sound.{openedQueue}
 use Rattle.frame.specs.Lay.{Room, Laid}
@@ -164,10 +164,6 @@ send-room i t c e =
       payload-fits = omega (arith, c .accepted .payload-short);
       room = omega (arith, c .accepted .payload-short, c .accepted .outgoing-room);
     }
-
-trimmed-same : (epsilon : ℕ) (x : Timestamp) → length (x .kn) ≡ width epsilon → trimmed epsilon x ≡ x
-unfolding trimmed
-trimmed-same epsilon x w = ap (λ (l : List ℕ). record { r = x .r; c = x .c; kn = l }) (tab-getD (width epsilon) (x .kn) 0 w)
 
 sent-same : (i : Input) (t : Timestamp) → Call i → t ≡ widened (newStamp i) → sentBy (i .setup .epsilon) (i .setup .own) t (i .send) (i .payload) ≡ sentBytes i
 unfolding sentBy sentBytes frameOf

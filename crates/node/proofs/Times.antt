@@ -1,13 +1,13 @@
 -- The questions 13 to 15 of a frame, one by one, as the code asks them. Assumes nothing.
-use Prim.Native.Nat.{ℕ, zero, suc, _+_, _*_, _-_, _≤_, _<_}
-use native.Mathlib.Nat.{zero-add, suc-add}
+use Prim.Native.Nat.{ℕ, _+_, _*_, _-_, _≤_, _<_}
 use native.Mathlib.Omega.{arith}
 use mathlib.Core.Path.{_≡_, sym, ap, _∙_}
 use mathlib.Core.Bool.{true, false}
 use mathlib.Core.List.{List, [], _∷_}
 use lib.ListN.{length, take, drop}
-use lib.Seq.{drop-drop, take-nil}
+use lib.Seq.{drop-drop}
 use borrow.Author.Tests.{le-leb, lt-leb}
+use Rattle.laws.proofs.Lists.{drop-take}
 use Rattle.model.specs.Setup.{Setup, width}
 use Rattle.model.specs.Timestamp.{sum, near, atMost}
 use Rattle.model.specs.Frame.{Frame, wellFormed, decode}
@@ -44,11 +44,6 @@ module _ (s : Setup) (v : ℕ) (f : Frame) (reading : ℕ) (e : reading ≡ near
       pub times-right : atMost (s .n - 1) (drop (s .modulus + s .epsilon - reading) (f .stamp .kn)) ≡ true → 0 ≡ firstNo (timeQuestions s v f)
       unfolding firstNo
       times-right h = sym (counts-left ∙ yes-cons _ 15 [] h)
-
-drop-take : (n m : ℕ) (l : List ℕ) → drop n (take (n + m) l) ≡ take m (drop n l)
-drop-take zero m l = ap (λ (k : ℕ). take k l) (zero-add m)
-drop-take (suc n) m [] = ap (λ (k : ℕ). drop (suc n) (take k [])) (suc-add n m) ∙ sym (take-nil m)
-drop-take (suc n) m (x ∷ l) = ap (λ (k : ℕ). drop (suc n) (take k (x ∷ l))) (suc-add n m) ∙ drop-take n m l
 
 -- the counts where they stand in the frame
 pub counts-there : (epsilon from : ℕ) (bytes : List ℕ) → drop (6 + from) (take (6 + 2 * epsilon) bytes) ≡ drop from (decode epsilon bytes .stamp .kn)

@@ -18,6 +18,7 @@ use Rattle.model.specs.Holdback.{held, encodeFrames}
 use Rattle.model.specs.Judge.{Heard, Verdict, taken, refused, judge, hearBy, hearOne, hear, readingOf}
 use Rattle.model.specs.Tick.{takenCount}
 use Rattle.lemmas.proofs.Counts.{trimmed-widened, absorb-wide}
+use Rattle.lemmas.proofs.OneTick.{taken-more}
 use Rattle.holdback.specs.Queue.{endOf}
 use Rattle.holdback.proofs.RoundTrip.{Bytes}
 use Rattle.batch.specs.Walk.{countOf, entryAt, nextAt, walked}
@@ -61,10 +62,6 @@ turning-start {s} {v} {batch} {buffer} clean l q ends =
     }
 
 -- one verdict more
-taken-more : (done : List ℕ) → takenCount (done ++ (0 ∷ [])) ≡ takenCount done + 1
-unfolding takenCount select
-taken-more done = rw (select-append (λ x. eqb x 0) done (0 ∷ [])) (length-append (select (λ x. eqb x 0) done) (0 ∷ []))
-
 refused-more : (done : List ℕ) (x : ℕ) → (x ≡ 0 → ⊥) → takenCount (done ++ (x ∷ [])) ≡ takenCount done
 unfolding takenCount select
 refused-more done x h =

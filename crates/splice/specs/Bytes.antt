@@ -1,7 +1,7 @@
 -- What the clauses of `src/` cite: a list of bytes with some of them replaced, moved, cleared, inserted or cut out.
 -- Each says the whole list, so that what stays as it was is said too. Assumes nothing.
-use Prim.Native.Nat.{ℕ, _+_, _-_, _/_, _%_}
-use mathlib.Core.List.{List, [], _∷_, _++_}
+use Prim.Native.Nat.{ℕ, _+_, _-_}
+use mathlib.Core.List.{List, _++_}
 use lib.ListN.{length, take, drop, replicate}
 
 -- l with s in the place of as many of its bytes, from index `at` on
@@ -31,7 +31,3 @@ inserted l used at s = take at l ++ (s ++ (usedFrom l used at ++ drop (used + le
 -- l, of which the first `used` bytes are in use, without the n bytes from index `at` on: the used bytes after them move left, and zeros fill the place that is freed
 unfoldable pub cutOut : List ℕ → ℕ → ℕ → ℕ → List ℕ
 cutOut l used at n = take at l ++ (usedFrom l used (at + n) ++ (zeros n ++ drop used l))
-
--- the number x as two bytes, the low one first
-abbrev pub twoBytes : ℕ → List ℕ
-twoBytes x = x % 256 ∷ x / 256 ∷ []

@@ -8,8 +8,8 @@
 ghost use mathlib.Core.Path.{_≡_};
 ghost use Prim.Native.Nat.{_+_, _^_, _≤_, _<_};
 ghost use lib.ListN.{length, getD};
-ghost use Rattle.model.specs.Frame.{twoAt};
-ghost use Rattle.splice.specs.Bytes.{pasted, part, cleared, inserted, cutOut, twoBytes};
+ghost use Rattle.model.specs.Frame.{twoAt, twoBytes};
+ghost use Rattle.splice.specs.Bytes.{pasted, part, cleared, inserted, cutOut};
 
 // Copies all of src into dst from index at.
 pub fn copy_into(dst: &mut [u8], at: usize, src: &[u8])

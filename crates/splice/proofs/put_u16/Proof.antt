@@ -3,6 +3,7 @@ use borrow.Author.Needs.{needs}
 use Prim.Native.Nat.{_%_, _/_}
 use native.Mathlib.Omega.{arith}
 use lib.ListN.{length-set}
+use Rattle.model.specs.Frame.{twoBytes}
 use Rattle.splice.proofs.Laws.{two-stored}
 use Rattle.splice.proofs.put_u16.Statement.{statement}
 use Rattle.splice.proofs.put_u16.Tie as tie
@@ -26,6 +27,7 @@ same-length : tie.Need-same-length
 same-length c = search needs
 
 returns : tie.Need-returns
+unfolding twoBytes
 returns c = two-stored (c .args .buf .now) (c .args .at) (c .args .value % 256) (c .args .value / 256) (c .pre .0)
 
 pub put-u16-spec : {M : Type 1} → statement M

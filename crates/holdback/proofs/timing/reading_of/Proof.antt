@@ -1,6 +1,6 @@
 -- `holdback::timing::reading_of` meets its contract: a reading is `near` at the r that the frame has. Assumes nothing.
 use native.Mathlib.Omega.{arith}
-use mathlib.Core.Path.{_≡_, refl, sym, ap, ap₂, _∙_}
+use mathlib.Core.Path.{ap, _∙_}
 use Rattle.timestamp.specs.Views.{setupOf}
 use Rattle.lemmas.proofs.Questions.{limits-from}
 use Rattle.model.specs.Timestamp.{near}
