@@ -141,7 +141,7 @@ def try_crate(crate):
 def try_rounds(work, crate):
     """The same, in a copy of the repository in which the crate is proved."""
     clean, copy = work / "clean", work / "crates" / crate
-    edits = [Edit(path, clean) for path in sorted((clean / "must-fail" / "together").glob("*.edit"))]
+    edits = edits_of(clean)
     verdicts = []
     for together in rounds(edits):
         for part in ("src", "specs"):
@@ -165,9 +165,19 @@ def summary(what, answers):
     sys.exit(1 if failed else 0)
 
 
+def edits_of(crate):
+    """The edits of a crate's folder that are tried together."""
+    return [Edit(path, crate) for path in sorted((crate / "must-fail" / "together").glob("*.edit"))]
+
+
+def cost(crate):
+    """About how long the edits of a crate take: its checks, each as long as its proofs."""
+    return len(rounds(edits_of(crate))) * sum(path.stat().st_size for path in crate.glob("proofs/**/*.antt"))
+
+
 def main():
-    folders = sorted(ROOT.glob("crates/*/must-fail/together"), key=lambda p: -len(list(p.iterdir())))
-    crates = sys.argv[1:] or [p.parent.parent.name for p in folders]
+    folders = sorted((p.parent.parent for p in ROOT.glob("crates/*/must-fail/together")), key=cost, reverse=True)
+    crates = sys.argv[1:] or [folder.name for folder in folders]
     with ThreadPoolExecutor(2) as pool:
         summary("edits tried together", pool.map(try_crate, crates))
 
