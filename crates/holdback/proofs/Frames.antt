@@ -4,16 +4,16 @@ use Prim.Native.Nat.{ℕ, zero, suc, _+_, _*_, _-_, _≤_, _<_}
 use native.Mathlib.Nat.{add-zero, zero-add, suc-mul}
 use native.Mathlib.Omega.{arith}
 use mathlib.Core.Path.{_≡_, refl, sym, ap, ap₂, _∙_}
-use mathlib.Core.Bool.{true}
+use mathlib.Core.Bool.{Bool, true, false}
 use mathlib.Core.Logic.{inl, inr}
 use mathlib.Core.List.{List, [], _∷_, _++_, map, append-assoc, append-nil}
 use lib.ListN.{length, take, drop, getD, length-take, length-drop, List·getD-eq-default}
 use lib.Seq.{drop-drop, getD-drop, getD-take, take-add, take-take}
-use Rattle.laws.specs.Lists.{tab, joined}
+use Rattle.laws.specs.Lists.{tab, leading, joined}
 use Rattle.laws.proofs.Numbers.{lt-or-ge}
-use Rattle.laws.proofs.Lists.{tab-ext, tab-suc, map-tab, joined-append}
+use Rattle.laws.proofs.Lists.{length-tab, getD-tab, tab-ext, tab-suc, map-tab, take-tab, every-tab, leading-unique, joined-append}
 use Rattle.model.specs.Setup.{width}
-use Rattle.model.specs.Frame.{twoAt, twoBytes, encode, wellFormed, payloadCountAt, frameEnd, decode}
+use Rattle.model.specs.Frame.{Frame, twoAt, twoBytes, encode, wellFormed, payloadCountAt, frameEnd, decode}
 use Rattle.model.specs.Holdback.{cutFrames, heldBytes, held}
 use Rattle.frame.proofs.Asking.{counts-part}
 use Rattle.holdback.specs.Queue.{frameStart, bytesAt, frameAt, countsAt}
@@ -55,6 +55,17 @@ pub held-tab : (epsilon : ℕ) (s : List ℕ) → held epsilon s ≡ tab (twoAt 
 unfolding held frameAt
 held-tab epsilon s =
     ap (map (decode epsilon)) (heldBytes-tab epsilon s) ∙ map-tab (decode epsilon) (twoAt s 0) (bytesAt epsilon s)
+
+-- the first k frames have a property that frame k, if there is one, has not
+pub leading-held : (p : Frame → Bool) (epsilon : ℕ) (s : List ℕ) (k : ℕ) → k ≤ twoAt s 0 → ((i : ℕ) → i < k → p (frameAt epsilon s i) ≡ true) → (k < twoAt s 0 → p (frameAt epsilon s k) ≡ false)
+    → leading p (held epsilon s) ≡ k
+leading-held p epsilon s k most ahead stops =
+    let n : ℕ = twoAt s 0 in
+    let frame : ℕ → Frame = frameAt epsilon s in
+    ap (leading p) (held-tab epsilon s)
+    ∙ leading-unique p (tab n frame) k (frame 0) (rw (length-tab n frame) most)
+    (rw (take-tab k n frame most) (every-tab p k frame ahead))
+    (λ h. let l : k < n = rw (length-tab n frame) at h in ap p (getD-tab n frame k (frame 0) l) ∙ stops l)
 
 -- ---- where a frame ends
 

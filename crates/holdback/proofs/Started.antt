@@ -1,31 +1,32 @@
 -- Starts: a table changed place by place, filled by the walk, moved as a frame is put at its place, and a search that starts at an entry.
 -- Assumes nothing.
-use Prim.Native.Nat.{ℕ, zero, suc, _+_, _*_, _-_, _/_, _%_, _≤_, _<_}
+use Prim.Native.Nat.{ℕ, zero, suc, _+_, _*_, _-_, _/_, _%_, _≤_, _<_, zero-le}
+use native.Mathlib.Nat.{not-suc-le-zero, le-of-suc-le-suc, mul-le-mul}
 use native.Mathlib.Omega.{arith}
-use mathlib.Core.Path.{_≡_, refl, sym, ap, ap₂, _∙_}
-use mathlib.Core.Bool.{Bool, true, cond}
+use mathlib.Core.Path.{_≡_, sym, ap, ap₂, _∙_}
+use mathlib.Core.Bool.{Bool, true, false, cond}
 use mathlib.Core.Logic.{_⊎_, inl, inr}
-use mathlib.Core.List.{List}
+use mathlib.Core.List.{List, [], _∷_}
 use lib.Dec.{ltb, eqb}
-use lib.ListN.{length, take, getD, set, length-replicate, getD-replicate, length-take}
-use lib.Seq.{getD-take}
+use lib.ListN.{length, take, getD, set}
 use borrow.Author.Tests.{lt-ltb, le-ltb, ltb-true, leb-true, eq-eqb, ne-eqb}
 use Rattle.laws.specs.Lists.{tab, every, leading, insertAt}
-use Rattle.laws.proofs.Numbers.{clash, lt-or-ge, eq-or-ne, and-intro, cond-same}
-use Rattle.laws.proofs.Lists.{length-tab, getD-tab, tab-getD, tab-ext, set-tab, replicate-tab, take-tab, every-tab, every-index, every-mono, every-insertAt, leading-stops}
-use Rattle.model.specs.Setup.{Setup}
+use Rattle.laws.proofs.Numbers.{lt-or-ge, eq-or-ne, true-or-false, cond-same}
+use Rattle.laws.proofs.Lists.{length-tab, getD-tab, tab-getD, eq-tab, tab-ext, set-tab, replicate-tab, take-tab, leading-le, every-leading}
+use Rattle.model.specs.Setup.{Setup, depth}
 use Rattle.model.specs.Timestamp.{sum}
 use Rattle.model.specs.Frame.{Frame, twoAt, decode}
 use Rattle.model.specs.Order.{due, dueNear, before}
 use Rattle.model.specs.Holdback.{held, soundHoldback, notEarly}
 use Rattle.lemmas.proofs.Bounds.{Limits}
+use Rattle.timestamp.proofs.InLimits.{depth-most}
 use Rattle.holdback.specs.Queue.{frameStart, frameAt}
 use Rattle.holdback.specs.Sound.{fits, follows, frameSound, Led}
-use Rattle.holdback.specs.Starts.{startUnit, startLimit, startPlaces, front, allFront, sumPlace, Start, StartTable, changed, filled, movedStart, movedStarts, Moving}
-use Rattle.holdback.proofs.Frames.{start-zero, held-tab}
-use Rattle.holdback.proofs.Judging.{every-tab-at, fitting, frame-follows}
+use Rattle.holdback.specs.Starts.{startUnit, startLimit, startPlaces, front, allFront, sumPlace, framesBelow, startOf, startsOf, changed, filled, movedStarts, Moving}
+use Rattle.holdback.proofs.Frames.{start-zero, start-most, held-tab, leading-held, FormedUpTo}
+use Rattle.holdback.proofs.Judging.{every-tab-at, fitting, frame-follows, sound-few, sound-frames, sound-formed}
 use Rattle.holdback.proofs.Order.{due-first, due-before}
-use Rattle.holdback.proofs.Placed.{take-insert-low, take-insert-high}
+use Rattle.holdback.proofs.Changes.{length-held}
 
 -- ---- a table with some of its places changed
 
@@ -92,20 +93,6 @@ all-front starts e =
     ∙ tab-ext startPlaces (λ k. cond (ltb k 0) (getD starts k 0) (cond (ltb k startPlaces) front (getD starts k 0))) (λ k. front) (λ k h. rw (le-ltb k 0 (omega arith), lt-ltb k startPlaces h))
     ∙ sym (replicate-tab startPlaces front)
 
--- ---- an entry taken apart
-
-entry-index : (i at : ℕ) → at < startUnit → (i * startUnit + at) / startUnit ≡ i
-entry-index i at h = omega arith
-
-entry-next : (i at : ℕ) → at < startUnit → (i * startUnit + at) % startUnit ≡ at
-entry-next i at h = omega arith
-
-moved-index : (m size : ℕ) → m % startUnit + size < startUnit → (m + (startUnit + size)) / startUnit ≡ suc (m / startUnit)
-moved-index m size h = omega arith
-
-moved-next : (m size : ℕ) → m % startUnit + size < startUnit → (m + (startUnit + size)) % startUnit ≡ m % startUnit + size
-moved-next m size h = omega arith
-
 -- ---- places of sums
 
 module _ (s : Setup) (v : ℕ) where
@@ -113,6 +100,11 @@ module _ (s : Setup) (v : ℕ) where
   pub smaller-before : (f g : Frame) → sumPlace s v f < sumPlace s v g → before (s .epsilon) (s .modulus) v f g ≡ true
   unfolding sumPlace
   smaller-before f g h = due-before (s .epsilon) (s .delta) (s .modulus) v f g (omega arith)
+
+  -- what comes before has no larger one
+  before-smaller : (f g : Frame) → before (s .epsilon) (s .modulus) v f g ≡ true → sumPlace s v f ≤ sumPlace s v g
+  unfolding sumPlace
+  before-smaller f g h = omega (arith, due-first (s .epsilon) (s .delta) (s .modulus) v f g h)
 
   pub place-inside : Limits s → (bytes : List ℕ) → fits s v bytes ≡ true → sumPlace s v (decode (s .epsilon) bytes) < startPlaces
   unfolding sumPlace notEarly dueNear due sum
@@ -124,174 +116,176 @@ module _ (s : Setup) (v : ℕ) where
   -- sums do not fall in a queue in order
   pub sums-rise : (b : List ℕ) (i : ℕ) → ((k : ℕ) → k < i + 1 → frameSound s v b k ≡ true) → (j : ℕ) → j < i + 1
       → sumPlace s v (frameAt (s .epsilon) b j) ≤ sumPlace s v (frameAt (s .epsilon) b i)
-  unfolding follows sumPlace
+  unfolding follows
   sums-rise b zero each j h = let e : j ≡ 0 = omega arith in rw e (omega arith)
   sums-rise b (suc i) each j h =
-      let step = due-first (s .epsilon) (s .delta) (s .modulus) v (frameAt (s .epsilon) b i) (frameAt (s .epsilon) b (suc i)) (frame-follows s v b (suc i) (each (suc i) (omega arith))) in
+      let step = before-smaller (frameAt (s .epsilon) b i) (frameAt (s .epsilon) b (suc i)) (frame-follows s v b (suc i) (each (suc i) (omega arith))) in
       go (sums-rise b i (λ k l. each k (omega arith)) j) step (lt-or-ge j (i + 1))
     where
       go : (j < i + 1 → sumPlace s v (frameAt (s .epsilon) b j) ≤ sumPlace s v (frameAt (s .epsilon) b i))
-          → dueNear (s .epsilon) (s .delta) (s .modulus) v (frameAt (s .epsilon) b i) ≤ dueNear (s .epsilon) (s .delta) (s .modulus) v (frameAt (s .epsilon) b (suc i))
+          → sumPlace s v (frameAt (s .epsilon) b i) ≤ sumPlace s v (frameAt (s .epsilon) b (suc i))
           → (j < i + 1) ⊎ (i + 1 ≤ j)
           → sumPlace s v (frameAt (s .epsilon) b j) ≤ sumPlace s v (frameAt (s .epsilon) b (suc i))
       go r t (inl l) = omega (arith, r l)
       go r t (inr l) = let e : j ≡ suc i = omega arith in rw e (omega arith)
 
--- ---- entries
+-- ---- the table of a queue
 
-module _ {s : Setup} {v : ℕ} {queue : List ℕ} where
-  pub front-start : (count k : ℕ) → Start s v queue count k front
-  unfolding every
-  front-start count k = record { inside = omega arith; next = sym (start-zero (s .epsilon) queue); smaller = refl }
+module _ (s : Setup) (v : ℕ) (queue : List ℕ) where
+  pub starts-long : {l : List ℕ} → l ≡ startsOf s v queue → length l ≡ startPlaces
+  unfolding startsOf
+  starts-long e = ap length e ∙ length-tab startPlaces (startOf s v queue)
 
-  pub front-table : {count : ℕ} {starts : List ℕ} → starts ≡ allFront → StartTable s v queue count starts
-  front-table {count} {starts} e =
-      record {
-        long = ap length e ∙ length-replicate startPlaces front;
-        each = λ k h. let m : getD starts k 0 ≡ front = ap (λ (l : List ℕ). getD l k 0) e ∙ getD-replicate startPlaces k front 0 h in rw m (front-start count k);
-      }
+  pub starts-at : {l : List ℕ} → l ≡ startsOf s v queue → (k : ℕ) → k < startPlaces → getD l k 0 ≡ startOf s v queue k
+  unfolding startsOf
+  starts-at e k h = ap (λ (l : List ℕ). getD l k 0) e ∙ getD-tab startPlaces (startOf s v queue) k 0 h
 
-  -- it is one of more frames too
-  later : {count count′ k m : ℕ} → count ≤ count′ → Start s v queue count k m → Start s v queue count′ k m
-  later le o = record { inside = omega (arith, o .inside); next = o .next; smaller = o .smaller }
+  pub starts-by : {l : List ℕ} → length l ≡ startPlaces → ((k : ℕ) → k < startPlaces → getD l k 0 ≡ startOf s v queue k) → l ≡ startsOf s v queue
+  unfolding startsOf
+  starts-by {l} long each = eq-tab l startPlaces (startOf s v queue) 0 long each
 
   -- the entry of frame i, or of the end
-  pub start-at : {count i at k : ℕ} → at ≡ frameStart (s .epsilon) queue i → at < startUnit → i ≤ count → i ≤ twoAt queue 0
-      → ((j : ℕ) → j < i → sumPlace s v (frameAt (s .epsilon) queue j) < k) → Start s v queue count k (i * startUnit + at)
-  start-at {count} {i} {at} {k} starts low few most smaller =
-      let e = entry-index i at low in
+  pub start-at : {i at k : ℕ} → at ≡ frameStart (s .epsilon) queue i → i ≤ twoAt queue 0
+      → ((j : ℕ) → j < i → sumPlace s v (frameAt (s .epsilon) queue j) < k) → (i < twoAt queue 0 → k ≤ sumPlace s v (frameAt (s .epsilon) queue i))
+      → i * startUnit + at ≡ startOf s v queue k
+  unfolding startOf
+  start-at {i} {at} {k} starts most smaller larger =
       let frame : ℕ → Frame = frameAt (s .epsilon) queue in
-      record {
-        inside = omega (arith, e);
-        next = entry-next i at low ∙ starts ∙ ap (frameStart (s .epsilon) queue) (sym e);
-        smaller =
-            rw (e, held-tab (s .epsilon) queue, take-tab i (twoAt queue 0) frame most)
-            (every-tab (λ f. ltb (sumPlace s v f) k) i frame (λ j h. lt-ltb (sumPlace s v (frame j)) k (smaller j h)));
-      }
+      let e : framesBelow s v queue k ≡ i =
+      leading-held (λ f. ltb (sumPlace s v f) k) (s .epsilon) queue i most (λ j h. lt-ltb (sumPlace s v (frame j)) k (smaller j h)) (λ h. le-ltb (sumPlace s v (frame i)) k (larger h)) in
+      rw (e, starts)
 
-  pub filled-table : {count count′ m from : ℕ} (to : ℕ) {starts l : List ℕ} → count ≤ count′ → StartTable s v queue count starts
-      → ((k : ℕ) → from ≤ k → Start s v queue count′ k m) → l ≡ filled m from to starts → StartTable s v queue count′ l
-  filled-table {count} {count′} {m} {from} to {starts} {l} le old new e =
-      record {
-        long = changed-long (λ _. m) from starts to e;
-        each = λ k h. rw (changed-at (λ _. m) from starts to e k h) (go k h (lt-or-ge k from) (lt-or-ge k to));
-      }
+  -- some places more
+  pub filled-more : {m from to : ℕ} (starts : List ℕ) {l : List ℕ} → ((k : ℕ) → k < from → k < startPlaces → getD starts k 0 ≡ startOf s v queue k)
+      → ((k : ℕ) → from ≤ k → k < to → m ≡ startOf s v queue k) → l ≡ filled m from to starts → (k : ℕ) → k < to → k < startPlaces → getD l k 0 ≡ startOf s v queue k
+  filled-more {m} {from} {to} starts old new e k h inside = changed-at (λ _. m) from starts to e k inside ∙ go (lt-or-ge k from)
     where
-      go : (k : ℕ) → k < startPlaces → (k < from) ⊎ (from ≤ k) → (k < to) ⊎ (to ≤ k) → Start s v queue count′ k (cond (ltb k from) (getD starts k 0) (cond (ltb k to) m (getD starts k 0)))
-      go k h (inl a) b = rw (lt-ltb k from a) (later le (old .each k h))
-      go k h (inr a) (inl b) = rw (le-ltb k from a, lt-ltb k to b) (new k a)
-      go k h (inr a) (inr b) = rw (le-ltb k from a, le-ltb k to b) (later le (old .each k h))
+      go : (k < from) ⊎ (from ≤ k) → cond (ltb k from) (getD starts k 0) (cond (ltb k to) m (getD starts k 0)) ≡ startOf s v queue k
+      go (inl a) = rw (lt-ltb k from a) (old k a inside)
+      go (inr a) = rw (le-ltb k from a, lt-ltb k to h) (new k a h)
 
--- a table for no frames is one for any queue's
-pub no-frames : {s : Setup} {v : ℕ} {queue queue′ starts : List ℕ} → StartTable s v queue 0 starts → StartTable s v queue′ 0 starts
-unfolding every
-no-frames {s} {v} {queue} {queue′} {starts} t =
-    record {
-      long = t .long;
-      each = λ k h. go (getD starts k 0) k (t .each k h);
-    }
-  where
-    go : (m k : ℕ) → Start s v queue 0 k m → Start s v queue′ 0 k m
-    go m k o =
-        let none : m / startUnit ≡ 0 = omega (arith, o .inside) in
-        record {
-          inside = o .inside;
-          next = o .next ∙ ap (frameStart (s .epsilon) queue) none ∙ start-zero (s .epsilon) queue ∙ sym (ap (frameStart (s .epsilon) queue′) none ∙ start-zero (s .epsilon) queue′);
-          smaller = rw none refl;
-        }
+  -- the entries of an empty queue
+  pub starts-none : held (s .epsilon) queue ≡ [] → allFront ≡ startsOf s v queue
+  unfolding startsOf startOf leading
+  starts-none none =
+      replicate-tab startPlaces front
+      ∙ tab-ext startPlaces (λ _. front) (startOf s v queue) (λ k _. rw (none, start-zero (s .epsilon) queue))
+
+-- ---- how large they are
+
+-- a number of frames, and where they end
+pub figures-small : (s : Setup) (queue : List ℕ) (i : ℕ) → Limits s → i ≤ depth (s .n) (s .epsilon) (s .delta) → FormedUpTo (s .epsilon) queue i → (i ≤ 1792) × (frameStart (s .epsilon) queue i < startUnit)
+unfolding depth
+figures-small s queue i limits few formed =
+    let most : i ≤ 1792 = omega (arith, depth-most (s .n) (s .epsilon) (s .delta) (limits .n-most) (limits .epsilon-most) (limits .delta-most)) in
+    let wide : 39 + 2 * s .epsilon ≤ 71 = omega (arith, limits .epsilon-most) in
+    let all : i * (39 + 2 * s .epsilon) ≤ 1792 * 71 = mul-le-mul most wide in
+    (most, omega (arith, start-most (s .epsilon) queue i formed))
+
+module _ (s : Setup) (v : ℕ) (queue : List ℕ) (limits : Limits s) (sound : soundHoldback s v queue ≡ true) where
+  below-most : (k : ℕ) → framesBelow s v queue k ≤ twoAt queue 0
+  below-most k = omega (arith, leading-le (λ f. ltb (sumPlace s v f) k) (held (s .epsilon) queue), length-held (s .epsilon) queue)
+
+  below-small : (k : ℕ) → (framesBelow s v queue k ≤ 1792) × (frameStart (s .epsilon) queue (framesBelow s v queue k) < startUnit)
+  below-small k =
+      let i : ℕ = framesBelow s v queue k in
+      figures-small s queue i limits (omega (arith, below-most k, sound-few s v queue sound)) (sound-formed s v queue i (λ j l. sound-frames s v queue sound j (omega (arith, below-most k))))
+
+  pub moving : {step : ℕ} {starts : List ℕ} → starts ≡ startsOf s v queue → step < startLimit → Moving starts step
+  unfolding startOf
+  moving e small =
+      record { long = starts-long s v queue e; each = λ k h. omega (arith, starts-at s v queue e k h, below-small k); small = small }
+
+  -- a search that starts at an entry
+  pub start-leads : {count k m : ℕ} (f : Frame) → 2 ≤ length queue → count ≡ twoAt queue 0 → m ≡ startOf s v queue k → k ≡ sumPlace s v f
+      → Led (λ g. before (s .epsilon) (s .modulus) v g f) s v queue count (m / startUnit) (m % startUnit)
+  unfolding startOf
+  start-leads {count} {k} {m} f two counted e own =
+      let i : ℕ = framesBelow s v queue k in
+      let frame : ℕ → Frame = frameAt (s .epsilon) queue in
+      let low = below-small k .1 in
+      let most : i ≤ twoAt queue 0 = below-most k in
+      let all : every (λ g. ltb (sumPlace s v g) k) (tab i frame) ≡ true =
+      ap (every (λ g. ltb (sumPlace s v g) k)) (sym (ap (take i) (held-tab (s .epsilon) queue) ∙ take-tab i (twoAt queue 0) frame most)) ∙ every-leading (λ g. ltb (sumPlace s v g) k) (held (s .epsilon) queue) in
+      let index : m / startUnit ≡ i = omega arith in
+      let next : m % startUnit ≡ frameStart (s .epsilon) queue i = omega arith in
+      record {
+        sound = sound;
+        two = two;
+        counted = counted;
+        starts = next ∙ ap (frameStart (s .epsilon) queue) (sym index);
+        most = omega arith;
+        ahead = λ j h. smaller-before s v (frame j) f (omega (arith, ltb-true (sumPlace s v (frame j)) k (every-tab-at (λ g. ltb (sumPlace s v g) k) i frame all j (omega arith)), own));
+      }
 
 -- ---- a frame put at its place
 
-pub moving : {s : Setup} {v : ℕ} {queue : List ℕ} {count step : ℕ} {starts : List ℕ} → StartTable s v queue count starts → count < 16383 → step < startLimit → Moving starts step
-moving old few small =
-    record { long = old .long; each = λ k h. omega (arith, old .each k h .inside); small = small }
+module _ {A : Type 0} where
+  -- a property that another has too
+  leading-mono : (p q : A → Bool) (l : List A) → ((x : A) → p x ≡ true → q x ≡ true) → leading p l ≤ leading q l
+  unfolding leading
+  leading-mono p q [] f = zero-le
+  leading-mono p q (x ∷ l) f =
+      let r : leading p l ≤ leading q l = leading-mono p q l f in
+      elim (true-or-false (p x)) [
+        | inl e ↦ rw (e, f x e) (omega arith)
+        | inr e ↦ rw e zero-le
+      ]
 
--- frames of which a test holds are no more than those at the front of which it holds
-leading-most : (p : Frame → Bool) (l : List Frame) (d : Frame) (q : ℕ) → q ≤ length l → every p (take q l) ≡ true → q ≤ leading p l
-leading-most p l d q le h = go (lt-or-ge (leading p l) q)
-  where
-    go : (leading p l < q) ⊎ (q ≤ leading p l) → q ≤ leading p l
-    go (inl k) =
-        let yes′ : p (getD l (leading p l) d) ≡ true = ap p (sym (getD-take q l (leading p l) d k)) ∙ every-index p (take q l) d h (leading p l) (omega (arith, length-take q l)) in
-        absurd (clash yes′ (leading-stops p l d (omega arith)))
-    go (inr k) = k
+  leading-stays : (p : A → Bool) (i : ℕ) (x : A) (l : List A) → leading p l ≤ i → p x ≡ false → leading p (insertAt i x l) ≡ leading p l
+  unfolding leading insertAt
+  leading-stays p zero x l h e = rw e (omega arith)
+  leading-stays p (suc i) x [] h e = rw e
+  leading-stays p (suc i) x (y ∷ l) h e =
+      elim (true-or-false (p y)) [
+        | inl t ↦ rw t (ap suc (leading-stays p i x l (le-of-suc-le-suc (rw t at h)) e))
+        | inr t ↦ rw t
+      ]
 
--- the frames before an entry for a sum that is not larger than a frame's come before the frame
-low-entry : {s : Setup} {v : ℕ} {queue : List ℕ} {count k m : ℕ} (f : Frame) → Start s v queue count k m → length (held (s .epsilon) queue) ≡ count → k ≤ sumPlace s v f
-    → m / startUnit ≤ leading (λ g. before (s .epsilon) (s .modulus) v g f) (held (s .epsilon) queue)
-low-entry {s} {v} {queue} {count} {k} {m} f o all h =
-    let first : every (λ g. before (s .epsilon) (s .modulus) v g f) (take (m / startUnit) (held (s .epsilon) queue)) ≡ true =
-    every-mono (λ g. ltb (sumPlace s v g) k) (λ g. before (s .epsilon) (s .modulus) v g f) (take (m / startUnit) (held (s .epsilon) queue)) (λ g l. smaller-before s v g f (omega (arith, ltb-true (sumPlace s v g) k l))) (o .smaller) in
-    leading-most (λ g. before (s .epsilon) (s .modulus) v g f) (held (s .epsilon) queue) f (m / startUnit) (omega (arith, o .inside, all)) first
+  leading-grows : (p : A → Bool) (i : ℕ) (x : A) (l : List A) → i ≤ leading p l → p x ≡ true → leading p (insertAt i x l) ≡ suc (leading p l)
+  unfolding leading insertAt
+  leading-grows p zero x l h e = rw e
+  leading-grows p (suc i) x [] h e = absurd (not-suc-le-zero h)
+  leading-grows p (suc i) x (y ∷ l) h e =
+      elim (true-or-false (p y)) [
+        | inl t ↦ rw t (ap suc (leading-grows p i x l (le-of-suc-le-suc (rw t at h)) e))
+        | inr t ↦ absurd (not-suc-le-zero (rw t at h))
+      ]
 
-module _ {s : Setup} {v : ℕ} {queue queue′ : List ℕ} {count : ℕ} (f : Frame) (place size : ℕ) {starts : List ℕ} (old : StartTable s v queue count starts)
-    (all : length (held (s .epsilon) queue) ≡ count)
+module _ (s : Setup) (v : ℕ) (queue queue′ : List ℕ) (f : Frame) (place size : ℕ)
     (place-is : leading (λ g. before (s .epsilon) (s .modulus) v g f) (held (s .epsilon) queue) ≡ place)
     (held-is : held (s .epsilon) queue′ ≡ insertAt place f (held (s .epsilon) queue))
-    (room : (i : ℕ) → i ≤ count → frameStart (s .epsilon) queue i + size < startUnit)
     (ahead : (i : ℕ) → i ≤ place → frameStart (s .epsilon) queue′ i ≡ frameStart (s .epsilon) queue i)
-    (behind : (i : ℕ) → place ≤ i → i ≤ count → frameStart (s .epsilon) queue′ (suc i) ≡ frameStart (s .epsilon) queue i + size) where
-  module _ (k m : ℕ) (o : Start s v queue count k m) where
-    -- an entry before the place stays
-    stay : m / startUnit ≤ place → Start s v queue′ (suc count) k m
-    stay h =
-        record {
-          inside = omega (arith, o .inside);
-          next = o .next ∙ sym (ahead (m / startUnit) h);
-          smaller =
-              ap (λ (l : List Frame). every (λ g. ltb (sumPlace s v g) k) (take (m / startUnit) l)) held-is
-              ∙ ap (every (λ g. ltb (sumPlace s v g) k)) (take-insert-low place (m / startUnit) f (held (s .epsilon) queue) h (omega (arith, o .inside, all)))
-              ∙ o .smaller;
-        }
+    (behind : (i : ℕ) → place ≤ i → i ≤ twoAt queue 0 → frameStart (s .epsilon) queue′ (suc i) ≡ frameStart (s .epsilon) queue i + size) where
+  -- an entry for a sum that is not larger stands before the place, and stays
+  entry-stays : (k : ℕ) → k ≤ sumPlace s v f → startOf s v queue k ≡ startOf s v queue′ k
+  unfolding startOf
+  entry-stays k h =
+      let below : Frame → Bool = λ g. ltb (sumPlace s v g) k in
+      let low : framesBelow s v queue k ≤ place =
+      rw (← place-is) (leading-mono below (λ g. before (s .epsilon) (s .modulus) v g f) (held (s .epsilon) queue) (λ g l. smaller-before s v g f (omega (arith, ltb-true (sumPlace s v g) k l)))) in
+      let e : framesBelow s v queue′ k ≡ framesBelow s v queue k =
+      ap (leading below) held-is ∙ leading-stays below place f (held (s .epsilon) queue) low (le-ltb (sumPlace s v f) k h) in
+      rw e (ap (λ (n : ℕ). framesBelow s v queue k * startUnit + n) (sym (ahead (framesBelow s v queue k) low)))
 
-    -- one behind it moves
-    move : sumPlace s v f < k → place ≤ m / startUnit → Start s v queue′ (suc count) k (m + (startUnit + size))
-    move l h =
-        let short : m % startUnit + size < startUnit = omega (arith, o .next, room (m / startUnit) (o .inside)) in
-        let e = moved-index m size short in
-        record {
-          inside = omega (arith, e, o .inside);
-          next =
-              moved-next m size short
-              ∙ ap (λ (x : ℕ). x + size) (o .next)
-              ∙ sym (ap (frameStart (s .epsilon) queue′) e ∙ behind (m / startUnit) h (o .inside));
-          smaller =
-              ap₂ (λ (n : ℕ) (l : List Frame). every (λ g. ltb (sumPlace s v g) k) (take n l)) e held-is
-              ∙ ap (every (λ g. ltb (sumPlace s v g) k)) (take-insert-high place (m / startUnit) f (held (s .epsilon) queue) h)
-              ∙ every-insertAt (λ g. ltb (sumPlace s v g) k) place f (take (m / startUnit) (held (s .epsilon) queue))
-              ∙ and-intro (lt-ltb (sumPlace s v f) k l) (o .smaller);
-        }
+  -- one for a larger sum stands behind it, and moves
+  entry-moves : (k : ℕ) → sumPlace s v f < k → startOf s v queue k + (startUnit + size) ≡ startOf s v queue′ k
+  unfolding startOf
+  entry-moves k h =
+      let below : Frame → Bool = λ g. ltb (sumPlace s v g) k in
+      let i : ℕ = framesBelow s v queue k in
+      let high : place ≤ i =
+      rw (← place-is) (leading-mono (λ g. before (s .epsilon) (s .modulus) v g f) below (held (s .epsilon) queue) (λ g l. lt-ltb (sumPlace s v g) k (omega (arith, before-smaller s v g f l)))) in
+      let e : framesBelow s v queue′ k ≡ suc i =
+      ap (leading below) held-is ∙ leading-grows below place f (held (s .epsilon) queue) high (lt-ltb (sumPlace s v f) k h) in
+      let most : i ≤ twoAt queue 0 = omega (arith, leading-le below (held (s .epsilon) queue), length-held (s .epsilon) queue) in
+      rw e (omega (arith, behind i high most))
 
-    moved-one : sumPlace s v f < k → (m < place * startUnit) ⊎ (place * startUnit ≤ m) → Start s v queue′ (suc count) k (movedStart (place * startUnit) (startUnit + size) m)
-    unfolding movedStart
-    moved-one l (inl h) = rw (lt-ltb m (place * startUnit) h) (stay (omega arith))
-    moved-one l (inr h) = rw (le-ltb m (place * startUnit) h) (move l (omega arith))
-
-  pub moved-table : {l : List ℕ} → l ≡ movedStarts (sumPlace s v f + 1) (place * startUnit) (startUnit + size) starts → StartTable s v queue′ (suc count) l
-  moved-table {l} e =
-      record {
-        long = changed-long (movedStart (place * startUnit) (startUnit + size)) (sumPlace s v f + 1) starts startPlaces e;
-        each = λ k h. rw (changed-at (movedStart (place * startUnit) (startUnit + size)) (sumPlace s v f + 1) starts startPlaces e k h) (go k h (getD starts k 0) (old .each k h) (lt-or-ge k (sumPlace s v f + 1)));
-      }
+  pub moved-table : {starts l : List ℕ} → starts ≡ startsOf s v queue → l ≡ movedStarts (sumPlace s v f + 1) (startUnit + size) starts → l ≡ startsOf s v queue′
+  moved-table {starts} {l} old e =
+      let from : ℕ = sumPlace s v f + 1 in
+      starts-by s v queue′ (changed-long (λ m. m + (startUnit + size)) from starts startPlaces e) (λ k h. changed-at (λ m. m + (startUnit + size)) from starts startPlaces e k h ∙ rw (starts-at s v queue old k h, lt-ltb k startPlaces h) (go k (lt-or-ge k from)))
     where
-      go : (k : ℕ) → k < startPlaces → (m : ℕ) → Start s v queue count k m → (k < sumPlace s v f + 1) ⊎ (sumPlace s v f + 1 ≤ k)
-          → Start s v queue′ (suc count) k (cond (ltb k (sumPlace s v f + 1)) m (cond (ltb k startPlaces) (movedStart (place * startUnit) (startUnit + size) m) m))
-      go k h m o (inl a) = rw (lt-ltb k (sumPlace s v f + 1) a) (stay k m o (omega (arith, place-is, low-entry f o all (omega arith))))
-      go k h m o (inr a) = rw (le-ltb k (sumPlace s v f + 1) a, lt-ltb k startPlaces h) (moved-one k m o (omega arith) (lt-or-ge m (place * startUnit)))
-
--- ---- a search that starts at an entry
-
-pub start-leads : {s : Setup} {v : ℕ} {b : List ℕ} {count k m : ℕ} (f : Frame) → (soundHoldback s v b ≡ true) × ((2 ≤ length b) × (count ≡ twoAt b 0)) → Start s v b count k m → k ≡ sumPlace s v f
-    → Led (λ g. before (s .epsilon) (s .modulus) v g f) s v b count (m / startUnit) (m % startUnit)
-start-leads {s} {v} {b} {count} {k} {m} f q o e =
-    let frame : ℕ → Frame = frameAt (s .epsilon) b in
-    let most : m / startUnit ≤ twoAt b 0 = omega (arith, o .inside, q .1 .1) in
-    let all : every (λ g. ltb (sumPlace s v g) k) (tab (m / startUnit) frame) ≡ true = rw (held-tab (s .epsilon) b, take-tab (m / startUnit) (twoAt b 0) frame most) at (o .smaller) in
-    record {
-      sound = q .0;
-      two = q .1 .0;
-      counted = q .1 .1;
-      starts = o .next;
-      most = o .inside;
-      ahead = λ j h. smaller-before s v (frame j) f (omega (arith, ltb-true (sumPlace s v (frame j)) k (every-tab-at (λ g. ltb (sumPlace s v g) k) (m / startUnit) frame all j h), e));
-    }
+      go : (k : ℕ) → (k < sumPlace s v f + 1) ⊎ (sumPlace s v f + 1 ≤ k) → cond (ltb k (sumPlace s v f + 1)) (startOf s v queue k) (startOf s v queue k + (startUnit + size)) ≡ startOf s v queue′ k
+      go k (inl a) = rw (lt-ltb k (sumPlace s v f + 1) a) (entry-stays k (omega arith))
+      go k (inr a) = rw (le-ltb k (sumPlace s v f + 1) a) (entry-moves k (omega arith))

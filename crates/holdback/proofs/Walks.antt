@@ -2,36 +2,35 @@
 -- Assumes nothing.
 use Prim.Native.Nat.{ℕ, zero, suc, _+_, _*_, _-_, _≤_, _<_, _^_}
 use native.Mathlib.Numerals.{add-one}
-use native.Mathlib.Nat.{not-suc-le-zero, mul-le-mul}
+use native.Mathlib.Nat.{not-suc-le-zero}
 use native.Mathlib.Omega.{arith}
 use mathlib.Core.Path.{_≡_, refl, sym, ap, ap₂, _∙_}
 use mathlib.Core.Bool.{Bool, true, false, _||_, not, cond}
 use mathlib.Core.Logic.{_⊎_, inl, inr}
 use mathlib.Core.List.{List, [], _∷_, List·Memᴰ}
 use lib.Dec.{eqb}
-use lib.ListN.{length, take, drop, length-take, length-drop}
+use lib.ListN.{length, take, drop, getD, length-take, length-drop, length-replicate}
 use lib.Seq.{take-all}
 use borrow.Author.Tests.{eq-eqb, ne-eqb}
 use Rattle.laws.specs.Lists.{tab, any, leading}
 use Rattle.laws.proofs.Numbers.{clash, lt-or-ge, false-of-no, false-of-not, true-of-not, not-of-true, not-of-false, and-intro}
-use Rattle.laws.proofs.Lists.{length-tab, getD-tab, tab-suc, any-append, index-of-mem, take-tab, every-tab, leading-unique}
+use Rattle.laws.proofs.Lists.{length-tab, getD-tab, tab-suc, any-append, index-of-mem}
 use Rattle.model.specs.Setup.{Setup, depth}
 use Rattle.model.specs.Frame.{Frame, twoAt, decode, frameEnd, wellFormed}
 use Rattle.model.specs.Question.{firstNo, frameQuestions}
 use Rattle.model.specs.Holdback.{held, passes, sameOrigin, soundHoldback}
 use Rattle.lemmas.proofs.Bounds.{Limits}
-use Rattle.timestamp.proofs.InLimits.{depth-most}
 use Rattle.timestamp.specs.declared.ordering.Rank.{Rank}
 use Rattle.timestamp.specs.Ranks.{Ranked}
 use Rattle.holdback.specs.declared.soundness.Judged.{Judged}
 use Rattle.holdback.specs.Queue.{frameStart, bytesAt, frameAt, rankOf, rankBefore, countsAt, Stands}
 use Rattle.holdback.specs.Sound.{fits, follows, isNew, frameSound, timely, rankFollows, Compared, unsound, judgedAt, Walking, Starting, Opened, openedQueue, Led}
 use Rattle.holdback.specs.Seen.{InWindow, Within, rankSlot, hasMark, withMark, marked, seenTable, tableLength}
-use Rattle.holdback.specs.Starts.{startUnit, startPlaces, allFront, rankPlace, sumPlace, StartTable, filled}
+use Rattle.holdback.specs.Starts.{startUnit, startPlaces, front, allFront, rankPlace, sumPlace, startOf, startsOf, filled}
 use Rattle.holdback.proofs.RoundTrip.{passing}
-use Rattle.holdback.proofs.Frames.{start-zero, start-suc, start-inside, start-within, start-most, counts-at, held-tab, FormedUpTo}
+use Rattle.holdback.proofs.Frames.{start-zero, start-suc, start-inside, start-within, counts-at, held-tab, leading-held, FormedUpTo}
 use Rattle.holdback.proofs.Judging.{fitting, frame-fits, frame-follows, frame-new, sound-by, sound-few, sound-frames, sound-formed}
-use Rattle.holdback.proofs.Started.{front-table, filled-table, start-at, place-inside, sums-rise}
+use Rattle.holdback.proofs.Started.{changed-long, place-inside, sums-rise, starts-by, start-at, filled-more, figures-small}
 use Rattle.holdback.proofs.Seen.{fitting-window, within, rank-slot, seen-at, seen-more, length-seen}
 use Rattle.holdback.proofs.Testing.{check-yes, unfit-passes, fits-by, ranked, rank-fits, rank-placed, before-by}
 
@@ -120,13 +119,8 @@ module _ {s : Setup} {v : ℕ} {b table : List ℕ} {i prev : ℕ} {last : Rank}
   at-inside = rw (walk .starts) (start-within (s .epsilon) b i (walk .two) formed-so-far)
 
   -- an entry has room for it
-  pub at-low-enough : Limits s → i ≤ depth (s .n) (s .epsilon) (s .delta) → (i < 2048) × (at < startUnit)
-  unfolding depth
-  at-low-enough limits few =
-      let most : i ≤ 1792 = omega (arith, depth-most (s .n) (s .epsilon) (s .delta) (limits .n-most) (limits .epsilon-most) (limits .delta-most)) in
-      let wide : 39 + 2 * s .epsilon ≤ 71 = omega (arith, limits .epsilon-most) in
-      let all : i * (39 + 2 * s .epsilon) ≤ 1792 * 71 = mul-le-mul most wide in
-      (omega arith, omega (arith, walk .starts, start-most (s .epsilon) b i formed-so-far))
+  pub at-low-enough : Limits s → i ≤ depth (s .n) (s .epsilon) (s .delta) → (i ≤ 1792) × (at < startUnit)
+  at-low-enough limits few = rw (walk .starts) (figures-small s b i limits few formed-so-far)
 
   pub table-long : length table ≡ tableLength
   table-long = ap length (walk .table-is) ∙ length-seen s v (tab i (frameAt (s .epsilon) b))
@@ -268,13 +262,19 @@ module _ {s : Setup} {v : ℕ} {b table : List ℕ} {i prev : ℕ} {last : Rank}
 
 -- ---- the whole walk
 
--- the table of starts at frame i: the frames so far have their sums' places below `from`, where the next ones are filled
+-- the table of starts at frame i: the places below `from` are filled, and the frames so far have the places of their sums there
 pub record Filling (s : Setup) (v : ℕ) (b : List ℕ) (i from : ℕ) (starts : List ℕ) : Type 0 where
-  pub table : StartTable s v b i starts
+  pub long : length starts ≡ startPlaces
+  pub done : (k : ℕ) → k < from → k < startPlaces → getD starts k 0 ≡ startOf s v b k
   pub below : (j : ℕ) → j < i → sumPlace s v (frameAt (s .epsilon) b j) < from
 
 pub filling-starts : {s : Setup} {v : ℕ} {b starts : List ℕ} → starts ≡ allFront → Filling s v b 0 0 starts
-filling-starts e = record { table = front-table e; below = λ j h. absurd (not-suc-le-zero h) }
+filling-starts e =
+    record {
+      long = ap length e ∙ length-replicate startPlaces front;
+      done = λ k h _. absurd (not-suc-le-zero h);
+      below = λ j h. absurd (not-suc-le-zero h);
+    }
 
 pub walk-starts : {s : Setup} {v : ℕ} {b table starts : List ℕ} {count : ℕ} → (last : Rank) → Starting s v b table starts count → Walking s v b table 0 2 last 2
 unfolding tab
@@ -363,25 +363,27 @@ module _ {s : Setup} {v : ℕ} {b table : List ℕ} {i prev : ℕ} {last : Rank}
   judged-place limits =
       omega (arith, rank-placed s v (frameAt (s .epsilon) b i) rank (right .rank-is), place-inside s v limits (bytesAt (s .epsilon) b i) (frame-fits s v b i (right .sound)))
 
-  pub filling-turns : {from k : ℕ} {starts l : List ℕ} → Filling s v b i from starts → at < startUnit → i < twoAt b 0
+  pub filling-turns : {from k : ℕ} {starts l : List ℕ} → Filling s v b i from starts → i < twoAt b 0
       → k ≡ rankPlace s rank → l ≡ filled (i * startUnit + at) from (k + 1) starts → Filling s v b (i + 1) (k + 1) l
-  filling-turns {from} {k} old low few e h =
+  filling-turns {from} {k} {starts} old more e h =
       let own : k ≡ sumPlace s v (frameAt (s .epsilon) b i) = e ∙ rank-placed s v (frameAt (s .epsilon) b i) rank (right .rank-is) in
       record {
-        table = filled-table (k + 1) (omega arith) (old .table) (λ j g. start-at (walk .starts) low (omega arith) (omega arith) (λ n l. omega (arith, old .below n l))) h;
+        long = changed-long (λ _. i * startUnit + at) from starts (k + 1) h;
+        done = filled-more s v b starts (old .done) (λ j low high. start-at s v b (walk .starts) (omega arith) (λ n l. omega (arith, old .below n l)) (λ _. omega arith)) h;
         below = λ j l. omega (arith, own, sums-rise s v b i each-more j l);
       }
 
 -- the end fills the last places
 pub filling-ends : {s : Setup} {v : ℕ} {b table : List ℕ} {i prev : ℕ} {last : Rank} {at from count : ℕ} {starts l : List ℕ} → Walking s v b table i prev last at → Filling s v b i from starts
-    → at < startUnit → count ≡ twoAt b 0 → i ≤ count → count ≤ i → l ≡ filled (count * startUnit + at) from startPlaces starts → StartTable s v b count l
-filling-ends {s} {b} {i} {count} walk old low counted le ge h =
+    → count ≡ twoAt b 0 → i ≤ count → count ≤ i → l ≡ filled (count * startUnit + at) from startPlaces starts → l ≡ startsOf s v b
+filling-ends {s} {v} {b} {i} {at} {from} {count} {starts} walk old counted le ge h =
     let e : i ≡ count = omega arith in
-    filled-table startPlaces le (old .table) (λ j g. start-at (walk .starts ∙ ap (frameStart (s .epsilon) b) e) low (omega arith) (omega (arith, counted)) (λ n l. omega (arith, old .below n (omega arith)))) h
+    starts-by s v b (changed-long (λ _. count * startUnit + at) from starts startPlaces h)
+    (λ k l. filled-more s v b starts (old .done) (λ j low high. start-at s v b (walk .starts ∙ ap (frameStart (s .epsilon) b) e) (omega (arith, counted)) (λ n l. omega (arith, old .below n (omega arith))) (λ l. absurd (omega (arith, counted)))) h k l l)
 
 pub opened-no : {s : Setup} {v : ℕ} {b table starts : List ℕ} → soundHoldback s v b ≡ false → table ≡ seenTable s v [] → starts ≡ allFront → Opened s v b false 0 2 table starts
 unfolding openedQueue
-opened-no {s} {v} {b} h e none = record { sound-is = sym h; count-is = rw h; stop-is = rw h; table-is = e ∙ rw h; started = front-table none }
+opened-no {s} {v} {b} h e none = record { sound-is = sym h; count-is = rw h; stop-is = rw h; table-is = e ∙ rw h; starts-is = none ∙ rw h }
 
 pub walk-fails : (s : Setup) (v : ℕ) (b : List ℕ) (i : ℕ) → i < twoAt b 0 → frameSound s v b i ≡ false → soundHoldback s v b ≡ false
 walk-fails s v b i l h = false-of-no (soundHoldback s v b) (λ e. clash (sound-frames s v b e i l) h)
@@ -389,10 +391,10 @@ walk-fails s v b i l h = false-of-no (soundHoldback s v b) (λ e. clash (sound-f
 pub too-many : (s : Setup) (v : ℕ) (b : List ℕ) → depth (s .n) (s .epsilon) (s .delta) < twoAt b 0 → soundHoldback s v b ≡ false
 too-many s v b h = false-of-no (soundHoldback s v b) (λ e. omega (arith, sound-few s v b e))
 
-pub opened-yes : {s : Setup} {v : ℕ} {b t m table starts : List ℕ} {count i prev : ℕ} {last : Rank} {at : ℕ} → Starting s v b t m count → Walking s v b table i prev last at → StartTable s v b count starts → i ≤ count → count ≤ i
+pub opened-yes : {s : Setup} {v : ℕ} {b t m table starts : List ℕ} {count i prev : ℕ} {last : Rank} {at : ℕ} → Starting s v b t m count → Walking s v b table i prev last at → starts ≡ startsOf s v b → i ≤ count → count ≤ i
     → Opened s v b true count at table starts
 unfolding openedQueue
-opened-yes {s} {v} {b} {count} {i} begin walk started le ge =
+opened-yes {s} {v} {b} {count} {i} begin walk filled-all le ge =
     let all : i ≡ twoAt b 0 = omega (arith, begin .counted) in
     let sound : soundHoldback s v b ≡ true =
     sound-by s v b (omega (arith, begin .counted, begin .few)) (λ k l. walk .each k (omega arith)) in
@@ -404,7 +406,7 @@ opened-yes {s} {v} {b} {count} {i} begin walk started le ge =
           walk .table-is
           ∙ ap (seenTable s v)
           (ap (λ (n : ℕ). tab n (frameAt (s .epsilon) b)) all ∙ sym (held-tab (s .epsilon) b) ∙ rw sound);
-      started = started;
+      starts-is = filled-all ∙ rw sound;
     }
 
 -- ---- a search in a sound queue: the frames at the front of which a test holds
@@ -423,18 +425,8 @@ led-starts {s} {b} q =
 module _ {p : Frame → Bool} {s : Setup} {v : ℕ} {b : List ℕ} {count i at : ℕ} (led : Led p s v b count i at) where
   stands : (i < count → p (frameAt (s .epsilon) b i) ≡ false) → Stands (s .epsilon) b (leading p (held (s .epsilon) b)) i at
   stands last =
-      let n : ℕ = twoAt b 0 in
-      let frame : ℕ → Frame = frameAt (s .epsilon) b in
-      let le : i ≤ n = omega (arith, led .most, led .counted) in
-      record {
-        frames =
-            sym
-            (ap (leading p) (held-tab (s .epsilon) b)
-            ∙ leading-unique p (tab n frame) i (frame 0) (rw (length-tab n frame) le)
-            (rw (take-tab i n frame le) (every-tab p i frame (led .ahead)))
-            (λ h. let l : i < n = rw (length-tab n frame) at h in ap p (getD-tab n frame i (frame 0) l) ∙ last (omega (arith, led .counted))));
-        starts = led .starts;
-      }
+      let le : i ≤ twoAt b 0 = omega (arith, led .most, led .counted) in
+      record { frames = sym (leading-held p (s .epsilon) b i le (led .ahead) (λ h. last (omega (arith, led .counted)))); starts = led .starts }
 
   -- it holds of all
   pub led-ends : count ≤ i → Stands (s .epsilon) b (leading p (held (s .epsilon) b)) i at

@@ -18,7 +18,7 @@ use Rattle.timestamp.specs.Ranks.{Ranked}
 use Rattle.holdback.specs.declared.soundness.Judged.{Judged}
 use Rattle.holdback.specs.Queue.{frameStart, bytesAt, frameAt, rankOf, rankBefore, countsAt}
 use Rattle.holdback.specs.Seen.{seenTable}
-use Rattle.holdback.specs.Starts.{StartTable, allFront}
+use Rattle.holdback.specs.Starts.{startsOf, allFront}
 
 -- of a frame alone: it passes 10 to 12, is not early and not overdue
 unfoldable pub fits : Setup → ℕ → List ℕ → Bool
@@ -95,7 +95,7 @@ pub record Opened (s : Setup) (v : ℕ) (queue : List ℕ) (sound : Bool) (count
   pub count-is : count ≡ cond (soundHoldback s v queue) (twoAt queue 0) 0
   pub stop-is : stop ≡ cond (soundHoldback s v queue) (frameStart (s .epsilon) queue (twoAt queue 0)) 2
   pub table-is : table ≡ seenTable s v (openedQueue s v queue)
-  pub started : StartTable s v queue count starts
+  pub starts-is : starts ≡ cond (soundHoldback s v queue) (startsOf s v queue) allFront
 
 -- a search in a sound queue has come to frame i, which starts at `at`, and the test holds of every frame before it
 pub record Led (p : Frame → Bool) (s : Setup) (v : ℕ) (b : List ℕ) (count i at : ℕ) : Type 0 where

@@ -1,12 +1,12 @@
--- Starts: where a search for the place of a frame may start, by the frame's sum.
+-- Starts: where a search for the place of a frame starts, by the frame's sum.
 -- Assumes nothing.
-use Prim.Native.Nat.{ℕ, _+_, _-_, _/_, _%_, _≤_, _<_}
+use Prim.Native.Nat.{ℕ, _+_, _*_, _-_, _<_}
 use mathlib.Core.Path.{_≡_}
-use mathlib.Core.Bool.{true, cond}
+use mathlib.Core.Bool.{cond}
 use mathlib.Core.List.{List}
 use lib.Dec.{ltb}
-use lib.ListN.{length, take, getD, replicate}
-use Rattle.laws.specs.Lists.{tab, every}
+use lib.ListN.{length, getD, replicate}
+use Rattle.laws.specs.Lists.{tab, leading}
 use Rattle.model.specs.Setup.{Setup}
 use Rattle.model.specs.Frame.{Frame}
 use Rattle.model.specs.Order.{due, dueNear}
@@ -30,7 +30,7 @@ startPlaces = 96
 abbrev pub front : ℕ
 front = 2
 
--- the table with which every search starts at the front
+-- the table of an empty queue
 abbrev pub allFront : List ℕ
 allFront = replicate startPlaces front
 
@@ -42,16 +42,18 @@ rankPlace s rank = due (s .epsilon) (s .delta) (rank .reading) (rank .c) - s .mo
 unfoldable pub sumPlace : Setup → ℕ → Frame → ℕ
 sumPlace s v f = dueNear (s .epsilon) (s .delta) (s .modulus) v f - s .modulus
 
--- an entry for place k: of the first count frames of a queue so many stand before it, the next one starts there, and those before have smaller sums
-pub record Start (s : Setup) (v : ℕ) (queue : List ℕ) (count k m : ℕ) : Type 0 where
-  pub inside : m / startUnit ≤ count
-  pub next : m % startUnit ≡ frameStart (s .epsilon) queue (m / startUnit)
-  pub smaller : every (λ f. ltb (sumPlace s v f) k) (take (m / startUnit) (held (s .epsilon) queue)) ≡ true
+-- how many frames stand at the front of a queue whose sums have places below k
+abbrev pub framesBelow : Setup → ℕ → List ℕ → ℕ → ℕ
+framesBelow s v queue k = leading (λ f. ltb (sumPlace s v f) k) (held (s .epsilon) queue)
 
--- a table of such entries
-pub record StartTable (s : Setup) (v : ℕ) (queue : List ℕ) (count : ℕ) (starts : List ℕ) : Type 0 where
-  pub long : length starts ≡ startPlaces
-  pub each : (k : ℕ) → k < startPlaces → Start s v queue count k (getD starts k 0)
+-- the entry for place k: those frames, and where the next one, or the end, starts
+unfoldable pub startOf : Setup → ℕ → List ℕ → ℕ → ℕ
+startOf s v queue k =
+    framesBelow s v queue k * startUnit + frameStart (s .epsilon) queue (framesBelow s v queue k)
+
+-- the table of a queue
+unfoldable pub startsOf : Setup → ℕ → List ℕ → List ℕ
+startsOf s v queue = tab startPlaces (startOf s v queue)
 
 -- the table with the places from one up to, not including, another changed
 unfoldable pub changed : (ℕ → ℕ) → ℕ → ℕ → List ℕ → List ℕ
@@ -62,12 +64,9 @@ changed f from to starts =
 abbrev pub filled : ℕ → ℕ → ℕ → List ℕ → List ℕ
 filled m from to starts = changed (λ _. m) from to starts
 
--- an entry, once a frame is put into the queue: one from the floor on has one frame more before it
-unfoldable pub movedStart : ℕ → ℕ → ℕ → ℕ
-movedStart floor step m = cond (ltb m floor) m (m + step)
-
-abbrev pub movedStarts : ℕ → ℕ → ℕ → List ℕ → List ℕ
-movedStarts from floor step starts = changed (movedStart floor step) from startPlaces starts
+-- a step added to each from a place on
+abbrev pub movedStarts : ℕ → ℕ → List ℕ → List ℕ
+movedStarts from step starts = changed (λ m. m + step) from startPlaces starts
 
 -- numbers with which entries are moved
 pub record Moving (starts : List ℕ) (step : ℕ) : Type 0 where

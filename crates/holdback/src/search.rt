@@ -15,7 +15,7 @@ ghost use Rattle.model.specs.Judge.{placeFor};
 ghost use Rattle.timestamp.specs.Views.{setupOf};
 ghost use Rattle.holdback.specs.Queue.{Stands};
 ghost use Rattle.holdback.specs.Sound.{fits};
-ghost use Rattle.holdback.specs.Starts.{StartTable};
+ghost use Rattle.holdback.specs.Starts.{startsOf};
 
 // 01: "its place on the shelf": the shelved frames that come before it, and where the place stands.
 pub fn place_for(
@@ -28,7 +28,7 @@ pub fn place_for(
 ) -> Place
     requires { ⌜ (inLimits (setupOf s) ≡ true) × (v < s .modulus) ⌝ }
     requires { ⌜ (soundHoldback (setupOf s) v (now buf) ≡ true) × ((2 ≤ length (now buf)) × (count ≡ twoAt (now buf) 0)) ⌝ }
-    requires { ⌜ StartTable (setupOf s) v (now buf) count (now starts) ⌝ }
+    requires { ⌜ now starts ≡ startsOf (setupOf s) v (now buf) ⌝ }
     requires { ⌜ fits (setupOf s) v (now frame) ≡ true ⌝ }
     ensures { λ p. ⌜ Stands (s .epsilon) (now (buf .entry)) (placeFor (setupOf s) v (held (s .epsilon) (now (buf .entry))) (decode (s .epsilon) (now (frame .entry)))) (p .index) (p .at) ⌝ }
 {

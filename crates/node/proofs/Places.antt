@@ -26,12 +26,12 @@ use Rattle.holdback.specs.Queue.{frameStart, endOf, Figures}
 use Rattle.holdback.specs.Seen.{InWindow, seenTable, marked}
 use Rattle.holdback.specs.Sound.{openedQueue}
 use Rattle.holdback.specs.Sound as sounds
-use Rattle.holdback.specs.Starts.{startUnit, sumPlace, StartTable, Moving, movedStarts}
+use Rattle.holdback.specs.Starts.{startUnit, allFront, sumPlace, startsOf, Moving, movedStarts}
 use Rattle.holdback.proofs.RoundTrip.{Bytes}
 use Rattle.holdback.proofs.Frames.{held-tab, take-start, start-zero, start-within, start-most}
 use Rattle.holdback.proofs.Changes.{formed-frames, length-held}
-use Rattle.holdback.proofs.Placed.{Wide, length-joined-insert, start-before, start-behind, count-behind, end-behind}
-use Rattle.holdback.proofs.Started.{moving, moved-table, no-frames}
+use Rattle.holdback.proofs.Placed.{Wide, length-joined-insert, start-before, start-behind, end-behind}
+use Rattle.holdback.proofs.Started.{starts-none, moving, moved-table}
 use Rattle.holdback.proofs.Seen.{seen-insert}
 use Rattle.node.specs.States.{Timed, Queued, Taking, Placing, QueueOpened, openedBuffer}
 use Rattle.node.proofs.Verdicts.{taken-passed, judged-form, fits-when, late-window}
@@ -160,12 +160,8 @@ module _ {s : Setup} {v : ℕ} {buffer : List ℕ} {place : ℕ} {bytes : List �
   short = let shape = formed-from (s .epsilon) bytes (k .form) in omega (arith, k .limits .epsilon-most)
 
   -- the starts can be moved
-  pub movable : {starts : List ℕ} → StartTable s v buffer (twoAt buffer 0) starts → Moving starts (startUnit + length bytes)
-  movable m = moving m (omega (arith, k .few)) (omega (arith, short))
-
-  start-low : (i : ℕ) → i ≤ twoAt buffer 0 → frameStart (s .epsilon) buffer i + length bytes < startUnit
-  start-low i h =
-      omega (arith, start-within (s .epsilon) buffer i (k .two) (λ j l. formed-frames (s .epsilon) buffer (k .formed) j (omega arith)), t .size, size-small s (k .limits), short)
+  pub movable : {starts : List ℕ} → starts ≡ startsOf s v buffer → Moving starts (startUnit + length bytes)
+  movable e = moving s v buffer (k .limits) (t .sound) e (omega (arith, short))
 
   -- what placing it is told
   pub figures : {count at stop : ℕ} → count ≡ twoAt buffer 0 → Placing (s .epsilon) buffer place at stop → Figures (s .epsilon) buffer count stop place at
@@ -203,17 +199,16 @@ module _ {s : Setup} {v : ℕ} {buffer : List ℕ} {place : ℕ} {bytes : List �
       pub more-ends : endOf (s .epsilon) buffer′ ≡ endOf (s .epsilon) buffer + length bytes
       more-ends = end-behind here clean bytes bytes-clean (k .form) wide buffer′ e
 
-      more-started : {sum : ℕ} {starts starts′ : List ℕ} → StartTable s v buffer (twoAt buffer 0) starts → sum ≡ sumPlace s v (decode (s .epsilon) bytes)
-          → starts′ ≡ movedStarts (sum + 1) (place * startUnit) (startUnit + length bytes) starts → StartTable s v buffer′ (twoAt buffer′ 0) starts′
+      more-starts : {sum : ℕ} {starts starts′ : List ℕ} → starts ≡ startsOf s v buffer → sum ≡ sumPlace s v (decode (s .epsilon) bytes)
+          → starts′ ≡ movedStarts (sum + 1) (startUnit + length bytes) starts → starts′ ≡ startsOf s v buffer′
       unfolding placeFor
-      more-started {starts} old own moved =
-          rw (count-behind here clean bytes bytes-clean (k .form) wide buffer′ e)
-          (moved-table (decode (s .epsilon) bytes) place (length bytes) old (length-held (s .epsilon) buffer) (k .place-is) more-held start-low
+      more-starts {starts} old own moved =
+          moved-table s v buffer buffer′ (decode (s .epsilon) bytes) place (length bytes) (k .place-is) more-held
           (start-before here clean bytes bytes-clean (k .form) wide buffer′ e) (start-behind here clean bytes bytes-clean (k .form) wide buffer′ e)
-          (moved ∙ ap (λ (n : ℕ). movedStarts (n + 1) (place * startUnit) (startUnit + length bytes) starts) own))
+          old (moved ∙ ap (λ (n : ℕ). movedStarts (n + 1) (startUnit + length bytes) starts) own)
 
       pub more-queued : {sum : ℕ} {table table′ starts starts′ : List ℕ} → Queued s v buffer table starts → table′ ≡ marked s v (decode (s .epsilon) bytes) table
-          → sum ≡ sumPlace s v (decode (s .epsilon) bytes) → starts′ ≡ movedStarts (sum + 1) (place * startUnit) (startUnit + length bytes) starts → Queued s v buffer′ table′ starts′
+          → sum ≡ sumPlace s v (decode (s .epsilon) bytes) → starts′ ≡ movedStarts (sum + 1) (startUnit + length bytes) starts → Queued s v buffer′ table′ starts′
       unfolding overlay
       more-queued old h′ own moved =
           let room : length more < depth (s .n) (s .epsilon) (s .delta) = queue-room s v more (k .limits) (k .below) more-ok in
@@ -223,28 +218,28 @@ module _ {s : Setup} {v : ℕ} {buffer : List ℕ} {place : ℕ} {bytes : List �
             sound = ap (soundHoldback s v) e ∙ frames-sound s v more (drop (length (encodeFrames more)) buffer) (k .limits) (k .below) more-ok;
             table-is =
                 h′ ∙ (ap (marked s v (decode (s .epsilon) bytes)) (old .table-is) ∙ (seen-insert s v (held (s .epsilon) buffer) place (decode (s .epsilon) bytes) ∙ sym (ap (seenTable s v) more-held)));
-            started = more-started (old .started) own moved;
+            starts-is = more-starts (old .starts-is) own moved;
           }
 
 -- ---- the queue opened
 
 module _ (s : Setup) (v : ℕ) (buffer : List ℕ) (t : Timed s v) (size : length buffer ≡ holdbackSize s) where
   pub opened-sound : {stop : ℕ} {table starts : List ℕ} → soundHoldback s v buffer ≡ true → stop ≡ cond (soundHoldback s v buffer) (endOf (s .epsilon) buffer) 2 → table ≡ seenTable s v (openedQueue s v buffer)
-      → {count : ℕ} → count ≡ cond (soundHoldback s v buffer) (twoAt buffer 0) 0 → StartTable s v buffer count starts → QueueOpened s v buffer 0 stop buffer table starts
+      → starts ≡ cond (soundHoldback s v buffer) (startsOf s v buffer) allFront → QueueOpened s v buffer 0 stop buffer table starts
   unfolding openedQueue openedBuffer
-  opened-sound h ends e counted m =
+  opened-sound h ends e m =
       record {
         repaired = rw h;
-        queued = record { size = size; sound = h; table-is = rw h at e; started = rw (counted, h) at m };
+        queued = record { size = size; sound = h; table-is = rw h at e; starts-is = rw h at m };
         ends = rw h at ends;
         buffer-is = rw h;
         queue = rw h;
       }
 
   pub opened-empty : {buffer′ table starts : List ℕ} → soundHoldback s v buffer ≡ false → table ≡ seenTable s v (openedQueue s v buffer)
-      → {count : ℕ} → count ≡ cond (soundHoldback s v buffer) (twoAt buffer 0) 0 → StartTable s v buffer count starts → buffer′ ≡ encodeHoldback (length buffer) [] → QueueOpened s v buffer 2 2 buffer′ table starts
+      → starts ≡ cond (soundHoldback s v buffer) (startsOf s v buffer) allFront → buffer′ ≡ encodeHoldback (length buffer) [] → QueueOpened s v buffer 2 2 buffer′ table starts
   unfolding openedQueue openedBuffer
-  opened-empty {buffer′} h e counted m b =
+  opened-empty {buffer′} h e m b =
       let lim : Limits s = limits-from s (t .limits) in
       let none : (f : Frame) → List·Memᴰ f [] → length (f .stamp .kn) ≡ width (s .epsilon) = λ f m. queue-none s v .frames f m .sound .wide in
       let b′ : buffer′ ≡ encodeHoldback (holdbackSize s) [] = b ∙ ap (λ (n : ℕ). encodeHoldback n []) size in
@@ -257,7 +252,7 @@ module _ (s : Setup) (v : ℕ) (buffer : List ℕ) (t : Timed s v) (size : lengt
               size = ap length b′ ∙ length-holdback s [] lim (queue-none s v .frames) (omega arith);
               sound = ap (soundHoldback s v) b′ ∙ queue-sound s v [] lim (t .below) (queue-none s v);
               table-is = rw h at e ∙ sym (ap (seenTable s v) empty);
-              started = rw none-held (no-frames (rw (counted, h) at m));
+              starts-is = rw h at m ∙ starts-none s v buffer′ empty;
             };
         ends = sym (ap (frameStart (s .epsilon) buffer′) none-held ∙ start-zero (s .epsilon) buffer′);
         buffer-is = rw h b;

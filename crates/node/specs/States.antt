@@ -8,7 +8,7 @@ use lib.ListN.{length}
 use Rattle.laws.specs.Lists.{select, overlay, insertAt}
 use Rattle.model.specs.Setup.{Setup, inLimits}
 use Rattle.model.specs.Timestamp.{Timestamp, trimmed, widened, soundTables, step, replaced, absorb}
-use Rattle.model.specs.Frame.{twoAt, encode, decode}
+use Rattle.model.specs.Frame.{encode, decode}
 use Rattle.model.specs.Batch.{exactBatch, batchEntries}
 use Rattle.model.specs.Holdback.{held, soundHoldback, encodeFrames, encodeHoldback}
 use Rattle.model.specs.Question.{firstNo, frameQuestions}
@@ -18,7 +18,7 @@ use Rattle.model.specs.Tick.{holdbackSize, dueNow, takenCount}
 use Rattle.holdback.specs.Queue.{frameStart, endOf}
 use Rattle.holdback.specs.Seen.{seenTable}
 use Rattle.holdback.specs.Sound.{openedQueue}
-use Rattle.holdback.specs.Starts.{StartTable}
+use Rattle.holdback.specs.Starts.{startsOf}
 
 -- a call that has passed 1 and 2
 pub record Timed (s : Setup) (v : ℕ) : Type 0 where
@@ -35,12 +35,12 @@ pub record Stored (s : Setup) (buffer : List ℕ) : Type 0 where
   pub limits : inLimits s ≡ true
   pub size : length buffer ≡ holdbackSize s
 
--- the buffer has a sound queue, and the tables have the origins of its frames, and where those of each sum start
+-- the buffer has a sound queue, and the two indexes are those of its frames: their origins, and where those of each sum start
 pub record Queued (s : Setup) (v : ℕ) (buffer table starts : List ℕ) : Type 0 where
   pub size : length buffer ≡ holdbackSize s
   pub sound : soundHoldback s v buffer ≡ true
   pub table-is : table ≡ seenTable s v (held (s .epsilon) buffer)
-  pub started : StartTable s v buffer (twoAt buffer 0) starts
+  pub starts-is : starts ≡ startsOf s v buffer
 
 -- a frame that is to be taken, at its place
 pub record Taking (s : Setup) (v : ℕ) (buffer : List ℕ) (place : ℕ) (bytes : List ℕ) : Type 0 where

@@ -1,6 +1,5 @@
 // 01, tick 3: "Each frame of the bundle is judged in turn".
 use crate::questions::judge;
-use crate::queue::place_frame;
 use crate::verdict::Verdict;
 use crate::verdict::number_of;
 use batch::count_of;
@@ -8,9 +7,11 @@ use batch::walker::walk_step;
 use frame::stamp_of;
 use holdback::Place;
 use holdback::mark;
+use holdback::put;
 use holdback::reading_of;
 use holdback::shift_starts;
 use holdback::sum_place;
+use splice::two_at;
 use timestamp::Setup;
 use timestamp::Timestamp;
 ghost use mathlib.Core.Path.{_≡_};
@@ -39,10 +40,10 @@ fn take(
 {
     let epsilon = setup.epsilon as usize;
     let modulus = setup.modulus as usize;
-    place_frame(setup, clock, place, end, s, holdback);
+    let count = two_at(holdback, 0);
+    put(epsilon, holdback, count, end, place, s);
     let k = sum_place(setup, clock, s);
-    let floor = (place.index * 131072) as u32;
-    shift_starts(starts, k + 1, floor, (131072 + s.len()) as u32);
+    shift_starts(starts, k + 1, (131072 + s.len()) as u32);
     mark(setup, clock, s, seen);
     let reading = reading_of(setup, clock, s);
     let other = stamp_of(epsilon, s);

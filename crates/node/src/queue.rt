@@ -1,20 +1,15 @@
-// The hold-back queue (01: the shelf) within one tick: opened, a frame placed, what is due delivered.
-use holdback::Place;
+// The hold-back queue (01: the shelf) within one tick: opened, and what is due delivered.
 use holdback::cut_due;
 use holdback::empty;
-use holdback::put;
 use holdback::sound;
 use splice::two_at;
 use timestamp::Setup;
 ghost use mathlib.Core.Path.{_≡_};
 ghost use lib.ListN.{replicate};
-ghost use Rattle.laws.specs.Lists.{overlay, insertAt};
-ghost use Rattle.model.specs.Frame.{decode};
-ghost use Rattle.model.specs.Holdback.{held, encodeFrames};
 ghost use Rattle.timestamp.specs.Views.{setupOf};
 ghost use Rattle.holdback.specs.Seen.{tableLength};
 ghost use Rattle.holdback.specs.Starts.{allFront};
-ghost use Rattle.node.specs.States.{Timed, Stored, Taking, Placing, Closing, QueueOpened, Delivered};
+ghost use Rattle.node.specs.States.{Timed, Stored, Closing, QueueOpened, Delivered};
 
 // What opening the queue answers beside the buffers.
 pub struct OpenedQueue {
@@ -47,24 +42,6 @@ pub fn open_queue(
     }
     empty(holdback);
     OpenedQueue { repair: 2, end: 2 }
-}
-
-// 01, tick 3: "A taken frame goes on the shelf", at its place.
-pub fn place_frame(
-    setup: Setup,
-    clock: usize,
-    place: Place,
-    end: usize,
-    s: &[u8],
-    holdback: &mut [u8],
-)
-    requires { ⌜ Taking (setupOf setup) clock (now holdback) (place .index) (now s) ⌝ }
-    requires { ⌜ Placing (setup .epsilon) (now holdback) (place .index) (place .at) end ⌝ }
-    ensures { λ _. ⌜ now (holdback .exit)
-        ≡ overlay (encodeFrames (insertAt (place .index) (decode (setup .epsilon) (now (s .entry))) (held (setup .epsilon) (now (holdback .entry))))) (now (holdback .entry)) ⌝ }
-{
-    let count = two_at(holdback, 0);
-    put(setup.epsilon as usize, holdback, count, end, place, s);
 }
 
 // 01, tick 6: every frame that is due "is handed out, in order, and leaves the shelf". Answers how many.

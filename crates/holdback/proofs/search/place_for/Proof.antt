@@ -16,7 +16,7 @@ use Rattle.lemmas.proofs.Bounds.{Limits}
 use Rattle.frame.proofs.Asking.{counts-part}
 use Rattle.holdback.proofs.RoundTrip.{passing}
 use Rattle.holdback.proofs.Testing.{fits-passes, counts-end, ranked, rank-fits, rank-placed, before-rank}
-use Rattle.holdback.proofs.Started.{place-inside, start-leads}
+use Rattle.holdback.proofs.Started.{place-inside, starts-long, starts-at, start-leads}
 use Rattle.holdback.proofs.Walks.{led-inside, led-next, led-passes, led-stops, led-turns, led-ends}
 use Rattle.holdback.proofs.search.place_for.Statement.{statement}
 use Rattle.holdback.proofs.search.place_for.Tie as tie
@@ -81,7 +81,9 @@ mul-start : tie.Need-mul-start Inv-loop μ-loop
 mul-start c = omega (arith, inside c)
 
 shared-slice-read-start : tie.Need-shared-slice-read-start Inv-loop μ-loop
-shared-slice-read-start c = omega (arith, inside (c .before), c .before .before .before .before .before .before .before .before .pre .1 .1 .0 .long)
+shared-slice-read-start c =
+    let start = c .before .before .before .before .before .before .before .before in
+    omega (arith, inside (c .before), starts-long (setupOf (start .args .s)) (start .args .v) (start .args .buf .now) (start .pre .1 .1 .0))
 
 cast-start : tie.Need-cast-start Inv-loop μ-loop
 cast-start c = omega (arith, c .shared-slice-known4 .given (c .before .rank-place .result))
@@ -89,7 +91,8 @@ cast-start c = omega (arith, c .shared-slice-known4 .given (c .before .rank-plac
 loop-holds : tie.Need-loop-holds Inv-loop μ-loop
 loop-holds c =
     let start = c .before .before .before .before .before .before .before .before in
-    start-leads (decode (start .args .s .epsilon) (start .args .frame .now)) (start .pre .1 .0) (start .pre .1 .1 .0 .each (c .before .rank-place .result) (inside (c .before))) (place (c .before))
+    let s = setupOf (start .args .s) in
+    start-leads s (start .args .v) (start .args .buf .now) (limits start) (start .pre .1 .0 .0) (decode (start .args .s .epsilon) (start .args .frame .now)) (start .pre .1 .0 .1 .0) (start .pre .1 .0 .1 .1) (starts-at s (start .args .v) (start .args .buf .now) (start .pre .1 .1 .0) (c .before .rank-place .result) (inside (c .before))) (place (c .before))
 
 sub-frame-end : tie.Need-sub-frame-end Inv-loop μ-loop
 sub-frame-end c = led-inside (c .before .loop .inv) (c .loop-test .taken)

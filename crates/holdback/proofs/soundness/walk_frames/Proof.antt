@@ -36,17 +36,17 @@ module _ (c : tie.At-loop Inv-loop μ-loop) where
   seen-same = table-long (c .loop .inv .0) ∙ sym (starting-long (c .before .before .before .before .pre .1))
 
   starts-same : length (c .loop .starts) ≡ length (c .before .before .before .before .args .starts .now)
-  starts-same = c .loop .inv .1 .0 .table .long ∙ sym (ap length (c .before .before .before .before .pre .1 .all-front) ∙ length-replicate startPlaces front)
+  starts-same = c .loop .inv .1 .0 .long ∙ sym (ap length (c .before .before .before .before .pre .1 .all-front) ∙ length-replicate startPlaces front)
 
   -- an entry has room for where the next frame starts
-  low : (c .loop .i < 2048) × (c .loop .at < startUnit)
+  low : (c .loop .i ≤ 1792) × (c .loop .at < startUnit)
   low = at-low-enough (c .loop .inv .0) (limits-from (setupOf (c .before .before .before .before .args .s)) (c .before .before .before .before .pre .0 .0)) (omega (arith, c .loop .inv .1 .1, c .before .before .before .before .pre .1 .few))
 
 clear-requires : tie.Need-clear-requires Inv-loop μ-loop
 clear-requires c κs = omega (arith, seen-same (c .before .before .before .before .before))
 
 fill-requires : tie.Need-fill-requires Inv-loop μ-loop
-fill-requires c κs = (c .before .before .before .before .before .before .before .before .before .loop .inv .1 .0 .table .long, omega arith)
+fill-requires c κs = (c .before .before .before .before .before .before .before .before .before .loop .inv .1 .0 .long, omega arith)
 
 same-length : tie.Need-same-length Inv-loop μ-loop
 same-length c = omega (arith, seen-same (c .before .before .before .before .before .before .before .before .before .before .before .before), c .before .before .before .before .before .before .clear .kept .0)
@@ -116,7 +116,7 @@ cast-fill : tie.Need-cast-fill Inv-loop μ-loop
 cast-fill c = omega (arith, low (c .before .before .before .before .before .before .before .before .before .before .before))
 
 fill-requires-2 : tie.Need-fill-requires-2 Inv-loop μ-loop
-fill-requires-2 c κs = (c .before .before .before .before .before .before .before .before .before .before .before .loop .inv .1 .0 .table .long, omega (arith, placed (c .before)))
+fill-requires-2 c κs = (c .before .before .before .before .before .before .before .before .before .before .before .loop .inv .1 .0 .long, omega (arith, placed (c .before)))
 
 add-i : tie.Need-add-i Inv-loop μ-loop
 add-i c = omega (arith, low (c .before .before .before .before .before .before .before .before .before .before .before .before .before .before))
@@ -131,7 +131,7 @@ loop-again c =
     let more = c .before .before .before .before .before .before .before .before .before .before .before .before .before .loop-test .taken in (
       walk-turns (walk at) (right at) _ (c .before .before .before .before .before .before .before .set-mark .ensures),
       (
-        filling-turns (walk at) (right at) (loop .inv .1 .0) (low (c .before .before .before .before .before .before .before .before .before .before .before .before .before .before) .1) (omega (arith, more, start at .pre .1 .counted)) (c .before .before .before .before .rank-place .ensures) (c .before .before .fill2 .ensures),
+        filling-turns (walk at) (right at) (loop .inv .1 .0) (omega (arith, more, start at .pre .1 .counted)) (c .before .before .before .before .rank-place .ensures) (c .before .before .fill2 .ensures),
         omega (arith, more),
       ),
     )
@@ -146,7 +146,7 @@ cast-fill-2 : tie.Need-cast-fill-2 Inv-loop μ-loop
 cast-fill-2 c = omega (arith, low (c .before .before), c .before .loop-test .left, c .before .before .loop .inv .1 .1)
 
 fill-requires-3 : tie.Need-fill-requires-3 Inv-loop μ-loop
-fill-requires-3 c κs = (c .before .before .loop .inv .1 .0 .table .long, omega arith)
+fill-requires-3 c κs = (c .before .before .loop .inv .1 .0 .long, omega arith)
 
 same-length-3 : tie.Need-same-length-3 Inv-loop μ-loop
 same-length-3 c = seen-same (c .before .before .before .before .before)
@@ -159,7 +159,7 @@ returns-2 c =
     let loop = c .before .before .before .before .before .loop in
     let start = c .before .before .before .before .before .before .before .before .before in
     let left = c .before .before .before .before .loop-test .left in
-    opened-yes (start .pre .1) (loop .inv .0) (filling-ends (loop .inv .0) (loop .inv .1 .0) (low (c .before .before .before .before .before) .1) (start .pre .1 .counted) (loop .inv .1 .1) left (c .before .before .fill3 .ensures)) (loop .inv .1 .1) left
+    opened-yes (start .pre .1) (loop .inv .0) (filling-ends (loop .inv .0) (loop .inv .1 .0) (start .pre .1 .counted) (loop .inv .1 .1) left (c .before .before .fill3 .ensures)) (loop .inv .1 .1) left
 
 pub walk-frames-spec : {M : Type 1} → statement M
 walk-frames-spec =

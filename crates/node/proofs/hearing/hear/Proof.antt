@@ -9,6 +9,7 @@ use borrow.Author.Needs.{needs}
 use Rattle.model.specs.Holdback.{held}
 use Rattle.lemmas.proofs.Bounds.{Limits}
 use Rattle.lemmas.proofs.Questions.{limits-from}
+use Rattle.holdback.proofs.Started.{starts-long}
 use Rattle.batch.specs.Walk.{countOf, entryAt, nextAt}
 use Rattle.batch.specs.declared.Step.{Step}
 use Rattle.batch.proofs.Walk.{step-ordered, step-within, step-next, step-entry}
@@ -158,7 +159,11 @@ same-length-2 c =
     ∙ sym (ap length (start .pre .1 .0 .table-is) ∙ table-long (setupOf (start .args .setup)) (start .args .clock) (held (start .args .setup .epsilon) (start .args .holdback .now)))
 
 same-length-3 : tie.Need-same-length-3 Inv-loop μ-loop
-same-length-3 c = c .before .loop .inv .queued .started .long ∙ sym (c .before .before .before .before .before .before .before .before .pre .1 .0 .started .long)
+same-length-3 c =
+    let start = c .before .before .before .before .before .before .before .before in
+    let s = setupOf (start .args .setup) in
+    starts-long s (start .args .clock) (c .before .loop .holdback) (c .before .loop .inv .queued .starts-is)
+    ∙ sym (starts-long s (start .args .clock) (start .args .holdback .now) (start .pre .1 .0 .starts-is))
 
 same-length-4 : tie.Need-same-length-4 Inv-loop μ-loop
 same-length-4 c = c .before .loop .inv .long

@@ -15,7 +15,7 @@ use Rattle.holdback.proofs.Started.{place-inside}
 use Rattle.frame.proofs.Asking.{stamp-kept}
 use Rattle.timestamp.specs.Views.{setupOf, stampOf}
 use Rattle.node.proofs.Verdicts.{table-long}
-use Rattle.node.proofs.Places.{Known, known, short, movable, more-held, more-ends, more-queued}
+use Rattle.node.proofs.Places.{Known, known, fits, short, movable, figures, more-held, more-ends, more-queued}
 use Rattle.node.proofs.hearing.take.Statement.{statement}
 use Rattle.node.proofs.hearing.take.Tie as tie
 
@@ -25,81 +25,98 @@ frame c = decode (c .args .setup .epsilon) (c .args .s .now)
 here : (c : tie.Start) → Known (setupOf (c .args .setup)) (c .args .clock) (c .args .holdback .now) (c .args .place .index) (c .args .s .now)
 here c = known (c .pre .0)
 
+-- where it starts, from its calls
+abbrev begin-put : tie.After-put-arg → tie.Start
+begin-put c = c .before .before .before .before .before .before .before .before .before
+
+abbrev begin-place : tie.After-slice-known4 → tie.Start
+begin-place c = c .before .before .before .before .before .before .before .before .before .before .before .before
+
+abbrev begin-mark : tie.After-mark-arg → tie.Start
+begin-mark c = c .before .before .before .before .before .before .before .before .before .before .before .before .before .before .before .before .before .before
+
+abbrev begin-reading : tie.After-slice-known6 → tie.Start
+begin-reading c = c .before .before .before .before .before .before .before .before .before .before .before .before .before .before .before .before .before .before .before .before .before
+
 cast-epsilon : tie.Need-cast-epsilon
 cast-epsilon c = search needs
 
 cast-modulus : tie.Need-cast-modulus
 cast-modulus c = search needs
 
-place-frame-requires : tie.Need-place-frame-requires
-place-frame-requires c κs = (c .before .before .before .before .before .before .before .pre .0, c .before .before .before .before .before .before .before .pre .1 .0)
+two-at-requires : tie.Need-two-at-requires
+two-at-requires c κs = search needs
+
+put-requires : tie.Need-put-requires
+put-requires c κs =
+    let start = begin-put c in
+    let counted = c .before .two-at .ensures in (
+      figures (start .pre .0) counted (start .pre .1 .0),
+      (here start .form, (omega (arith, fits (start .pre .0), start .pre .1 .0 .ends), omega (arith, counted, here start .few))),
+    )
 
 sum-place-requires : tie.Need-sum-place-requires
-sum-place-requires c κs = let start = c .before .before .before .before .before .before .before .before .before .before in ((start .pre .0 .timed .limits, start .pre .0 .timed .below), here start .fit)
+sum-place-requires c κs = let start = begin-place c in ((start .pre .0 .timed .limits, start .pre .0 .timed .below), here start .fit)
 
--- the sum has a place, and the numbers are small
-module _ (c : tie.After-sum-place) where
-  abbrev begin : tie.Start
-  begin = c .before .before .before .before .before .before .before .before .before .before .before
-
-  placed : c .sum-place .result < startPlaces
-  placed = omega (arith, c .sum-place .ensures, place-inside (setupOf (begin .args .setup)) (begin .args .clock) (here begin .limits) (begin .args .s .now) (here begin .fit))
-
-  low : begin .args .place .index < 1792
-  low = omega (arith, here begin .inside, here begin .few)
-
-mul-floor : tie.Need-mul-floor
-mul-floor c = omega (arith, low (c .before))
-
-cast-floor : tie.Need-cast-floor
-cast-floor c = omega (arith, low (c .before))
+-- the sum has a place
+placed : (c : tie.After-sum-place) → c .sum-place .result < startPlaces
+placed c =
+    let start = begin-place (c .before) in
+    omega (arith, c .sum-place .ensures, place-inside (setupOf (start .args .setup)) (start .args .clock) (here start .limits) (start .args .s .now) (here start .fit))
 
 add-shift-starts : tie.Need-add-shift-starts
-add-shift-starts c = omega (arith, placed (c .before .before))
+add-shift-starts c = omega (arith, placed (c .before))
 
 add-shift-starts-2 : tie.Need-add-shift-starts-2
-add-shift-starts-2 c = omega (arith, short (begin (c .before .before) .pre .0))
+add-shift-starts-2 c = omega (arith, short (begin-place (c .before .before) .pre .0))
 
 cast-shift-starts : tie.Need-cast-shift-starts
-cast-shift-starts c = omega (arith, short (begin (c .before .before) .pre .0))
+cast-shift-starts c = omega (arith, short (begin-place (c .before .before) .pre .0))
 
 shift-starts-requires : tie.Need-shift-starts-requires
-shift-starts-requires c κs = movable (c .before .before .before .before .before .before .before .before .before .before .before .before .before .pre .0) (c .before .before .before .before .before .before .before .before .before .before .before .before .before .pre .1 .1 .started)
+shift-starts-requires c κs = let start = begin-place (c .before .before) in movable (start .pre .0) (start .pre .1 .1 .starts-is)
 
 mark-requires : tie.Need-mark-requires
 mark-requires c κs =
-    let start = c .before .before .before .before .before .before .before .before .before .before .before .before .before .before .before .before .before in (
+    let start = begin-mark c in (
       (start .pre .0 .timed .limits, start .pre .0 .timed .below),
       (here start .window, ap length (start .pre .1 .1 .table-is) ∙ table-long (setupOf (start .args .setup)) (start .args .clock) (held (start .args .setup .epsilon) (start .args .holdback .now))),
     )
 
 reading-of-requires : tie.Need-reading-of-requires
-reading-of-requires c κs =
-    let start = c .before .before .before .before .before .before .before .before .before .before .before .before .before .before .before .before .before .before .before .before in
-    ((start .pre .0 .timed .limits, start .pre .0 .timed .below), here start .window .r-below)
+reading-of-requires c κs = let start = begin-reading c in ((start .pre .0 .timed .limits, start .pre .0 .timed .below), here start .window .r-below)
+
+module _ (c : tie.After-reading-of) where
+  abbrev begin : tie.Start
+  begin = begin-reading (c .before)
+
+  reads : c .reading-of .result ≡ readingOf (setupOf (begin .args .setup)) (begin .args .clock) (frame begin)
+  reads = c .reading-of .ensures
+
+  high : c .reading-of .result ≤ 2 ^ 17
+  unfolding readingOf
+  high =
+      let lim = here begin .limits in
+      omega (arith, reads, near-high (begin .args .setup .epsilon) (begin .args .setup .modulus) (begin .args .clock) (frame begin .stamp .r) (lim .epsilon-pos) (omega (arith, lim .modulus-least, lim .epsilon-pos)), lim .modulus-most, lim .epsilon-most)
 
 stamp-of-requires : tie.Need-stamp-of-requires
-stamp-of-requires c κs = (here (c .before .before .before .before .before .before .before .before .before .before .before .before .before .before .before .before .before .before .before .before .before) .limits .epsilon-most, here (c .before .before .before .before .before .before .before .before .before .before .before .before .before .before .before .before .before .before .before .before .before) .form)
+stamp-of-requires c κs = (here (begin c) .limits .epsilon-most, here (begin c) .form)
 
-reads : (c : tie.After-reading-of) → c .reading-of .result ≡ readingOf (setupOf (c .before .before .before .before .before .before .before .before .before .before .before .before .before .before .before .before .before .before .before .before .before .args .setup)) (c .before .before .before .before .before .before .before .before .before .before .before .before .before .before .before .before .before .before .before .before .before .args .clock) (frame (c .before .before .before .before .before .before .before .before .before .before .before .before .before .before .before .before .before .before .before .before .before))
-reads c = c .reading-of .ensures
+module _ (c : tie.After-stamp-of) where
+  lead : c .stamp-of .result .c ≤ 2 ^ 16
+  unfolding widened
+  lead =
+      let known = here (begin (c .before)) in
+      let same : c .stamp-of .result .c ≡ frame (begin (c .before)) .stamp .c = ap (λ (t : Timestamp). t .c) (c .stamp-of .ensures) in
+      omega (arith, known .passed .frame .sound .close, known .limits .epsilon-most)
 
-high : (c : tie.After-reading-of) → c .reading-of .result ≤ 2 ^ 17
-unfolding readingOf
-high c =
-    let start = c .before .before .before .before .before .before .before .before .before .before .before .before .before .before .before .before .before .before .before .before .before in
-    let lim = here start .limits in
-    omega (arith, reads c, near-high (start .args .setup .epsilon) (start .args .setup .modulus) (start .args .clock) (frame start .stamp .r) (lim .epsilon-pos) (omega (arith, lim .modulus-least, lim .epsilon-pos)), lim .modulus-most, lim .epsilon-most)
-
-lead : (c : tie.After-stamp-of) → c .stamp-of .result .c ≤ 2 ^ 16
-unfolding widened
-lead c =
-    let known = here (c .before .before .before .before .before .before .before .before .before .before .before .before .before .before .before .before .before .before .before .before .before .before) in
-    let same : c .stamp-of .result .c ≡ frame (c .before .before .before .before .before .before .before .before .before .before .before .before .before .before .before .before .before .before .before .before .before .before) .stamp .c = ap (λ (t : Timestamp). t .c) (c .stamp-of .ensures) in
-    omega (arith, known .passed .frame .sound .close, known .limits .epsilon-most)
+  other : trimmed (begin (c .before) .args .setup .epsilon) (stampOf (c .stamp-of .result)) ≡ frame (begin (c .before)) .stamp
+  other =
+      let start = begin (c .before) in
+      ap (trimmed (start .args .setup .epsilon)) (c .stamp-of .ensures) ∙ stamp-kept (start .args .setup .epsilon) (start .args .s .now) (here start .limits .epsilon-most) (here start .form)
 
 absorb-requires : tie.Need-absorb-requires
-absorb-requires c κs = (here (c .before .before .before .before .before .before .before .before .before .before .before .before .before .before .before .before .before .before .before .before .before .before) .limits .epsilon-most, (here (c .before .before .before .before .before .before .before .before .before .before .before .before .before .before .before .before .before .before .before .before .before .before) .limits .modulus-most, (high (c .before), lead c)))
+absorb-requires c κs = let lim = here (begin (c .before)) .limits in (lim .epsilon-most, (lim .modulus-most, (high (c .before), lead c)))
 
 same-length : tie.Need-same-length
 same-length c = search needs
@@ -110,22 +127,17 @@ same-length-2 c = search needs
 same-length-3 : tie.Need-same-length-3
 same-length-3 c = search needs
 
-other : (c : tie.After-stamp-of) → trimmed (c .before .before .before .before .before .before .before .before .before .before .before .before .before .before .before .before .before .before .before .before .before .before .args .setup .epsilon) (stampOf (c .stamp-of .result)) ≡ frame (c .before .before .before .before .before .before .before .before .before .before .before .before .before .before .before .before .before .before .before .before .before .before) .stamp
-other c =
-    let start = c .before .before .before .before .before .before .before .before .before .before .before .before .before .before .before .before .before .before .before .before .before .before in
-    ap (trimmed (start .args .setup .epsilon)) (c .stamp-of .ensures) ∙ stamp-kept (start .args .setup .epsilon) (start .args .s .now) (here start .limits .epsilon-most) (here start .form)
-
 returns : tie.Need-returns
 returns c =
-    let start = c .before .before .before .before .before .before .before .before .before .before .before .before .before .before .before .before .before .before .before .before .before .before .before in
-    let placed = c .before .before .before .before .before .before .before .before .before .before .before .before .before .before .before .place-frame .ensures in
-    let clean : Bytes (start .args .holdback .now) = λ i. omega (arith, c .before .before .before .before .before .before .before .before .before .before .before .before .before .before .before .before .before .before .before .before .before .slice-known .given i) in
-    let bytes-clean : Bytes (start .args .s .now) = λ i. omega (arith, c .before .before .before .before .before .before .before .before .before .before .before .before .before .before .before .before .before .before .before .before .before .before .shared-slice-known .given i) in
+    let start = begin (c .before .before) in
+    let placed = c .before .before .before .before .before .before .before .before .before .before .before .before .before .before .put .ensures in
+    let clean : Bytes (start .args .holdback .now) = λ i. omega (arith, c .before .before .before .before .before .before .before .before .before .before .before .before .before .before .before .before .before .before .before .before .before .before .slice-known .given i) in
+    let bytes-clean : Bytes (start .args .s .now) = λ i. omega (arith, c .before .before .before .before .before .before .before .before .before .before .before .before .before .before .before .before .before .before .before .before .before .before .before .shared-slice-known .given i) in
     record {
       stamp =
           c .absorb .ensures
           ∙ ap₂ (λ (x : ℕ) (t : Timestamp). widened (absorb (start .args .setup .epsilon) (start .args .setup .modulus) (trimmed (start .args .setup .epsilon) (stampOf (start .args .stamp))) x t)) (reads (c .before .before)) (other (c .before));
-      queued = more-queued (start .pre .0) placed clean bytes-clean (start .pre .1 .1) (c .before .before .before .before .before .mark .ensures) (c .before .before .before .before .before .before .before .before .before .before .before .before .sum-place .ensures) (c .before .before .before .before .before .before .before .before .before .shift-starts .ensures);
+      queued = more-queued (start .pre .0) placed clean bytes-clean (start .pre .1 .1) (c .before .before .before .before .before .mark .ensures) (c .before .before .before .before .before .before .before .before .before .before .before .sum-place .ensures) (c .before .before .before .before .before .before .before .before .before .shift-starts .ensures);
       buffer-is = placed;
       queue = more-held (start .pre .0) placed;
       ends = more-ends (start .pre .0) placed clean bytes-clean;
@@ -137,10 +149,9 @@ take-spec =
     (tie.spec
     cast-epsilon
     cast-modulus
-    place-frame-requires
+    two-at-requires
+    put-requires
     sum-place-requires
-    mul-floor
-    cast-floor
     add-shift-starts
     add-shift-starts-2
     cast-shift-starts

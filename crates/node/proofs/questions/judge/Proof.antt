@@ -108,7 +108,7 @@ fit c =
 place-for-requires : tie.Need-place-for-requires
 place-for-requires c κs = (
   (c .before .before .before .before .before .before .before .before .before .before .before .before .before .before .before .before .pre .0 .limits, c .before .before .before .before .before .before .before .before .before .before .before .before .before .before .before .before .pre .0 .below),
-  ((c .before .before .before .before .before .before .before .before .before .before .before .before .before .before .before .before .pre .1 .sound, (size-two (setupOf (c .before .before .before .before .before .before .before .before .before .before .before .before .before .before .before .before .args .setup)) (length (c .before .before .before .before .before .before .before .before .before .before .before .before .before .before .before .before .args .holdback .now)) (c .before .before .before .before .before .before .before .before .before .before .before .before .before .before .before .before .pre .1 .size), c .before .before .before .before .before .two-at .ensures)), (rw (c .before .before .before .before .before .two-at .ensures) (c .before .before .before .before .before .before .before .before .before .before .before .before .before .before .before .before .pre .1 .started), fit (c .before .before .before .before .before .before .before .before))),
+  ((c .before .before .before .before .before .before .before .before .before .before .before .before .before .before .before .before .pre .1 .sound, (size-two (setupOf (c .before .before .before .before .before .before .before .before .before .before .before .before .before .before .before .before .args .setup)) (length (c .before .before .before .before .before .before .before .before .before .before .before .before .before .before .before .before .args .holdback .now)) (c .before .before .before .before .before .before .before .before .before .before .before .before .before .before .before .before .pre .1 .size), c .before .before .before .before .before .two-at .ensures)), (c .before .before .before .before .before .before .before .before .before .before .before .before .before .before .before .before .pre .1 .starts-is, fit (c .before .before .before .before .before .before .before .before))),
 )
 
 returns-5 : tie.Need-returns-5

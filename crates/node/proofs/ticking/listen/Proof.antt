@@ -6,6 +6,7 @@ use borrow.Author.Needs.{needs}
 use Rattle.model.specs.Holdback.{soundHoldback}
 use Rattle.lemmas.proofs.Bounds.{Limits}
 use Rattle.lemmas.proofs.Questions.{limits-from}
+use Rattle.holdback.proofs.Started.{starts-long}
 use Rattle.timestamp.specs.Views.{setupOf, stampOf}
 use Rattle.node.specs.States.{stampSound}
 use Rattle.node.proofs.Verdicts.{table-long}
@@ -36,7 +37,9 @@ slice-aggregate-hear c =
     sym (ap length (c .before .before .before .before .before .before .before .open-queue .ensures .queued .table-is) ∙ table-long (setupOf (start .args .setup)) (start .args .clock) _)
 
 slice-aggregate-hear-2 : tie.Need-slice-aggregate-hear-2
-slice-aggregate-hear-2 c = sym (c .before .before .before .before .before .before .before .before .open-queue .ensures .queued .started .long)
+slice-aggregate-hear-2 c =
+    let start = c .before .before .before .before .before .before .before .before .before .before .before .before .before .before .before .before in
+    sym (starts-long (setupOf (start .args .setup)) (start .args .clock) _ (c .before .before .before .before .before .before .before .before .open-queue .ensures .queued .starts-is))
 
 hear-requires : tie.Need-hear-requires
 hear-requires c κs =
