@@ -1,6 +1,6 @@
 -- Laws of the lexicographic order: it is a strict total order, and the first difference decides it.
 -- Assumes nothing.
-use Prim.Native.Nat.{ℕ, zero, suc, _+_, _≤_, _<_, zero-le, suc-le-suc, compare, Ordering, Ordering·lt, Ordering·eq, Ordering·gt}
+use Prim.Native.Nat.{ℕ, zero, suc, _+_, _*_, _≤_, _<_, zero-le, suc-le-suc, compare, Ordering, Ordering·lt, Ordering·eq, Ordering·gt}
 use native.Mathlib.Omega.{arith}
 use native.Mathlib.Nat.{suc-inj, not-suc-le-zero, le-of-suc-le-suc}
 use mathlib.Core.Bool.{true}
@@ -9,7 +9,9 @@ use mathlib.Core.Logic.{_⊎_, inl, inr}
 use mathlib.Core.Path.{_≡_, refl, sym, ap, ap₂, _∙_}
 use lib.ListN.{length, getD}
 use borrow.Author.Tests.{eq-eqb, ne-eqb}
-use Rattle.laws.specs.Lex.{orElse, isLess, lexCompare, firstDifference}
+use Rattle.laws.specs.Lists.{tab}
+use Rattle.laws.specs.Lex.{orElse, isLess, lexCompare, firstDifference, numberOf}
+use Rattle.laws.proofs.Lists.{length-tab, tab-suc}
 use Rattle.laws.proofs.Numbers.{lt-or-ge, eq-or-ne, clash}
 use Rattle.laws.proofs.Numbers.{compare-lt, compare-gt, compare-eq, compare-add}
 
@@ -222,4 +224,39 @@ lex-firstDifference (x ∷ a) (y ∷ b) e h =
             | inl k ↦ lex-head-lt x y a b k ∙ sym (compare-lt k)
             | inr k ↦ let g : y < x = omega arith in lex-head-gt x y a b g ∙ sym (compare-gt g)
           ])
+    ]
+
+-- the same digits make the same number
+pub number-ext : (n : ℕ) (f g : ℕ → ℕ) → ((k : ℕ) → k < n → f k ≡ g k) → numberOf n f ≡ numberOf n g
+unfolding numberOf
+number-ext zero f g h = refl
+number-ext (suc n) f g h =
+    let l : n < suc n = omega arith in
+    ap₂ (λ (a b : ℕ). a * 256 + b) (number-ext n f g (λ k t. h k (omega arith))) (h n l)
+
+-- digits of which one number is made are the same where the numbers are
+pub number-same : (n : ℕ) (f g : ℕ → ℕ) → ((k : ℕ) → f k < 256) → ((k : ℕ) → g k < 256) → numberOf n f ≡ numberOf n g → tab n f ≡ tab n g
+unfolding numberOf tab
+number-same zero f g p q e = refl
+number-same (suc n) f g p q e =
+    let h : numberOf n f ≡ numberOf n g = omega (arith, p n, q n) in
+    let d : f n ≡ g n = omega (arith, h) in
+    tab-suc n f ∙ (ap₂ (λ (l : List ℕ) (x : ℕ). l ++ (x ∷ [])) (number-same n f g p q h) d ∙ sym (tab-suc n g))
+
+-- digits that make the smaller number come first
+pub number-less : (n : ℕ) (f g : ℕ → ℕ) → ((k : ℕ) → f k < 256) → ((k : ℕ) → g k < 256) → numberOf n f < numberOf n g → lexCompare (tab n f) (tab n g) ≡ Ordering·lt
+unfolding numberOf
+number-less zero f g p q h = absurd (omega arith)
+number-less (suc n) f g p q h =
+    let whole : lexCompare (tab (suc n) f) (tab (suc n) g) ≡ orElse (lexCompare (tab n f) (tab n g)) (lexCompare (f n ∷ []) (g n ∷ [])) =
+    ap₂ lexCompare (tab-suc n f) (tab-suc n g) ∙ lex-append (tab n f) (tab n g) (f n ∷ []) (g n ∷ []) (length-tab n f ∙ sym (length-tab n g)) in
+    elim (lt-or-ge (numberOf n f) (numberOf n g)) [
+      | inl l ↦ whole ∙ ap (λ (o : Ordering). orElse o (lexCompare (f n ∷ []) (g n ∷ []))) (number-less n f g p q l)
+      | inr l ↦
+          let e : numberOf n f ≡ numberOf n g = omega (arith, p n, q n) in
+          let d : f n < g n = omega (arith, e) in
+          whole
+          ∙ (ap (λ (o : Ordering). orElse o (lexCompare (f n ∷ []) (g n ∷ [])))
+          (ap (λ (l : List ℕ). lexCompare l (tab n g)) (number-same n f g p q e) ∙ lex-refl (tab n g))
+          ∙ lex-head-lt (f n) (g n) [] [] d)
     ]

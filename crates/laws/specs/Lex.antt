@@ -1,6 +1,6 @@
 -- Lexicographic order of lists of numbers: the first difference decides.
 -- Assumes nothing.
-use Prim.Native.Nat.{ℕ, suc, compare, Ordering, Ordering·lt, Ordering·eq, Ordering·gt}
+use Prim.Native.Nat.{ℕ, zero, suc, _+_, _*_, compare, Ordering, Ordering·lt, Ordering·eq, Ordering·gt}
 use mathlib.Core.Bool.{Bool, true, false, cond}
 use mathlib.Core.List.{List, [], _∷_}
 use lib.Dec.{eqb}
@@ -29,3 +29,8 @@ unfoldable pub firstDifference : List ℕ → List ℕ → ℕ
 firstDifference [] ys = 0
 firstDifference (x ∷ xs) [] = 0
 firstDifference (x ∷ xs) (y ∷ ys) = cond (eqb x y) (suc (firstDifference xs ys)) 0
+
+-- n digits below 256 as one number, the first the highest
+unfoldable pub numberOf : ℕ → (ℕ → ℕ) → ℕ
+numberOf zero f = 0
+numberOf (suc n) f = numberOf n f * 256 + f n

@@ -3,12 +3,13 @@
 use mathlib.Core.Path.{_≡_, refl, sym, ap, _∙_}
 use mathlib.Core.List.{List, [], _∷_, _++_, append-assoc}
 use mathlib.Core.Logic.{_⊎_, ⊎-elim}
-use Prim.Native.Nat.{ℕ, suc, _+_, _-_, _≤_, _<_}
+use Prim.Native.Nat.{ℕ, suc, _+_, _-_, _*_, _≤_, _<_}
 use native.Mathlib.Nat.{add-zero}
 use native.Mathlib.Numerals.{add-one}
 use native.Mathlib.Omega.{arith}
 use lib.ListN.{length, take, drop, getD, set, length-append, length-take, length-drop, length-set, length-replicate, replicate-append-replicate, take-append-drop}
 use lib.Seq.{length-take-le, take-append-le, drop-append-le, drop-append-add, take-take, take-at, take-all, take-suc, drop-at, drop-drop, drop-length, set-split, getD-take, getD-drop, slice, slice-empty, slice-cons, length-slice}
+use Rattle.laws.specs.Lex.{numberOf}
 use Rattle.splice.specs.Bytes.{pasted, part, usedFrom, zeros, cleared, inserted, cutOut}
 
 -- a list with nothing pasted into it
@@ -282,3 +283,14 @@ inserted-pieces a b c s used at e d =
       take-at b c (used - at) (omega arith),
       drop-two a b c (used + length s) (length s) (omega arith),
     )
+
+-- four digits one by one
+pub four-number : (f : ℕ → ℕ) (d : ℕ) → d ≡ f 3 → ((f 0 * 256 + f 1) * 256 + f 2) * 256 + d ≡ numberOf 4 f
+unfolding numberOf
+four-number f d e = omega arith
+
+-- eight digits, four at a time
+pub eight-number : (f g h : ℕ → ℕ) → ((k : ℕ) → k < 4 → g k ≡ f k) → ((k : ℕ) → k < 4 → h k ≡ f (4 + k)) → numberOf 4 g * 4294967296 + numberOf 4 h ≡ numberOf 8 f
+unfolding numberOf
+eight-number f g h p q =
+    omega (arith, p 0 (omega arith), p 1 (omega arith), p 2 (omega arith), p 3 (omega arith), q 0 (omega arith), q 1 (omega arith), q 2 (omega arith), q 3 (omega arith))

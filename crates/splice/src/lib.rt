@@ -6,8 +6,9 @@
 // buffer at entry. Each `requires` keeps the indices within the buffer; the callers are inside this
 // library and meet it by tests of their own.
 ghost use mathlib.Core.Path.{_≡_};
-ghost use Prim.Native.Nat.{_+_, _^_, _≤_, _<_};
+ghost use Prim.Native.Nat.{_+_, _-_, _^_, _≤_, _<_};
 ghost use lib.ListN.{length, getD};
+ghost use Rattle.laws.specs.Lex.{numberOf};
 ghost use Rattle.model.specs.Frame.{twoAt, twoBytes};
 ghost use Rattle.splice.specs.Bytes.{pasted, part, cleared, inserted, cutOut};
 
@@ -112,6 +113,22 @@ pub fn two_at(s: &[u8], at: usize) -> usize
     ensures { λ r. ⌜ r ≡ twoAt (now (s .entry)) at ⌝ }
 {
     byte_at(s, at) as usize + 256 * (byte_at(s, at + 1) as usize)
+}
+
+// The number that four bytes make, the last of them the highest. The compiler reads them at once.
+fn four_at(s: &[u8], at: usize) -> u64
+    requires { ⌜ at + 4 ≤ length (now s) ⌝ }
+    ensures { λ r. ⌜ (r ≡ numberOf 4 (λ k. getD (now (s .entry)) (at + (3 - k)) 0)) × (r < 2 ^ 32) ⌝ }
+{
+    ((s[at + 3] as u64 * 256 + s[at + 2] as u64) * 256 + s[at + 1] as u64) * 256 + s[at] as u64
+}
+
+// The same of eight bytes.
+pub fn eight_at(s: &[u8], at: usize) -> u64
+    requires { ⌜ at + 8 ≤ length (now s) ⌝ }
+    ensures { λ r. ⌜ r ≡ numberOf 8 (λ k. getD (now (s .entry)) (at + (7 - k)) 0) ⌝ }
+{
+    four_at(s, at + 4) * 4294967296 + four_at(s, at)
 }
 
 // The bytes from a position on, size of them at most: a part of the slice.
