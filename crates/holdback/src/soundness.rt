@@ -17,14 +17,32 @@ ghost use Rattle.model.specs.Setup.{inLimits};
 ghost use Rattle.timestamp.specs.Views.{setupOf};
 ghost use Rattle.holdback.specs.Seen.{tableLength};
 ghost use Rattle.holdback.specs.Starts.{allFront};
-ghost use Rattle.holdback.specs.Sound.{rankFollows, Compared, unsound, judgedAt, Walking, Starting, Opened};
+ghost use Rattle.holdback.specs.Sound.{emptied, noRank, rankFollows, Compared, unsound, judgedAt, Walking, Starting, Opened};
 
-// What the walk answers: sound or not, the number of frames, and where they end. Of an unsound queue the figures are those
-// of an empty one.
+// What the walk answers: sound or not, and where the frames end, of an unsound queue as of an empty one.
 pub struct Walk {
     pub sound: bool,
-    pub count: usize,
     pub end: usize,
+}
+
+fn emptied() -> Walk
+    ensures { λ r. ⌜ r ≡ emptied ⌝ }
+{
+    Walk {
+        sound: false,
+        end: 2,
+    }
+}
+
+// The rank where there is no frame.
+fn no_rank() -> Rank
+    ensures { λ r. ⌜ r ≡ noRank ⌝ }
+{
+    Rank {
+        reading: 0,
+        c: 0,
+        station: 0,
+    }
 }
 
 // Where a frame ends, 0 where it is not sound; and its rank.
@@ -38,11 +56,7 @@ fn unsound() -> Judged
 {
     Judged {
         end: 0,
-        rank: Rank {
-            reading: 0,
-            c: 0,
-            station: 0,
-        },
+        rank: no_rank(),
     }
 }
 
@@ -121,17 +135,13 @@ fn walk_frames(
 ) -> Walk
     requires { ⌜ (inLimits (setupOf s) ≡ true) × (v < s .modulus) ⌝ }
     requires { ⌜ Starting (setupOf s) v (now buf) (now seen) (now starts) count ⌝ }
-    ensures { λ w. ⌜ Opened (setupOf s) v (now (buf .entry)) (w .sound) (w .count) (w .end) (now (seen .exit)) (now (starts .exit)) ⌝ }
+    ensures { λ w. ⌜ Opened (setupOf s) v (now (buf .entry)) (w .sound) (w .end) (now (seen .exit)) (now (starts .exit)) ⌝ }
 {
     let slots = seen.len();
     let mut i = 0;
     let mut prev = 2;
     let mut at = 2;
-    let mut last = Rank {
-        reading: 0,
-        c: 0,
-        station: 0,
-    };
+    let mut last = no_rank();
     let mut filled = 0;
     while i < count {
         let judged = judge_at(s, v, buf, seen, i, prev, last, at);
@@ -139,11 +149,7 @@ fn walk_frames(
         if next == 0 {
             splice::clear(seen, 0, slots);
             fill(starts, 0, 96, 2);
-            return Walk {
-                sound: false,
-                count: 0,
-                end: 2,
-            };
+            return emptied();
         }
         last = judged.rank;
         set_mark(s, last, seen);
@@ -157,7 +163,6 @@ fn walk_frames(
     fill(starts, filled, 96, (count * 131072 + at) as u32);
     Walk {
         sound: true,
-        count,
         end: at,
     }
 }
@@ -168,15 +173,11 @@ fn walk_frames(
 pub fn sound(s: Setup, v: usize, buf: &[u8], seen: &mut [u8], starts: &mut [u32]) -> Walk
     requires { ⌜ (inLimits (setupOf s) ≡ true) × (v < s .modulus) ⌝ }
     requires { ⌜ (2 ≤ length (now buf)) × ((now seen ≡ replicate tableLength 0) × (now starts ≡ allFront)) ⌝ }
-    ensures { λ w. ⌜ Opened (setupOf s) v (now (buf .entry)) (w .sound) (w .count) (w .end) (now (seen .exit)) (now (starts .exit)) ⌝ }
+    ensures { λ w. ⌜ Opened (setupOf s) v (now (buf .entry)) (w .sound) (w .end) (now (seen .exit)) (now (starts .exit)) ⌝ }
 {
     let count = splice::two_at(buf, 0);
     if depth(s.n as usize, s.epsilon as usize, s.delta as usize) < count {
-        return Walk {
-            sound: false,
-            count: 0,
-            end: 2,
-        };
+        return emptied();
     }
     walk_frames(s, v, buf, count, seen, starts)
 }
