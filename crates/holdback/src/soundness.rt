@@ -3,6 +3,9 @@ use crate::compare::comes_before;
 use crate::compare::rank_of;
 use crate::origins::is_marked;
 use crate::origins::set_mark;
+use crate::starts::FRONT;
+use crate::starts::START_PLACES;
+use crate::starts::START_UNIT;
 use crate::starts::fill;
 use crate::timing::rank_place;
 use crate::timing::timely;
@@ -148,19 +151,24 @@ fn walk_frames(
         let next = judged.end;
         if next == 0 {
             splice::clear(seen, 0, slots);
-            fill(starts, 0, 96, 2);
+            fill(starts, 0, START_PLACES, FRONT);
             return emptied();
         }
         last = judged.rank;
         set_mark(s, last, seen);
         let k = rank_place(s, last) + 1;
-        fill(starts, filled, k, (i * 131072 + at) as u32);
+        fill(starts, filled, k, (i * START_UNIT + at) as u32);
         filled = k;
         prev = at;
         at = next;
         i += 1;
     }
-    fill(starts, filled, 96, (count * 131072 + at) as u32);
+    fill(
+        starts,
+        filled,
+        START_PLACES,
+        (count * START_UNIT + at) as u32,
+    );
     Walk {
         sound: true,
         end: at,
