@@ -73,7 +73,7 @@ pub record Summed (s : Setup) (v : ℕ) (f : Frame) (r : ℕ) : Type 0 where
   pub is-sum : r ≡ readingOf s v f + f .stamp .c
   pub small : r < 131072
 
--- a walk over a queue that has found its first i frames sound: frame i starts at `at`, the one before it at `prev` and has the rank `last`, and the table has the origins of the frames so far
+-- a walk over a queue that has found its first i frames sound: frame i starts at `at`, the one before it at `prev` and has the rank `last`, and the table of origins has those of the frames so far
 pub record Walking (s : Setup) (v : ℕ) (queue table : List ℕ) (i prev : ℕ) (last : Rank) (at : ℕ) : Type 0 where
   pub two : 2 ≤ length queue
   pub starts : at ≡ frameStart (s .epsilon) queue i
@@ -82,7 +82,7 @@ pub record Walking (s : Setup) (v : ℕ) (queue table : List ℕ) (i prev : ℕ)
   pub each : (k : ℕ) → k < i → frameSound s v queue k ≡ true
   pub table-is : table ≡ seenTable s v (tab i (frameAt (s .epsilon) queue))
 
--- where it begins: the count is in its bound, the table of origins is empty, and every search starts at the front
+-- where it begins: the count is in its bound, the table of origins is empty, and the table of starts is that of an empty queue
 pub record Starting (s : Setup) (v : ℕ) (queue table starts : List ℕ) (count : ℕ) : Type 0 where
   pub two : 2 ≤ length queue
   pub counted : count ≡ twoAt queue 0

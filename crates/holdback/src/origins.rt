@@ -11,10 +11,10 @@ ghost use Rattle.model.specs.Frame.{decode};
 ghost use Rattle.timestamp.specs.Views.{setupOf};
 ghost use Rattle.holdback.specs.Seen.{InWindow, Within, rankSlot, tableLength, hasMark, withMark, isMarked, marked};
 
-// Readings of one station in the table.
+// Places for one station in the table of origins, one for each reading.
 const ROW_LENGTH: usize = 128;
 
-// Places in the table.
+// Places in the table of origins.
 pub const TABLE_LENGTH: usize = 2048;
 
 // The place of a station and a reading.

@@ -63,7 +63,7 @@ fn unsound() -> Judged
     }
 }
 
-// 01: "strictly in order": frame i, which starts at at, comes after the one before it, which starts at prev and has the rank last.
+// 01: "strictly in order": frame i, which starts at `at`, comes after the one before it, which starts at `prev` and has the rank `last`.
 fn follows(
     epsilon: usize,
     buf: &[u8],
@@ -89,7 +89,8 @@ fn follows(
     )
 }
 
-// Judges frame i, which starts at at; the one before it starts at prev and has the rank last. Its own r, c and station are read once.
+// Judges frame i, which starts at `at`; the one before it starts at `prev` and has the rank `last`. Once it passes 10 to 12, its rank
+// is read, once for the tests behind that.
 fn judge_at(
     s: Setup,
     v: usize,
@@ -125,9 +126,9 @@ fn judge_at(
     Judged { end: next, rank }
 }
 
-// The walk, with the origins of the frames so far in one table, and in the other where the frames of each sum start: the places up
-// to that of a frame's sum that are not filled yet get the frame, and the last ones the end. At a frame that is not sound both
-// tables become what they were.
+// The walk. The table of origins gets those of the frames so far, and the table of starts where the frames of each sum start: the places
+// up to that of a frame's sum that are not filled yet get the frame, and the last ones the end. At a frame that is not sound the tables
+// of origins and of starts become what they were.
 fn walk_frames(
     s: Setup,
     v: usize,
@@ -176,8 +177,8 @@ fn walk_frames(
 }
 
 // 01: "It is sound if it holds at most n(δ + 3ε) frames that pass 10 to 12, strictly in order, no station and r twice, each
-// sum at most ε − 1 past v and each sum + δ + ε not before v." The two tables are lent, the one empty and the other with the front in
-// each place, and come back for the frames with which the tick starts.
+// sum at most ε − 1 past v and each sum + δ + ε not before v." The tables of origins and of starts are lent, the one empty and the
+// other with the front in each place, and come back for the frames with which the tick starts.
 pub fn sound(s: Setup, v: usize, buf: &[u8], seen: &mut [u8], starts: &mut [u32]) -> Walk
     requires { ⌜ (inLimits (setupOf s) ≡ true) × (v < s .modulus) ⌝ }
     requires { ⌜ (2 ≤ length (now buf)) × ((now seen ≡ replicate tableLength 0) × (now starts ≡ allFront)) ⌝ }

@@ -179,7 +179,7 @@ judged-form s v queue bytes e = first-none (frameQuestions s bytes) (placeQuesti
 pub window-of : (s : Setup) (v : ℕ) (f : Frame) → queues.InWindow s v f → FrameOk s f → InWindow s v f
 window-of s v f w ok = record { station-below = ok .station-below; r-below = ok .r-below; not-before = omega (arith, w .low) }
 
--- a frame that has passed 13 has a place in the table
+-- a frame that has passed 13 has a place in the table of origins
 pub late-window : (s : Setup) (v : ℕ) (f : Frame) → FrameOk s f → s .modulus ≤ readingOf s v f + (s .delta + s .epsilon) → InWindow s v f
 late-window s v f ok h = record { station-below = ok .station-below; r-below = ok .r-below; not-before = omega arith }
 

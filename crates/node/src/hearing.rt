@@ -61,7 +61,7 @@ pub struct Heard {
 }
 
 // The hearing loop. The batch's walker says where each entry stands. A verdict is taken apart for its place; of a refused
-// frame the number is recorded, and it goes on. The queue's frames end at end, and a taken one moves that by its length.
+// frame the number is recorded, and it goes on. The queue's frames end at `end`, and a taken one moves that by its length.
 pub fn hear(
     setup: Setup,
     clock: usize,

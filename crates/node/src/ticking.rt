@@ -24,7 +24,7 @@ pub struct Opening {
     pub repair: u8,
 }
 
-// 01, tick 1 and 2: sound tables take a step; "Unsound tables are replaced (mend 1)".
+// 01, tick 1 and 2: sound tables take a step; "Unsound tables are replaced by c 0 and no counts at all (mend 1)".
 fn open_stamp(setup: Setup, clock: usize, tables: Timestamp) -> Opening
     requires { ⌜ Timed (setupOf setup) clock ⌝ }
     ensures { λ r. ⌜ StampOpened (setupOf setup) clock (stampOf tables) (stampOf (r .stamp)) (r .repair) ⌝ }

@@ -1,4 +1,4 @@
--- `holdback::soundness::walk_frames` meets its contract. The invariant of the loop: the frames so far are sound, and the tables have their origins and, for sums up to theirs, where those start. The measure is what is left of the count. Assumes nothing.
+-- `holdback::soundness::walk_frames` meets its contract. The invariant of the loop: the frames so far are sound, the table of origins has theirs, and the table of starts, for sums up to theirs, where those start. The measure is what is left of the count. Assumes nothing.
 use native.Mathlib.Omega.{arith}
 use borrow.Author.Needs.{needs}
 use Rattle.timestamp.specs.Views.{setupOf}
@@ -34,7 +34,7 @@ loop-holds c = let start = c .before .before .before .before in (walk-starts _ (
 judge-at-requires : tie.Need-judge-at-requires Inv-loop μ-loop
 judge-at-requires c κs = (c .before .before .before .before .before .before .before .pre .0, c .before .before .loop .inv .0)
 
--- both tables keep their length
+-- the tables of origins and of starts keep their length
 module _ (c : tie.At-loop Inv-loop μ-loop) where
   seen-same : length (c .loop .seen) ≡ length (c .before .before .before .before .before .args .seen .now)
   seen-same = table-long (c .loop .inv .0) ∙ sym (starting-long (c .before .before .before .before .before .pre .1))
