@@ -101,7 +101,7 @@ both-marked true b false e = ap (λ (t : Bool). cond t 1 (cond b 1 0)) e
 both-marked false b true e = ap (λ (t : Bool). cond t 1 (cond b 1 0)) e
 both-marked false b false e = refl
 
--- a frame's place marked: the table of the queue with that frame, wherever it is put
+-- a frame's place marked: the table of origins of the queue with that frame, wherever it is put
 pub seen-more : (s : Setup) (v : ℕ) (queue more : List Frame) (f : Frame)
     → ((p : Frame → Bool) → any p more ≡ (p f || any p queue)) → marked s v f (seenTable s v queue) ≡ seenTable s v more
 unfolding marked seenTable
@@ -119,7 +119,7 @@ pub seen-none : (s : Setup) (v : ℕ) → replicate tableLength 0 ≡ seenTable 
 unfolding seenTable any
 seen-none s v = replicate-tab tableLength 0
 
--- a table that is cleared
+-- a table of origins that is cleared
 pub seen-cleared : (s : Setup) (v : ℕ) (table l : List ℕ) (n : ℕ) → length table ≡ tableLength → n ≡ length table → l ≡ cleared table 0 n → l ≡ seenTable s v []
 seen-cleared s v table l n size e h =
     h ∙ ap (cleared table 0) e ∙ all-cleared table ∙ ap zeros size ∙ seen-none s v

@@ -1,4 +1,4 @@
--- Starts: a table changed place by place, filled by the walk, moved as a frame is put at its place, and a search that starts at an entry.
+-- The table of starts: changed place by place, filled by the walk, moved as a frame is put at its place; and a search that starts at an entry.
 -- Assumes nothing.
 use Prim.Native.Nat.{ℕ, zero, suc, _+_, _*_, _-_, _/_, _%_, _≤_, _<_, zero-le}
 use native.Mathlib.Nat.{not-suc-le-zero, le-of-suc-le-suc, mul-le-mul}
@@ -129,7 +129,7 @@ module _ (s : Setup) (v : ℕ) where
       go r t (inl l) = omega (arith, r l)
       go r t (inr l) = let e : j ≡ suc i = omega arith in rw e (omega arith)
 
--- ---- the table of a queue
+-- ---- the table of starts of a queue
 
 module _ (s : Setup) (v : ℕ) (queue : List ℕ) where
   pub starts-long : {l : List ℕ} → l ≡ startsOf s v queue → length l ≡ startPlaces

@@ -23,8 +23,9 @@ use Rattle.lemmas.proofs.Bounds.{Limits}
 use Rattle.timestamp.specs.declared.ordering.Rank.{Rank}
 use Rattle.timestamp.specs.Ranks.{Ranked}
 use Rattle.holdback.specs.declared.soundness.Judged.{Judged}
+use Rattle.holdback.specs.declared.soundness.Walk.{Walk}
 use Rattle.holdback.specs.Queue.{frameStart, bytesAt, frameAt, rankOf, rankBefore, countsAt, Stands}
-use Rattle.holdback.specs.Sound.{fits, follows, isNew, frameSound, timely, rankFollows, Compared, unsound, judgedAt, Walking, Starting, Opened, openedQueue, Led}
+use Rattle.holdback.specs.Sound.{fits, follows, isNew, frameSound, timely, rankFollows, Compared, unsound, judgedAt, Walking, Starting, openedQueue, emptied, Opened, Led}
 use Rattle.holdback.specs.Seen.{InWindow, Within, rankSlot, hasMark, withMark, marked, seenTable, tableLength}
 use Rattle.holdback.specs.Starts.{startUnit, startPlaces, front, allFront, rankPlace, sumPlace, startOf, startsOf, filled}
 use Rattle.holdback.proofs.RoundTrip.{passing}
@@ -381,9 +382,16 @@ filling-ends {s} {v} {b} {i} {at} {from} {count} {starts} walk old counted le ge
     starts-by s v b (changed-long (λ _. count * startUnit + at) from starts startPlaces h)
     (λ k l. filled-more s v b starts (old .done) (λ j low high. start-at s v b (walk .starts ∙ ap (frameStart (s .epsilon) b) e) (omega (arith, counted)) (λ n l. omega (arith, old .below n (omega arith))) (λ l. absurd (omega (arith, counted)))) h k l l)
 
-pub opened-no : {s : Setup} {v : ℕ} {b table starts : List ℕ} → soundHoldback s v b ≡ false → table ≡ seenTable s v [] → starts ≡ allFront → Opened s v b false 0 2 table starts
+pub opened-no : {s : Setup} {v : ℕ} {b table starts : List ℕ} {walk : Walk} → walk ≡ emptied → soundHoldback s v b ≡ false → table ≡ seenTable s v [] → starts ≡ allFront
+    → Opened s v b (walk .sound) (walk .end) table starts
 unfolding openedQueue
-opened-no {s} {v} {b} h e none = record { sound-is = sym h; count-is = rw h; stop-is = rw h; table-is = e ∙ rw h; starts-is = none ∙ rw h }
+opened-no {s} {v} {b} w h e none =
+    record {
+      sound-is = ap (λ (x : Walk). x .sound) w ∙ sym h;
+      stop-is = ap (λ (x : Walk). x .end) w ∙ rw h;
+      table-is = e ∙ rw h;
+      starts-is = none ∙ rw h;
+    }
 
 pub walk-fails : (s : Setup) (v : ℕ) (b : List ℕ) (i : ℕ) → i < twoAt b 0 → frameSound s v b i ≡ false → soundHoldback s v b ≡ false
 walk-fails s v b i l h = false-of-no (soundHoldback s v b) (λ e. clash (sound-frames s v b e i l) h)
@@ -392,7 +400,7 @@ pub too-many : (s : Setup) (v : ℕ) (b : List ℕ) → depth (s .n) (s .epsilon
 too-many s v b h = false-of-no (soundHoldback s v b) (λ e. omega (arith, sound-few s v b e))
 
 pub opened-yes : {s : Setup} {v : ℕ} {b t m table starts : List ℕ} {count i prev : ℕ} {last : Rank} {at : ℕ} → Starting s v b t m count → Walking s v b table i prev last at → starts ≡ startsOf s v b → i ≤ count → count ≤ i
-    → Opened s v b true count at table starts
+    → Opened s v b true at table starts
 unfolding openedQueue
 opened-yes {s} {v} {b} {count} {i} begin walk filled-all le ge =
     let all : i ≡ twoAt b 0 = omega (arith, begin .counted) in
@@ -400,7 +408,6 @@ opened-yes {s} {v} {b} {count} {i} begin walk filled-all le ge =
     sound-by s v b (omega (arith, begin .counted, begin .few)) (λ k l. walk .each k (omega arith)) in
     record {
       sound-is = sym sound;
-      count-is = begin .counted ∙ rw sound;
       stop-is = walk .starts ∙ rw (sound, all);
       table-is =
           walk .table-is

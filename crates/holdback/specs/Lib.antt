@@ -1,5 +1,5 @@
 -- `Queue` says where the frames of a queue stand, `Sound` what soundness asks of each of them, `Seen` what a table of their origins holds,
--- `Starts` what a table of where a search may start holds.
+-- `Starts` what a table of where searches start holds.
 pub mod Queue
 pub mod Sound
 pub mod Seen

@@ -48,7 +48,7 @@ seenTable s v queue = tab tableLength (λ i. cond (any (λ f. eqb (slotOf s v f)
 abbrev pub hasMark : List ℕ → ℕ → Bool
 hasMark table i = eqb (getD table i 0) 1
 
--- the table with a place marked
+-- the table of origins with a place marked
 abbrev pub withMark : List ℕ → ℕ → List ℕ
 withMark table i = set table i 1
 
@@ -56,6 +56,6 @@ withMark table i = set table i 1
 unfoldable pub isMarked : Setup → ℕ → Frame → List ℕ → Bool
 isMarked s v f table = hasMark table (slotOf s v f)
 
--- the table with a frame's place marked
+-- the table of origins with a frame's place marked
 unfoldable pub marked : Setup → ℕ → Frame → List ℕ → List ℕ
 marked s v f table = withMark table (slotOf s v f)

@@ -2,7 +2,7 @@
 -- Assumes nothing.
 use Prim.Native.Nat.{ℕ, zero, suc, _+_, _-_, _≤_, _<_}
 use mathlib.Core.Path.{_≡_}
-use mathlib.Core.Bool.{Bool, true, _&&_, not, cond}
+use mathlib.Core.Bool.{Bool, true, false, _&&_, not, cond}
 use mathlib.Core.List.{List, []}
 use lib.Dec.{leb, eqb}
 use lib.ListN.{length}
@@ -16,6 +16,7 @@ use Rattle.model.specs.Holdback.{held, passes, notEarly, notOverdue, sameOrigin
 use Rattle.timestamp.specs.declared.ordering.Rank.{Rank}
 use Rattle.timestamp.specs.Ranks.{Ranked}
 use Rattle.holdback.specs.declared.soundness.Judged.{Judged}
+use Rattle.holdback.specs.declared.soundness.Walk.{Walk}
 use Rattle.holdback.specs.Queue.{frameStart, bytesAt, frameAt, rankOf, rankBefore, countsAt}
 use Rattle.holdback.specs.Seen.{seenTable}
 use Rattle.holdback.specs.Starts.{startsOf, allFront}
@@ -54,9 +55,13 @@ pub record Compared (epsilon : ℕ) (queue : List ℕ) (i prev : ℕ) (last : Ra
   pub own : Ranked epsilon rank (countsAt epsilon queue at)
   pub previous : (i ≡ 0 → ⊥) → Ranked epsilon last (countsAt epsilon queue prev)
 
+-- the rank where there is no frame
+abbrev pub noRank : Rank
+noRank = record { reading = 0; c = 0; station = 0 }
+
 -- of a frame that is not sound
 abbrev pub unsound : Judged
-unsound = record { end = 0; rank = record { reading = 0; c = 0; station = 0 } }
+unsound = record { end = 0; rank = noRank }
 
 -- where frame i ends and its rank, if it is sound
 unfoldable pub judgedAt : Setup → ℕ → List ℕ → ℕ → Judged
@@ -68,7 +73,7 @@ pub record Summed (s : Setup) (v : ℕ) (f : Frame) (r : ℕ) : Type 0 where
   pub is-sum : r ≡ readingOf s v f + f .stamp .c
   pub small : r < 131072
 
--- a walk over a queue that has found its first i frames sound: frame i starts at `at`, the one before it at `prev` and has the rank `last`, and the table has the origins of the frames so far
+-- a walk over a queue that has found its first i frames sound: frame i starts at `at`, the one before it at `prev` and has the rank `last`, and the table of origins has those of the frames so far
 pub record Walking (s : Setup) (v : ℕ) (queue table : List ℕ) (i prev : ℕ) (last : Rank) (at : ℕ) : Type 0 where
   pub two : 2 ≤ length queue
   pub starts : at ≡ frameStart (s .epsilon) queue i
@@ -77,7 +82,7 @@ pub record Walking (s : Setup) (v : ℕ) (queue table : List ℕ) (i prev : ℕ)
   pub each : (k : ℕ) → k < i → frameSound s v queue k ≡ true
   pub table-is : table ≡ seenTable s v (tab i (frameAt (s .epsilon) queue))
 
--- where it begins: the count is in its bound, the table of origins is empty, and every search starts at the front
+-- where it begins: the count is in its bound, the table of origins is empty, and the table of starts is that of an empty queue
 pub record Starting (s : Setup) (v : ℕ) (queue table starts : List ℕ) (count : ℕ) : Type 0 where
   pub two : 2 ≤ length queue
   pub counted : count ≡ twoAt queue 0
@@ -89,10 +94,13 @@ pub record Starting (s : Setup) (v : ℕ) (queue table starts : List ℕ) (count
 unfoldable pub openedQueue : Setup → ℕ → List ℕ → List Frame
 openedQueue s v queue = cond (soundHoldback s v queue) (held (s .epsilon) queue) []
 
--- what the walk over a whole queue answers, and the tables that it leaves
-pub record Opened (s : Setup) (v : ℕ) (queue : List ℕ) (sound : Bool) (count stop : ℕ) (table starts : List ℕ) : Type 0 where
+-- what the walk over an unsound queue answers: where the frames of an empty one end
+abbrev pub emptied : Walk
+emptied = record { sound = false; end = 2 }
+
+-- what the walk over a whole queue answers, and the tables of origins and of starts that it leaves
+pub record Opened (s : Setup) (v : ℕ) (queue : List ℕ) (sound : Bool) (stop : ℕ) (table starts : List ℕ) : Type 0 where
   pub sound-is : sound ≡ soundHoldback s v queue
-  pub count-is : count ≡ cond (soundHoldback s v queue) (twoAt queue 0) 0
   pub stop-is : stop ≡ cond (soundHoldback s v queue) (frameStart (s .epsilon) queue (twoAt queue 0)) 2
   pub table-is : table ≡ seenTable s v (openedQueue s v queue)
   pub starts-is : starts ≡ cond (soundHoldback s v queue) (startsOf s v queue) allFront

@@ -22,7 +22,7 @@ startUnit = 131072
 abbrev pub startLimit : ℕ
 startLimit = 2147483648
 
--- places in the table: a place for each sum of a sound queue's frames, which are δ + 2ε at most
+-- places in the table of starts: a place for each sum of a sound queue's frames, which are δ + 2ε at most
 abbrev pub startPlaces : ℕ
 startPlaces = 96
 
@@ -30,7 +30,7 @@ startPlaces = 96
 abbrev pub front : ℕ
 front = 2
 
--- the table of an empty queue
+-- the table of starts of an empty queue
 abbrev pub allFront : List ℕ
 allFront = replicate startPlaces front
 
@@ -51,7 +51,7 @@ unfoldable pub startOf : Setup → ℕ → List ℕ → ℕ → ℕ
 startOf s v queue k =
     framesBelow s v queue k * startUnit + frameStart (s .epsilon) queue (framesBelow s v queue k)
 
--- the table of a queue
+-- the table of starts of a queue
 unfoldable pub startsOf : Setup → ℕ → List ℕ → List ℕ
 startsOf s v queue = tab startPlaces (startOf s v queue)
 

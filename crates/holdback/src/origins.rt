@@ -11,13 +11,19 @@ ghost use Rattle.model.specs.Frame.{decode};
 ghost use Rattle.timestamp.specs.Views.{setupOf};
 ghost use Rattle.holdback.specs.Seen.{InWindow, Within, rankSlot, tableLength, hasMark, withMark, isMarked, marked};
 
+// Places for one station in the table of origins, one for each reading.
+const ROW_LENGTH: usize = 128;
+
+// Places in the table of origins.
+pub const TABLE_LENGTH: usize = 2048;
+
 // The place of a station and a reading.
 fn slot(s: Setup, rank: Rank) -> usize
     requires { ⌜ (inLimits (setupOf s) ≡ true) × Within (setupOf s) rank ⌝ }
     ensures { λ r. ⌜ (r ≡ rankSlot (setupOf s) rank) × (r < tableLength) ⌝ }
 {
     let back = s.delta as usize + 2 * (s.epsilon as usize);
-    rank.station * 128 + (rank.reading + back - s.modulus as usize)
+    rank.station * ROW_LENGTH + (rank.reading + back - s.modulus as usize)
 }
 
 // It is marked.

@@ -2,6 +2,7 @@
 use crate::change::Place;
 use crate::compare::frame_before;
 use crate::compare::rank_of;
+use crate::starts::START_UNIT;
 use crate::timing::rank_place;
 use timestamp::Setup;
 ghost use mathlib.Core.Path.{_≡_};
@@ -36,8 +37,8 @@ pub fn place_for(
     let rank = rank_of(s, v, frame);
     let kn = &frame[6..6 + 2 * epsilon];
     let start = starts[rank_place(s, rank)] as usize;
-    let mut i = start / 131072;
-    let mut at = start % 131072;
+    let mut i = start / START_UNIT;
+    let mut at = start % START_UNIT;
     while i < count {
         let next = at + frame::frame_end(epsilon, &buf[at..]);
         if !frame_before(s, v, &buf[at..next], rank, kn) {

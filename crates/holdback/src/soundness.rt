@@ -3,6 +3,9 @@ use crate::compare::comes_before;
 use crate::compare::rank_of;
 use crate::origins::is_marked;
 use crate::origins::set_mark;
+use crate::starts::FRONT;
+use crate::starts::START_PLACES;
+use crate::starts::START_UNIT;
 use crate::starts::fill;
 use crate::timing::rank_place;
 use crate::timing::timely;
@@ -17,14 +20,32 @@ ghost use Rattle.model.specs.Setup.{inLimits};
 ghost use Rattle.timestamp.specs.Views.{setupOf};
 ghost use Rattle.holdback.specs.Seen.{tableLength};
 ghost use Rattle.holdback.specs.Starts.{allFront};
-ghost use Rattle.holdback.specs.Sound.{rankFollows, Compared, unsound, judgedAt, Walking, Starting, Opened};
+ghost use Rattle.holdback.specs.Sound.{emptied, noRank, rankFollows, Compared, unsound, judgedAt, Walking, Starting, Opened};
 
-// What the walk answers: sound or not, the number of frames, and where they end. Of an unsound queue the figures are those
-// of an empty one.
+// What the walk answers: sound or not, and where the frames end, of an unsound queue as of an empty one.
 pub struct Walk {
     pub sound: bool,
-    pub count: usize,
     pub end: usize,
+}
+
+fn emptied() -> Walk
+    ensures { λ r. ⌜ r ≡ emptied ⌝ }
+{
+    Walk {
+        sound: false,
+        end: 2,
+    }
+}
+
+// The rank where there is no frame.
+fn no_rank() -> Rank
+    ensures { λ r. ⌜ r ≡ noRank ⌝ }
+{
+    Rank {
+        reading: 0,
+        c: 0,
+        station: 0,
+    }
 }
 
 // Where a frame ends, 0 where it is not sound; and its rank.
@@ -38,15 +59,11 @@ fn unsound() -> Judged
 {
     Judged {
         end: 0,
-        rank: Rank {
-            reading: 0,
-            c: 0,
-            station: 0,
-        },
+        rank: no_rank(),
     }
 }
 
-// 01: "strictly in order": frame i, which starts at at, comes after the one before it, which starts at prev and has the rank last.
+// 01: "strictly in order": frame i, which starts at `at`, comes after the one before it, which starts at `prev` and has the rank `last`.
 fn follows(
     epsilon: usize,
     buf: &[u8],
@@ -72,7 +89,8 @@ fn follows(
     )
 }
 
-// Judges frame i, which starts at at; the one before it starts at prev and has the rank last. Its own r, c and station are read once.
+// Judges frame i, which starts at `at`; the one before it starts at `prev` and has the rank `last`. Once it passes 10 to 12, its rank
+// is read, once for the tests behind that.
 fn judge_at(
     s: Setup,
     v: usize,
@@ -108,9 +126,9 @@ fn judge_at(
     Judged { end: next, rank }
 }
 
-// The walk, with the origins of the frames so far in one table, and in the other where the frames of each sum start: the places up
-// to that of a frame's sum that are not filled yet get the frame, and the last ones the end. At a frame that is not sound both
-// tables become what they were.
+// The walk. The table of origins gets those of the frames so far, and the table of starts where the frames of each sum start: the places
+// up to that of a frame's sum that are not filled yet get the frame, and the last ones the end. At a frame that is not sound the tables
+// of origins and of starts become what they were.
 fn walk_frames(
     s: Setup,
     v: usize,
@@ -121,62 +139,54 @@ fn walk_frames(
 ) -> Walk
     requires { ⌜ (inLimits (setupOf s) ≡ true) × (v < s .modulus) ⌝ }
     requires { ⌜ Starting (setupOf s) v (now buf) (now seen) (now starts) count ⌝ }
-    ensures { λ w. ⌜ Opened (setupOf s) v (now (buf .entry)) (w .sound) (w .count) (w .end) (now (seen .exit)) (now (starts .exit)) ⌝ }
+    ensures { λ w. ⌜ Opened (setupOf s) v (now (buf .entry)) (w .sound) (w .end) (now (seen .exit)) (now (starts .exit)) ⌝ }
 {
     let slots = seen.len();
     let mut i = 0;
     let mut prev = 2;
     let mut at = 2;
-    let mut last = Rank {
-        reading: 0,
-        c: 0,
-        station: 0,
-    };
+    let mut last = no_rank();
     let mut filled = 0;
     while i < count {
         let judged = judge_at(s, v, buf, seen, i, prev, last, at);
         let next = judged.end;
         if next == 0 {
             splice::clear(seen, 0, slots);
-            fill(starts, 0, 96, 2);
-            return Walk {
-                sound: false,
-                count: 0,
-                end: 2,
-            };
+            fill(starts, 0, START_PLACES, FRONT);
+            return emptied();
         }
         last = judged.rank;
         set_mark(s, last, seen);
         let k = rank_place(s, last) + 1;
-        fill(starts, filled, k, (i * 131072 + at) as u32);
+        fill(starts, filled, k, (i * START_UNIT + at) as u32);
         filled = k;
         prev = at;
         at = next;
         i += 1;
     }
-    fill(starts, filled, 96, (count * 131072 + at) as u32);
+    fill(
+        starts,
+        filled,
+        START_PLACES,
+        (count * START_UNIT + at) as u32,
+    );
     Walk {
         sound: true,
-        count,
         end: at,
     }
 }
 
 // 01: "It is sound if it holds at most n(δ + 3ε) frames that pass 10 to 12, strictly in order, no station and r twice, each
-// sum at most ε − 1 past v and each sum + δ + ε not before v." The two tables are lent, the one empty and the other with the front in
-// each place, and come back for the frames with which the tick starts.
+// sum at most ε − 1 past v and each sum + δ + ε not before v." The tables of origins and of starts are lent, the one empty and the
+// other with the front in each place, and come back for the frames with which the tick starts.
 pub fn sound(s: Setup, v: usize, buf: &[u8], seen: &mut [u8], starts: &mut [u32]) -> Walk
     requires { ⌜ (inLimits (setupOf s) ≡ true) × (v < s .modulus) ⌝ }
     requires { ⌜ (2 ≤ length (now buf)) × ((now seen ≡ replicate tableLength 0) × (now starts ≡ allFront)) ⌝ }
-    ensures { λ w. ⌜ Opened (setupOf s) v (now (buf .entry)) (w .sound) (w .count) (w .end) (now (seen .exit)) (now (starts .exit)) ⌝ }
+    ensures { λ w. ⌜ Opened (setupOf s) v (now (buf .entry)) (w .sound) (w .end) (now (seen .exit)) (now (starts .exit)) ⌝ }
 {
     let count = splice::two_at(buf, 0);
     if depth(s.n as usize, s.epsilon as usize, s.delta as usize) < count {
-        return Walk {
-            sound: false,
-            count: 0,
-            end: 2,
-        };
+        return emptied();
     }
     walk_frames(s, v, buf, count, seen, starts)
 }

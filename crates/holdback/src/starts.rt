@@ -1,9 +1,18 @@
-// Starts: where a search for the place of a frame starts, by the frame's sum. An entry is 131072 times the number of frames at the
-// front whose sums are smaller, and where the next one starts. Those frames come before the frame.
+// Starts: where a search for the place of a frame starts, by the frame's sum. An entry has the number of frames at the front whose
+// sums are smaller, and where the next one starts. Those frames come before the frame.
 ghost use mathlib.Core.Path.{_≡_};
 ghost use Prim.Native.Nat.{_≤_};
 ghost use lib.ListN.{length};
 ghost use Rattle.holdback.specs.Starts.{startPlaces, filled, movedStarts, Moving};
+
+// An entry is so many times a number of frames, and where the next one starts.
+pub const START_UNIT: usize = 131072;
+
+// Places in the table of starts, one for each sum of a sound queue's frames.
+pub const START_PLACES: usize = 96;
+
+// The entry for the front: no frames, and the first one starts behind the count.
+pub const FRONT: u32 = 2;
 
 // The places from one up to, not including, another get an entry.
 pub fn fill(starts: &mut [u32], from: usize, to: usize, start: u32)
@@ -23,7 +32,7 @@ pub fn shift_starts(starts: &mut [u32], from: usize, step: u32)
     ensures { λ _. ⌜ now (starts .exit) ≡ movedStarts from step (now (starts .entry)) ⌝ }
 {
     let mut k = from;
-    while k < 96 {
+    while k < START_PLACES {
         starts[k] += step;
         k += 1;
     }

@@ -1,4 +1,4 @@
-// The times of one frame: its reading near v, its sum, its due clock, and the place of its sum in a table by sums.
+// The times of one frame: its reading near v, its sum, its due clock, and the place of its sum in the table of starts.
 use crate::compare::rank_of;
 use timestamp::Rank;
 use timestamp::Setup;
@@ -62,7 +62,7 @@ pub fn is_due(s: Setup, v: usize, frame: &[u8]) -> bool
     sum_of(s, v, frame) + s.delta as usize + s.epsilon as usize == s.modulus as usize
 }
 
-// The place of a sum in a table by sums: how far its due clock lies past v.
+// The place of a sum in the table of starts: how far its due clock lies past v.
 pub fn rank_place(s: Setup, rank: Rank) -> usize
     requires { ⌜ inLimits (setupOf s) ≡ true ⌝ }
     requires { ⌜ (rank .reading ≤ 2 ^ 17) × ((rank .c < s .epsilon) × (timely (setupOf s) rank ≡ true)) ⌝ }

@@ -81,7 +81,7 @@ walk-more batch at i h =
     let e : countOf batch - i ≡ suc (countOf batch - (i + 1)) = omega arith in
     rw e
 
--- one turn: the entry's bytes are judged, and the next entry stands at at′
+-- one turn: the entry's bytes are judged, and the next entry stands at `at′`
 module _ {s : Setup} {v : ℕ} {t₀ : Timestamp} {batch buffer₀ verdicts₀ : List ℕ} {t : Timestamp} {count stop at i : ℕ} {buffer table starts verdicts : List ℕ}
     (u : Turning s v t₀ batch buffer₀ verdicts₀ t count stop at i buffer table starts verdicts) (more : i < countOf batch) (few : countOf batch ≤ length verdicts₀)
     {bytes : List ℕ} {at′ : ℕ} (entry : bytes ≡ entryAt batch at) (step : at′ ≡ nextAt batch at) where

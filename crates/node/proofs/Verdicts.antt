@@ -9,7 +9,6 @@ use lib.ListN.{length, getD}
 use borrow.Author.Tests.{lt-ltb, le-ltb, le-leb, leb-true, eq-eqb}
 use Rattle.laws.specs.Lists.{any, every}
 use Rattle.laws.proofs.Numbers.{and-intro, and-left, and-right}
-use Rattle.laws.proofs.Lists.{length-tab}
 use Rattle.model.specs.Setup.{Setup, depth}
 use Rattle.model.specs.Timestamp.{sum, near}
 use Rattle.model.specs.Frame.{Frame, decode}
@@ -22,7 +21,7 @@ use Rattle.lemmas.proofs.Questions.{limits-from, first-yes, other-yes}
 use Rattle.lemmas.proofs.Queue.{sound-queue, queue-window}
 use Rattle.lemmas.proofs.Queue as queues
 use Rattle.holdback.specs.Queue.{frameStart}
-use Rattle.holdback.specs.Seen.{InWindow, seenTable, isMarked, slotOf}
+use Rattle.holdback.specs.Seen.{InWindow, isMarked, slotOf}
 use Rattle.holdback.specs.Sound.{fits}
 use Rattle.holdback.proofs.Seen.{seen-at}
 use Rattle.holdback.specs.declared.change.Place.{Place}
@@ -180,7 +179,7 @@ judged-form s v queue bytes e = first-none (frameQuestions s bytes) (placeQuesti
 pub window-of : (s : Setup) (v : ℕ) (f : Frame) → queues.InWindow s v f → FrameOk s f → InWindow s v f
 window-of s v f w ok = record { station-below = ok .station-below; r-below = ok .r-below; not-before = omega (arith, w .low) }
 
--- a frame that has passed 13 has a place in the table
+-- a frame that has passed 13 has a place in the table of origins
 pub late-window : (s : Setup) (v : ℕ) (f : Frame) → FrameOk s f → s .modulus ≤ readingOf s v f + (s .delta + s .epsilon) → InWindow s v f
 late-window s v f ok h = record { station-below = ok .station-below; r-below = ok .r-below; not-before = omega arith }
 
@@ -208,7 +207,3 @@ marked-is s v buffer table starts f t q w =
     ap (λ (l : List ℕ). eqb (getD l (slotOf s v f) 0) 1) (q .table-is)
     ∙ (ap (λ (x : ℕ). eqb x 1) (seen-at s v (limits-from s (t .limits)) (t .below) (held (s .epsilon) buffer) f (λ g m. window-of s v g (queue-window s v (held (s .epsilon) buffer) lim ok g m) (ok .frames g m)) w)
     ∙ marked-by (any (sameOrigin f) (held (s .epsilon) buffer)))
-
-pub table-long : (s : Setup) (v : ℕ) (queue : List Frame) → length (seenTable s v queue) ≡ 2048
-unfolding seenTable
-table-long s v queue = length-tab 2048 _

@@ -35,7 +35,7 @@ pub record Stored (s : Setup) (buffer : List ℕ) : Type 0 where
   pub limits : inLimits s ≡ true
   pub size : length buffer ≡ holdbackSize s
 
--- the buffer has a sound queue, and the two indexes are those of its frames: their origins, and where those of each sum start
+-- the buffer has a sound queue, and the tables of origins and of starts are those of its frames
 pub record Queued (s : Setup) (v : ℕ) (buffer table starts : List ℕ) : Type 0 where
   pub size : length buffer ≡ holdbackSize s
   pub sound : soundHoldback s v buffer ≡ true

@@ -6,6 +6,7 @@ use batch::count_of;
 use batch::walker::walk_step;
 use frame::stamp_of;
 use holdback::Place;
+use holdback::START_UNIT;
 use holdback::mark;
 use holdback::put;
 use holdback::reading_of;
@@ -43,7 +44,7 @@ fn take(
     let count = two_at(holdback, 0);
     put(epsilon, holdback, count, end, place, s);
     let k = sum_place(setup, clock, s);
-    shift_starts(starts, k + 1, (131072 + s.len()) as u32);
+    shift_starts(starts, k + 1, (START_UNIT + s.len()) as u32);
     mark(setup, clock, s, seen);
     let reading = reading_of(setup, clock, s);
     let other = stamp_of(epsilon, s);
@@ -60,7 +61,7 @@ pub struct Heard {
 }
 
 // The hearing loop. The batch's walker says where each entry stands. A verdict is taken apart for its place; of a refused
-// frame the number is recorded, and it goes on. The queue's frames end at end, and a taken one moves that by its length.
+// frame the number is recorded, and it goes on. The queue's frames end at `end`, and a taken one moves that by its length.
 pub fn hear(
     setup: Setup,
     clock: usize,

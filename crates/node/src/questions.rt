@@ -39,8 +39,8 @@ pub fn check_time(setup: Setup, clock: usize, s: &[u8]) -> u8
     0
 }
 
-// One frame judged: the first no's number, or its place in the queue, and where that stands. The tables have the origins of the queue's frames,
-// and where those of each sum start.
+// One frame judged: the first no's number, or its place in the queue, and where that stands. The tables of origins and of starts are
+// those of the queue's frames.
 pub fn judge(
     setup: Setup,
     clock: usize,

@@ -19,8 +19,8 @@ pub struct OpenedQueue {
     pub end: usize,
 }
 
-// 01, tick 1: "An unsound shelf is emptied (mend 2)". The tables get the frames' origins,
-// and where the frames of each sum start.
+// 01, tick 1: "An unsound shelf is emptied (mend 2; both, mend 3)". The table of origins gets those of the frames, and the table of
+// starts where the frames of each sum start.
 pub fn open_queue(
     setup: Setup,
     clock: usize,

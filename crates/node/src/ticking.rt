@@ -4,6 +4,9 @@ use crate::hearing::hear;
 use crate::queue::deliver;
 use crate::queue::open_queue;
 use crate::sending::send_frame;
+use holdback::FRONT;
+use holdback::START_PLACES;
+use holdback::TABLE_LENGTH;
 use timestamp::Setup;
 use timestamp::Timestamp;
 ghost use mathlib.Core.Path.{_≡_};
@@ -21,7 +24,7 @@ pub struct Opening {
     pub repair: u8,
 }
 
-// 01, tick 1 and 2: sound tables take a step; "Unsound tables are replaced (mend 1)".
+// 01, tick 1 and 2: sound tables take a step; "Unsound tables are replaced by c 0 and no counts at all (mend 1)".
 fn open_stamp(setup: Setup, clock: usize, tables: Timestamp) -> Opening
     requires { ⌜ Timed (setupOf setup) clock ⌝ }
     ensures { λ r. ⌜ StampOpened (setupOf setup) clock (stampOf tables) (stampOf (r .stamp)) (r .repair) ⌝ }
@@ -60,8 +63,8 @@ fn listen(
     ensures { λ r. ⌜ ListenedAll (setupOf setup) clock (stampOf tables) (now (batch .entry)) (now (holdback .entry)) (now (verdicts .entry))
         (stampOf (r .stamp)) (r .repair) (r .taken) (r .end) (now (holdback .exit)) (now (verdicts .exit)) ⌝ }
 {
-    let mut seen = [0u8; 2048];
-    let mut starts = [2u32; 96];
+    let mut seen = [0u8; TABLE_LENGTH];
+    let mut starts = [FRONT; START_PLACES];
     let opening = open_stamp(setup, clock, tables);
     let opened = open_queue(setup, clock, holdback, &mut seen, &mut starts);
     let stamp = opening.stamp;

@@ -30,11 +30,14 @@ depth-requires c κs =
     let limits = limits-from (setupOf (start .args .s)) (start .pre .0 .0) in
     omega arith
 
+emptied-requires : tie.Need-emptied-requires
+emptied-requires c κs = search needs
+
 returns : tie.Need-returns
 returns c =
-    let start = c .before .before .before .before .before .before .before .before .before in
-    let many : depth (start .args .s .n) (start .args .s .epsilon) (start .args .s .delta) < twoAt (start .args .buf .now) 0 = omega (arith, c .before .before .before .before .before .two-at .ensures, c .before .depth .ensures, c .if1 .taken) in
-    opened-no (too-many (setupOf (start .args .s)) (start .args .v) (start .args .buf .now) many) (start .pre .1 .1 .0 ∙ seen-none (setupOf (start .args .s)) (start .args .v)) (start .pre .1 .1 .1)
+    let start = c .before .before .before .before .before .before .before .before .before .before in
+    let many : depth (start .args .s .n) (start .args .s .epsilon) (start .args .s .delta) < twoAt (start .args .buf .now) 0 = omega (arith, c .before .before .before .before .before .before .two-at .ensures, c .before .before .depth .ensures, c .before .if1 .taken) in
+    opened-no (c .emptied .ensures) (too-many (setupOf (start .args .s)) (start .args .v) (start .args .buf .now) many) (start .pre .1 .1 .0 ∙ seen-none (setupOf (start .args .s)) (start .args .v)) (start .pre .1 .1 .1)
 
 walk-frames-requires : tie.Need-walk-frames-requires
 walk-frames-requires c κs =
@@ -67,6 +70,7 @@ sound-spec =
     cast-depth-2
     cast-depth-3
     depth-requires
+    emptied-requires
     returns
     walk-frames-requires
     same-length

@@ -1,5 +1,6 @@
--- `holdback::soundness::walk_frames` meets its contract. The invariant of the loop: the frames so far are sound, and the tables have their origins and, for sums up to theirs, where those start. The measure is what is left of the count. Assumes nothing.
+-- `holdback::soundness::walk_frames` meets its contract. The invariant of the loop: the frames so far are sound, the table of origins has theirs, and the table of starts, for sums up to theirs, where those start. The measure is what is left of the count. Assumes nothing.
 use native.Mathlib.Omega.{arith}
+use borrow.Author.Needs.{needs}
 use Rattle.timestamp.specs.Views.{setupOf}
 use mathlib.Core.Path.{_≡_, ap, sym, _∙_}
 use Prim.Native.Nat.{ℕ, _-_, _≤_, _<_}
@@ -24,23 +25,26 @@ Inv-loop s v buf count seen₀ starts₀ slots i₀ prev₀ at₀ last₀ filled
 abbrev μ-loop : tie.MeasureT-loop
 μ-loop s v buf count seen₀ starts₀ slots i₀ prev₀ at₀ last₀ filled₀ seen starts i prev at last filled = count - i
 
+no-rank-requires : tie.Need-no-rank-requires Inv-loop μ-loop
+no-rank-requires c κs = search needs
+
 loop-holds : tie.Need-loop-holds Inv-loop μ-loop
-loop-holds c = let start = c .before .before .before in (walk-starts _ (start .pre .1), (filling-starts (start .pre .1 .all-front), omega arith))
+loop-holds c = let start = c .before .before .before .before in (walk-starts _ (start .pre .1), (filling-starts (start .pre .1 .all-front), omega arith))
 
 judge-at-requires : tie.Need-judge-at-requires Inv-loop μ-loop
-judge-at-requires c κs = (c .before .before .before .before .before .before .pre .0, c .before .before .loop .inv .0)
+judge-at-requires c κs = (c .before .before .before .before .before .before .before .pre .0, c .before .before .loop .inv .0)
 
--- both tables keep their length
+-- the tables of origins and of starts keep their length
 module _ (c : tie.At-loop Inv-loop μ-loop) where
-  seen-same : length (c .loop .seen) ≡ length (c .before .before .before .before .args .seen .now)
-  seen-same = table-long (c .loop .inv .0) ∙ sym (starting-long (c .before .before .before .before .pre .1))
+  seen-same : length (c .loop .seen) ≡ length (c .before .before .before .before .before .args .seen .now)
+  seen-same = table-long (c .loop .inv .0) ∙ sym (starting-long (c .before .before .before .before .before .pre .1))
 
-  starts-same : length (c .loop .starts) ≡ length (c .before .before .before .before .args .starts .now)
-  starts-same = c .loop .inv .1 .0 .long ∙ sym (ap length (c .before .before .before .before .pre .1 .all-front) ∙ length-replicate startPlaces front)
+  starts-same : length (c .loop .starts) ≡ length (c .before .before .before .before .before .args .starts .now)
+  starts-same = c .loop .inv .1 .0 .long ∙ sym (ap length (c .before .before .before .before .before .pre .1 .all-front) ∙ length-replicate startPlaces front)
 
   -- an entry has room for where the next frame starts
   low : (c .loop .i ≤ 1792) × (c .loop .at < startUnit)
-  low = at-low-enough (c .loop .inv .0) (limits-from (setupOf (c .before .before .before .before .args .s)) (c .before .before .before .before .pre .0 .0)) (omega (arith, c .loop .inv .1 .1, c .before .before .before .before .pre .1 .few))
+  low = at-low-enough (c .loop .inv .0) (limits-from (setupOf (c .before .before .before .before .before .args .s)) (c .before .before .before .before .before .pre .0 .0)) (omega (arith, c .loop .inv .1 .1, c .before .before .before .before .before .pre .1 .few))
 
 clear-requires : tie.Need-clear-requires Inv-loop μ-loop
 clear-requires c κs = omega (arith, seen-same (c .before .before .before .before .before))
@@ -48,29 +52,32 @@ clear-requires c κs = omega (arith, seen-same (c .before .before .before .befor
 fill-requires : tie.Need-fill-requires Inv-loop μ-loop
 fill-requires c κs = (c .before .before .before .before .before .before .before .before .before .loop .inv .1 .0 .long, omega arith)
 
+emptied-requires : tie.Need-emptied-requires Inv-loop μ-loop
+emptied-requires c κs = search needs
+
 same-length : tie.Need-same-length Inv-loop μ-loop
-same-length c = omega (arith, seen-same (c .before .before .before .before .before .before .before .before .before .before .before .before), c .before .before .before .before .before .before .clear .kept .0)
+same-length c = omega (arith, seen-same (c .before .before .before .before .before .before .before .before .before .before .before .before .before), c .before .before .before .before .before .before .before .clear .kept .0)
 
 same-length-2 : tie.Need-same-length-2 Inv-loop μ-loop
-same-length-2 c = omega (arith, starts-same (c .before .before .before .before .before .before .before .before .before .before .before .before), c .before .before .fill .kept .0)
+same-length-2 c = omega (arith, starts-same (c .before .before .before .before .before .before .before .before .before .before .before .before .before), c .before .before .before .fill .kept .0)
 
 returns : tie.Need-returns Inv-loop μ-loop
 returns c =
-    let start = c .before .before .before .before .before .before .before .before .before .before .before .before .before .before .before .before in
+    let start = c .before .before .before .before .before .before .before .before .before .before .before .before .before .before .before .before .before .before in
     let b = start .args .buf .now in
-    let loop = c .before .before .before .before .before .before .before .before .before .before .before .before .loop in
-    let judged = c .before .before .before .before .before .before .before .before .before .judge-at in
-    let l : loop .i < twoAt b 0 = omega (arith, c .before .before .before .before .before .before .before .before .before .before .before .loop-test .taken, start .pre .1 .counted) in
-    opened-no
+    let loop = c .before .before .before .before .before .before .before .before .before .before .before .before .before .loop in
+    let judged = c .before .before .before .before .before .before .before .before .before .before .judge-at in
+    let l : loop .i < twoAt b 0 = omega (arith, c .before .before .before .before .before .before .before .before .before .before .before .before .loop-test .taken, start .pre .1 .counted) in
+    opened-no (c .emptied .ensures)
     (walk-fails (setupOf (start .args .s)) (start .args .v) b (loop .i) l
-    (judged-bad (setupOf (start .args .s)) (start .args .v) b (loop .i) (judged .result) (judged .ensures) (c .before .before .before .before .before .before .before .before .if1 .taken)))
-    (seen-cleared (setupOf (start .args .s)) (start .args .v) (loop .seen) _ (length (start .args .seen .now)) (table-long (loop .inv .0)) (sym (seen-same (c .before .before .before .before .before .before .before .before .before .before .before .before))) (c .before .before .before .before .before .before .clear .ensures))
-    (all-front (loop .starts) (c .before .before .fill .ensures))
+    (judged-bad (setupOf (start .args .s)) (start .args .v) b (loop .i) (judged .result) (judged .ensures) (c .before .before .before .before .before .before .before .before .before .if1 .taken)))
+    (seen-cleared (setupOf (start .args .s)) (start .args .v) (loop .seen) _ (length (start .args .seen .now)) (table-long (loop .inv .0)) (sym (seen-same (c .before .before .before .before .before .before .before .before .before .before .before .before .before))) (c .before .before .before .before .before .before .before .clear .ensures))
+    (all-front (loop .starts) (c .before .before .before .fill .ensures))
 
 -- a frame that is sound, and where it ends
 module _ (c : tie.Else1 Inv-loop μ-loop) where
   abbrev start : tie.Start Inv-loop μ-loop
-  start = c .before .before .before .before .before .before .before .before
+  start = c .before .before .before .before .before .before .before .before .before
 
   abbrev buffer : List ℕ
   buffer = start .args .buf .now
@@ -157,7 +164,7 @@ same-length-4 c = omega (arith, starts-same (c .before .before .before .before .
 returns-2 : tie.Need-returns-2 Inv-loop μ-loop
 returns-2 c =
     let loop = c .before .before .before .before .before .loop in
-    let start = c .before .before .before .before .before .before .before .before .before in
+    let start = c .before .before .before .before .before .before .before .before .before .before in
     let left = c .before .before .before .before .loop-test .left in
     opened-yes (start .pre .1) (loop .inv .0) (filling-ends (loop .inv .0) (loop .inv .1 .0) (start .pre .1 .counted) (loop .inv .1 .1) left (c .before .before .fill3 .ensures)) (loop .inv .1 .1) left
 
@@ -167,10 +174,12 @@ walk-frames-spec =
     (tie.spec
     Inv-loop
     μ-loop
+    no-rank-requires
     loop-holds
     judge-at-requires
     clear-requires
     fill-requires
+    emptied-requires
     same-length
     same-length-2
     returns

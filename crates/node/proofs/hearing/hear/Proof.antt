@@ -9,6 +9,7 @@ use borrow.Author.Needs.{needs}
 use Rattle.model.specs.Holdback.{held}
 use Rattle.lemmas.proofs.Bounds.{Limits}
 use Rattle.lemmas.proofs.Questions.{limits-from}
+use Rattle.holdback.proofs.Seen.{length-seen}
 use Rattle.holdback.proofs.Started.{starts-long}
 use Rattle.batch.specs.Walk.{countOf, entryAt, nextAt}
 use Rattle.batch.specs.declared.Step.{Step}
@@ -16,7 +17,7 @@ use Rattle.batch.proofs.Walk.{step-ordered, step-within, step-next, step-entry}
 use Rattle.timestamp.specs.Views.{setupOf, stampOf}
 use Rattle.node.specs.Views.{verdictOf}
 use Rattle.node.specs.States.{Taking, Placing}
-use Rattle.node.proofs.Verdicts.{Tags, table-long, is-refused}
+use Rattle.node.proofs.Verdicts.{Tags, is-refused}
 use Rattle.node.proofs.Places.{size-small, fits}
 use Rattle.node.proofs.Turns.{Turning, turning-start, turn-refused, turn-taken, turning-end}
 use Rattle.node.proofs.hearing.hear.Statement.{statement}
@@ -155,8 +156,8 @@ same-length c = c .before .loop .inv .queued .size ∙ sym (c .before .before .b
 same-length-2 : tie.Need-same-length-2 Inv-loop μ-loop
 same-length-2 c =
     let start = c .before .before .before .before .before .before .before .before in
-    (ap length (c .before .loop .inv .queued .table-is) ∙ table-long (setupOf (start .args .setup)) (start .args .clock) (held (start .args .setup .epsilon) (c .before .loop .holdback)))
-    ∙ sym (ap length (start .pre .1 .0 .table-is) ∙ table-long (setupOf (start .args .setup)) (start .args .clock) (held (start .args .setup .epsilon) (start .args .holdback .now)))
+    (ap length (c .before .loop .inv .queued .table-is) ∙ length-seen (setupOf (start .args .setup)) (start .args .clock) (held (start .args .setup .epsilon) (c .before .loop .holdback)))
+    ∙ sym (ap length (start .pre .1 .0 .table-is) ∙ length-seen (setupOf (start .args .setup)) (start .args .clock) (held (start .args .setup .epsilon) (start .args .holdback .now)))
 
 same-length-3 : tie.Need-same-length-3 Inv-loop μ-loop
 same-length-3 c =

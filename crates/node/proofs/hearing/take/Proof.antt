@@ -11,10 +11,10 @@ use Rattle.model.specs.Judge.{readingOf}
 use Rattle.lemmas.proofs.Reading.{near-high}
 use Rattle.holdback.specs.Starts.{startPlaces}
 use Rattle.holdback.proofs.RoundTrip.{Bytes}
+use Rattle.holdback.proofs.Seen.{length-seen}
 use Rattle.holdback.proofs.Started.{place-inside}
 use Rattle.frame.proofs.Asking.{stamp-kept}
 use Rattle.timestamp.specs.Views.{setupOf, stampOf}
-use Rattle.node.proofs.Verdicts.{table-long}
 use Rattle.node.proofs.Places.{Known, known, fits, short, movable, figures, more-held, more-ends, more-queued}
 use Rattle.node.proofs.hearing.take.Statement.{statement}
 use Rattle.node.proofs.hearing.take.Tie as tie
@@ -80,7 +80,7 @@ mark-requires : tie.Need-mark-requires
 mark-requires c κs =
     let start = begin-mark c in (
       (start .pre .0 .timed .limits, start .pre .0 .timed .below),
-      (here start .window, ap length (start .pre .1 .1 .table-is) ∙ table-long (setupOf (start .args .setup)) (start .args .clock) (held (start .args .setup .epsilon) (start .args .holdback .now))),
+      (here start .window, ap length (start .pre .1 .1 .table-is) ∙ length-seen (setupOf (start .args .setup)) (start .args .clock) (held (start .args .setup .epsilon) (start .args .holdback .now))),
     )
 
 reading-of-requires : tie.Need-reading-of-requires

@@ -17,11 +17,12 @@ use Rattle.lemmas.proofs.Questions.{limits-from}
 use Rattle.holdback.specs.Seen.{InWindow}
 use Rattle.holdback.specs.Sound.{fits}
 use Rattle.holdback.proofs.Changes.{length-held}
+use Rattle.holdback.proofs.Seen.{length-seen}
 use Rattle.timestamp.specs.Views.{setupOf}
 use Rattle.node.specs.Views.{timeQuestions}
 use Rattle.node.specs.States.{Readable}
 use Rattle.node.proofs.Times.{given}
-use Rattle.node.proofs.Verdicts.{form-no, time-no, repeat-no, room-no, all-yes, fits-when, late-window, time-late, time-early, marked-is, table-long, refused-located, taken-located}
+use Rattle.node.proofs.Verdicts.{form-no, time-no, repeat-no, room-no, all-yes, fits-when, late-window, time-late, time-early, marked-is, refused-located, taken-located}
 use Rattle.node.proofs.Places.{size-two}
 use Rattle.node.proofs.questions.judge.Statement.{statement}
 use Rattle.node.proofs.questions.judge.Tie as tie
@@ -64,7 +65,7 @@ window c =
 repeats-requires : tie.Need-repeats-requires
 repeats-requires c κs = (
   (c .before .before .before .before .before .before .before .before .pre .0 .limits, c .before .before .before .before .before .before .before .before .pre .0 .below),
-  (window c, ap length (c .before .before .before .before .before .before .before .before .pre .1 .table-is) ∙ table-long (setupOf (c .before .before .before .before .before .before .before .before .args .setup)) (c .before .before .before .before .before .before .before .before .args .clock) (queue (c .before .before .before .before .before .before .before .before))),
+  (window c, ap length (c .before .before .before .before .before .before .before .before .pre .1 .table-is) ∙ length-seen (setupOf (c .before .before .before .before .before .before .before .before .args .setup)) (c .before .before .before .before .before .before .before .before .args .clock) (queue (c .before .before .before .before .before .before .before .before))),
 )
 
 repeated : (c : tie.After-repeats) → c .repeats .result ≡ any (sameOrigin (frame (c .before .before .before .before .before .before .before .before .before))) (queue (c .before .before .before .before .before .before .before .before .before))

@@ -6,10 +6,10 @@ use borrow.Author.Needs.{needs}
 use Rattle.model.specs.Holdback.{soundHoldback}
 use Rattle.lemmas.proofs.Bounds.{Limits}
 use Rattle.lemmas.proofs.Questions.{limits-from}
+use Rattle.holdback.proofs.Seen.{length-seen}
 use Rattle.holdback.proofs.Started.{starts-long}
 use Rattle.timestamp.specs.Views.{setupOf, stampOf}
 use Rattle.node.specs.States.{stampSound}
-use Rattle.node.proofs.Verdicts.{table-long}
 use Rattle.node.proofs.Finish.{listening, listened, repair-small}
 use Rattle.node.proofs.ticking.listen.Statement.{statement}
 use Rattle.node.proofs.ticking.listen.Tie as tie
@@ -34,7 +34,7 @@ open-queue-requires c κs =
 slice-aggregate-hear : tie.Need-slice-aggregate-hear
 slice-aggregate-hear c =
     let start = c .before .before .before .before .before .before .before .before .before .before .before .before .before .before .before in
-    sym (ap length (c .before .before .before .before .before .before .before .open-queue .ensures .queued .table-is) ∙ table-long (setupOf (start .args .setup)) (start .args .clock) _)
+    sym (ap length (c .before .before .before .before .before .before .before .open-queue .ensures .queued .table-is) ∙ length-seen (setupOf (start .args .setup)) (start .args .clock) _)
 
 slice-aggregate-hear-2 : tie.Need-slice-aggregate-hear-2
 slice-aggregate-hear-2 c =
