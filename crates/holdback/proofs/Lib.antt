@@ -8,6 +8,7 @@ pub mod Judging
 -- The table of origins, the order of frames.
 pub mod Seen
 pub mod Order
+pub mod Newest
 -- Changes of the bytes; the tests and walks as the code makes them; what is due.
 pub mod Changes
 pub mod Placed

@@ -24,10 +24,11 @@ use Rattle.timestamp.specs.declared.ordering.Rank.{Rank}
 use Rattle.timestamp.specs.Ranks.{Ranked}
 use Rattle.holdback.specs.declared.soundness.Judged.{Judged}
 use Rattle.holdback.specs.declared.soundness.Walk.{Walk}
-use Rattle.holdback.specs.Queue.{frameStart, bytesAt, frameAt, rankOf, rankBefore, countsAt, Stands}
+use Rattle.holdback.specs.Queue.{frameStart, bytesAt, frameAt, rankOf, rankBefore, newestLess, countsAt, Stands}
 use Rattle.holdback.specs.Sound.{fits, follows, isNew, frameSound, timely, rankFollows, Compared, unsound, judgedAt, Walking, Starting, openedQueue, emptied, Opened, Led}
 use Rattle.holdback.specs.Seen.{InWindow, Within, rankSlot, hasMark, withMark, marked, seenTable, tableLength}
 use Rattle.holdback.specs.Starts.{startUnit, startPlaces, front, allFront, rankPlace, sumPlace, startOf, startsOf, filled}
+use Rattle.holdback.proofs.Newest.{part-bytes, newest-before}
 use Rattle.holdback.proofs.RoundTrip.{passing}
 use Rattle.holdback.proofs.Frames.{start-zero, start-suc, start-inside, start-within, counts-at, held-tab, leading-held, FormedUpTo}
 use Rattle.holdback.proofs.Judging.{fitting, frame-fits, frame-follows, frame-new, sound-by, sound-few, sound-frames, sound-formed}
@@ -92,6 +93,14 @@ module _ (epsilon : ℕ) (b : List ℕ) (i prev : ℕ) (last : Rank) (at : ℕ) 
       let size′ : at + (6 + 2 * epsilon) - (at + 6) ≡ 2 * epsilon = omega arith in
       rw (ne-eqb i 0 n)
       (h ∙ ap₂ (λ (x y : ℕ). rankBefore epsilon last (take x (drop (prev + 6) b)) rank (take y (drop (at + 6) b))) size size′)
+
+  pub follows-newest : (i ≡ 0 → ⊥) → ((j : ℕ) → getD b j 0 < 256)
+      → newestLess epsilon last (take (prev + (6 + 2 * epsilon) - (prev + 6)) (drop (prev + 6) b)) rank (take (at + (6 + 2 * epsilon) - (at + 6)) (drop (at + 6) b)) ≡ true
+      → true ≡ rankFollows epsilon b i prev last at rank
+  follows-newest n bytes h =
+      follows-some n
+      (sym (newest-before epsilon last rank (take (prev + (6 + 2 * epsilon) - (prev + 6)) (drop (prev + 6) b)) (take (at + (6 + 2 * epsilon) - (at + 6)) (drop (at + 6) b))
+      (part-bytes b (prev + 6) (prev + (6 + 2 * epsilon) - (prev + 6)) bytes) (part-bytes b (at + 6) (at + (6 + 2 * epsilon) - (at + 6)) bytes) h))
 
 -- ---- one frame judged
 

@@ -1,15 +1,17 @@
 -- Where the frames of a hold-back queue (01: the shelf) stand in its bytes, one by one.
 -- Assumes nothing.
-use Prim.Native.Nat.{ℕ, zero, suc, _+_, _*_, _≤_}
+use Prim.Native.Nat.{ℕ, zero, suc, _+_, _-_, _*_, _≤_}
 use mathlib.Core.Path.{_≡_}
-use mathlib.Core.Bool.{Bool, true}
+use mathlib.Core.Bool.{Bool, true, _&&_}
 use mathlib.Core.List.{List}
-use lib.ListN.{length, take, drop}
+use lib.Dec.{leb, ltb, eqb}
+use lib.ListN.{length, take, drop, getD}
 use Rattle.laws.specs.Lists.{every}
-use Rattle.laws.specs.Lex.{lexCompare, isLess}
+use Rattle.laws.specs.Lex.{lexCompare, isLess, numberOf}
 use Rattle.model.specs.Frame.{Frame, twoAt, wellFormed, decode, frameEnd}
 use Rattle.model.specs.Holdback.{heldBytes}
 use Rattle.model.specs.Setup.{Setup}
+use Rattle.model.specs.Timestamp.{sum}
 use Rattle.model.specs.Order.{key}
 use Rattle.model.specs.Judge.{readingOf}
 use Rattle.timestamp.specs.declared.ordering.Rank.{Rank}
@@ -54,6 +56,15 @@ rankOf s v f = record { reading = readingOf s v f; c = f .stamp .c; station = f 
 unfoldable pub rankBefore : ℕ → Rank → List ℕ → Rank → List ℕ → Bool
 rankBefore epsilon f kf g kg =
     isLess (lexCompare (key epsilon (f .reading) (rankedFrame f kf)) (key epsilon (g .reading) (rankedFrame g kg)))
+
+-- the eight newest of the ε counts, from offset c down, as one number
+unfoldable pub newest : ℕ → ℕ → List ℕ → ℕ
+newest epsilon c kn = numberOf 8 (λ k. getD kn (epsilon + c - k) 0)
+
+-- the sums are the same, and the newest counts of the first make the smaller number
+unfoldable pub newestLess : ℕ → Rank → List ℕ → Rank → List ℕ → Bool
+newestLess epsilon f kf g kg =
+    leb 8 epsilon && (eqb (sum (f .reading) (f .c)) (sum (g .reading) (g .c)) && ltb (newest epsilon (f .c) kf) (newest epsilon (g .c) kg))
 
 -- the 2ε counts of a frame of a queue that starts at `at`
 abbrev pub countsAt : ℕ → List ℕ → ℕ → List ℕ

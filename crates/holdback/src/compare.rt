@@ -12,7 +12,7 @@ ghost use Rattle.model.specs.Frame.{decode};
 ghost use Rattle.model.specs.Holdback.{passes};
 ghost use Rattle.timestamp.specs.Views.{setupOf};
 ghost use Rattle.timestamp.specs.Ranks.{Ranked};
-ghost use Rattle.holdback.specs.Queue.{rankOf, rankBefore};
+ghost use Rattle.holdback.specs.Queue.{rankOf, rankBefore, newestLess};
 
 // What the order looks at beside the counts.
 pub fn rank_of(s: Setup, v: usize, frame: &[u8]) -> Rank
@@ -25,6 +25,22 @@ pub fn rank_of(s: Setup, v: usize, frame: &[u8]) -> Rank
         c: frame::c_of(frame),
         station: frame::station_of(frame),
     }
+}
+
+// The sums are the same, and the eight newest counts of the first make the smaller number: so the first of two frames comes before
+// the second, by one look at eight counts, where a comparison ends at one count here and at another there. A no says nothing.
+pub fn newest_less(epsilon: usize, f: Rank, kf: &[u8], g: Rank, kg: &[u8]) -> bool
+    requires { ⌜ Ranked epsilon f (now kf) ⌝ }
+    requires { ⌜ Ranked epsilon g (now kg) ⌝ }
+    ensures { λ b. ⌜ b ≡ newestLess epsilon f (now (kf .entry)) g (now (kg .entry)) ⌝ }
+{
+    if epsilon < 8 {
+        return false;
+    }
+    if f.reading + f.c != g.reading + g.c {
+        return false;
+    }
+    splice::eight_at(kf, epsilon + f.c - 7) < splice::eight_at(kg, epsilon + g.c - 7)
 }
 
 // The first of two frames comes before the second, by their ranks and counts.

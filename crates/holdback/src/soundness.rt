@@ -1,5 +1,6 @@
 // 01: "It is sound if": one walk over the frames, each judged once, its origin by one look-up.
 use crate::compare::comes_before;
+use crate::compare::newest_less;
 use crate::compare::rank_of;
 use crate::origins::is_marked;
 use crate::origins::set_mark;
@@ -80,13 +81,12 @@ fn follows(
         return true;
     }
     let end = 6 + 2 * epsilon;
-    comes_before(
-        epsilon,
-        last,
-        &buf[prev + 6..prev + end],
-        rank,
-        &buf[at + 6..at + end],
-    )
+    let before = &buf[prev + 6..prev + end];
+    let own = &buf[at + 6..at + end];
+    if newest_less(epsilon, last, before, rank, own) {
+        return true;
+    }
+    comes_before(epsilon, last, before, rank, own)
 }
 
 // Judges frame i, which starts at `at`; the one before it starts at `prev` and has the rank `last`. Once it passes 10 to 12, its rank
