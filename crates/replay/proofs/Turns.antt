@@ -12,13 +12,13 @@ use Rattle.laws.specs.Lists.{overlay}
 use Rattle.splice.specs.Bytes.{pasted}
 use Rattle.model.specs.Setup.{Setup}
 use Rattle.model.specs.Timestamp.{Timestamp}
-use Rattle.model.specs.Tick.{Input, Output, tick}
+use Rattle.model.specs.Tick.{Input, Output, holdbackSize, tick}
 use Rattle.trace.specs.Text.{tickLines, linesOf, written, endOf}
 use Rattle.trace.specs.Trace.{clockOf, sendOf, batchOf, payloadOf, tickNumber}
 use Rattle.trace.specs.Replay.{Turn, callOf, textBy, calledTurn, turnBy, turn}
-use Rattle.replay.specs.Playing.{Ready, Result, resultBy, textRoom}
+use Rattle.replay.specs.Playing.{Ready, Result, resultBy, textRoom, among, runNumbers}
 use Rattle.replay.proofs.Fits.{Figured, lines-fit}
-use Rattle.replay.proofs.Refusals.{turn-most}
+use Rattle.replay.proofs.Refusals.{turn-among}
 
 -- the arguments of the call, read from the bytes
 pub call-is : (s : Setup) (tables : Timestamp) (holdback bytes : List ℕ) {clock : ℕ} {send : Bool} {batch payload : List ℕ}
@@ -89,6 +89,8 @@ unfolding resultBy overlay
 result-within r t text e =
     omega (arith, ap (λ (x : Result). x .size) e, ap (λ (x : Result). length (x .text)) e, length-append (t .text) (drop (length (t .text)) text))
 
-pub result-most : (r : Result) (s : Setup) (tables : Timestamp) (holdback bytes text : List ℕ) → r ≡ resultBy (turn s tables holdback bytes) text → r .number ≤ 6
+pub result-among : (r : Result) (s : Setup) (tables : Timestamp) (holdback bytes text : List ℕ) → Ready s → length holdback ≡ holdbackSize s
+    → r ≡ resultBy (turn s tables holdback bytes) text → among runNumbers (r .number) ≡ true
 unfolding resultBy
-result-most r s tables holdback bytes text e = omega (arith, ap (λ (x : Result). x .number) e, turn-most s tables holdback bytes)
+result-among r s tables holdback bytes text ready size e =
+    ap (λ (x : Result). among runNumbers (x .number)) e ∙ turn-among s tables holdback bytes ready size
