@@ -82,6 +82,20 @@ pub fn tick_end(s: &[u8]) -> usize
     end
 }
 
+// 0, or 5 where s is not one tick.
+fn tick_number(s: &[u8]) -> u8
+    ensures { λ r. ⌜ r ≡ tickNumber (now (s .entry)) ⌝ }
+{
+    let end = tick_end(s);
+    if end != s.len() {
+        return 5;
+    }
+    if 1 < byte_at(s, 2) {
+        return 5;
+    }
+    0
+}
+
 // What a tick's bytes ask for; payload and batch are payload_of's and batch_of's.
 pub struct Call {
     // 0, or 5 where the bytes are not one tick
@@ -94,27 +108,10 @@ pub struct Call {
 pub fn read_call(s: &[u8]) -> Call
     ensures { λ r. ⌜ (r .number ≡ tickNumber (now (s .entry))) × ((r .clock ≡ clockOf (now (s .entry))) × (r .send ≡ sendOf (now (s .entry)))) ⌝ }
 {
-    let clock = two_at(s, 0);
-    let send = byte_at(s, 2);
-    let end = tick_end(s);
-    if end != s.len() {
-        return Call {
-            number: 5,
-            clock,
-            send: send == 1,
-        };
-    }
-    if 1 < send {
-        return Call {
-            number: 5,
-            clock,
-            send: false,
-        };
-    }
     Call {
-        number: 0,
-        clock,
-        send: send == 1,
+        number: tick_number(s),
+        clock: two_at(s, 0),
+        send: byte_at(s, 2) == 1,
     }
 }
 
