@@ -13,7 +13,7 @@ use Rattle.model.specs.Codec.{askPayload}
 use Rattle.model.specs.Tick.{Input, Output, holdbackSize, roomy, callQuestions, refusal, acceptance, tick}
 use Rattle.lemmas.proofs.Questions.{first-yes, other-yes, limits-from}
 use Rattle.lemmas.proofs.OneTick.{tick-by}
-use Rattle.trace.specs.Text.{endOf}
+use Rattle.trace.specs.Text.{textEnd}
 use Rattle.trace.specs.Trace.{traceSetup, setupLength, setupNumber, tickNumber, largestHoldback}
 use Rattle.trace.specs.Replay.{callOf, calledTurn, turnBy, turn}
 use borrow.Author.Tests.{leb-true, le-leb, eq-eqb}
@@ -95,8 +95,8 @@ module _ (s : Setup) (tables : Timestamp) (holdback bytes : List ℕ) (ready : R
       go (suc k) h = h
 
 -- where a line ends that was written into a buffer
-pub end-within : (l : List ℕ) (at : ℕ) (text : List ℕ) → endOf l at text ≤ length l
-unfolding endOf
+pub end-within : (l : List ℕ) (at : ℕ) (text : List ℕ) → textEnd l at text ≤ length l
+unfolding textEnd
 end-within l at text = go (leb (at + length text) (length l)) refl
   where
     go : (b : Bool) → leb (at + length text) (length l) ≡ b → cond b (at + length text) 0 ≤ length l

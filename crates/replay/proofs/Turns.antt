@@ -13,7 +13,7 @@ use Rattle.splice.specs.Bytes.{pasted}
 use Rattle.model.specs.Setup.{Setup}
 use Rattle.model.specs.Timestamp.{Timestamp}
 use Rattle.model.specs.Tick.{Input, Output, holdbackSize, tick}
-use Rattle.trace.specs.Text.{tickLines, linesOf, written, endOf}
+use Rattle.trace.specs.Text.{tickLines, linesOf, written, textEnd}
 use Rattle.trace.specs.Trace.{clockOf, sendOf, batchOf, payloadOf, tickNumber}
 use Rattle.trace.specs.Replay.{Turn, callOf, textBy, calledTurn, turnBy, turn}
 use Rattle.replay.specs.Playing.{Ready, Result, resultBy, textRoom, among, runNumbers}
@@ -69,10 +69,10 @@ module _ (s : Setup) (tables : Timestamp) (holdback bytes text : List ℕ) where
   -- an accepted one
   pub turn-played : (o : Output) (clock : ℕ) {size : ℕ} {lines : List ℕ} → Ready s → textRoom ≤ length text → 0 ≡ tickNumber bytes
       → o ≡ tick (callOf s tables holdback bytes) → o .answer .number ≡ 0 → clock ≡ clockOf bytes → Figured clock (o .answer)
-      → size ≡ endOf text 0 (tickLines clock (o .answer .repair) (o .answer .tables .c) (o .answer .taken) (o .answer .sent) (o .answer .delivered) (s .epsilon) (o .delivery))
+      → size ≡ textEnd text 0 (tickLines clock (o .answer .repair) (o .answer .tables .c) (o .answer .taken) (o .answer .sent) (o .answer .delivered) (s .epsilon) (o .delivery))
       → lines ≡ written text 0 (tickLines clock (o .answer .repair) (o .answer .tables .c) (o .answer .taken) (o .answer .sent) (o .answer .delivered) (s .epsilon) (o .delivery))
       → record { number = 0; tables = o .answer .tables; size = size; holdback = o .holdback; text = lines } ≡ resultBy (turn s tables holdback bytes) text
-  unfolding resultBy overlay written endOf pasted callOf linesOf
+  unfolding resultBy overlay written textEnd pasted callOf linesOf
   turn-played o clock {size} {lines} ready room e same number clock-is small ends bytes-are =
       let i : Input = callOf s tables holdback bytes in
       let all : List ℕ = linesOf i o in

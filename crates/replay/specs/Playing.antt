@@ -31,7 +31,7 @@ abbrev pub textRoom : ℕ
 textRoom = 131072
 
 -- the buffers of a tick: the hold-back queue (01: shelf) has its exact length, and its lines have room
-pub record Laid (s : Setup) (holdback text : List ℕ) : Type 0 where
+pub record Prepared (s : Setup) (holdback text : List ℕ) : Type 0 where
   pub ready : Ready s
   pub size : length holdback ≡ holdbackSize s
   pub room : textRoom ≤ length text

@@ -13,7 +13,7 @@ ghost use mathlib.Core.Bool.{cond};
 ghost use lib.Dec.{eqb};
 ghost use Rattle.timestamp.specs.Views.{setupOf, stampOf};
 ghost use Rattle.trace.specs.Replay.{turn, freshBefore};
-ghost use Rattle.replay.specs.Playing.{Ready, Laid, refusedBy, resultOf, resultBy};
+ghost use Rattle.replay.specs.Playing.{Ready, Prepared, refusedBy, resultOf, resultBy};
 
 // 01: "It starts fresh one before the first clock": the tables for tick i, of which these are the
 // bytes; for a later one those that the tick before left.
@@ -57,7 +57,7 @@ pub fn play(
     bytes: &[u8],
     text: &mut [u8],
 ) -> Played
-    requires { ⌜ Laid (setupOf setup) (now holdback) (now text) ⌝ }
+    requires { ⌜ Prepared (setupOf setup) (now holdback) (now text) ⌝ }
     ensures { λ r. ⌜ resultOf r (now (holdback .exit)) (now (text .exit))
         ≡ resultBy (turn (setupOf setup) (stampOf tables) (now (holdback .entry)) (now (bytes .entry))) (now (text .entry)) ⌝ }
 {

@@ -27,7 +27,7 @@ use Rattle.trace.specs.Text.{
   giveText,
   refusedLine,
   written,
-  endOf,
+  textEnd,
 }
 use Rattle.trace.proofs.Numerals.{length-digits, length-decimal, digitCount-small}
 
@@ -87,16 +87,16 @@ pub put-written : {l m : List ℕ} {at e : ℕ} {text : List ℕ} → at + lengt
 unfolding written
 put-written {l} {m} {at} {e} {text} h p = rw (le-leb (at + length text) (length l) h) (p .bytes)
 
-pub put-end : {l m : List ℕ} {at e : ℕ} {text : List ℕ} → at + length text ≤ length l → Put l at text m e → e ≡ endOf l at text
-unfolding endOf
+pub put-end : {l m : List ℕ} {at e : ℕ} {text : List ℕ} → at + length text ≤ length l → Put l at text m e → e ≡ textEnd l at text
+unfolding textEnd
 put-end {l} {m} {at} {e} {text} h p = rw (le-leb (at + length text) (length l) h) (p .ends)
 
 pub none-written : (l : List ℕ) (at : ℕ) (text : List ℕ) → length l < at + length text → l ≡ written l at text
 unfolding written
 none-written l at text h = rw (lt-leb (at + length text) (length l) h)
 
-pub none-end : (l : List ℕ) (at : ℕ) (text : List ℕ) → length l < at + length text → 0 ≡ endOf l at text
-unfolding endOf
+pub none-end : (l : List ℕ) (at : ℕ) (text : List ℕ) → length l < at + length text → 0 ≡ textEnd l at text
+unfolding textEnd
 none-end l at text h = rw (lt-leb (at + length text) (length l) h)
 
 -- ---- the parts of a line, and how long they are
