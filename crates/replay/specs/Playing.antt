@@ -63,7 +63,7 @@ resultBy t text =
       text = overlay (t .text) text;
     }
 
--- x is one of the numbers
+-- `x` is one of the numbers
 unfoldable pub among : List ℕ → ℕ → Bool
 among numbers x = any (eqb x) numbers
 

@@ -15,8 +15,8 @@ ghost use Rattle.timestamp.specs.Views.{setupOf, stampOf};
 ghost use Rattle.trace.specs.Replay.{turn, freshBefore};
 ghost use Rattle.replay.specs.Playing.{Ready, Prepared, refusedBy, resultOf, resultBy};
 
-// 01: "It starts fresh one before the first clock": the tables for tick i, of which these are the
-// bytes; for a later one those that the tick before left.
+// The tables with which tick `i` starts. 01: "It starts fresh one before the first clock", which is
+// read from the first tick's `bytes`; a later tick has those that the one before left.
 pub fn tables_at(i: usize, setup: Setup, tables: Timestamp, bytes: &[u8]) -> Timestamp
     requires { ⌜ Ready (setupOf setup) ⌝ }
     ensures { λ r. ⌜ stampOf r ≡ cond (eqb i 0) (freshBefore (setupOf setup) (now (bytes .entry))) (stampOf tables) ⌝ }
@@ -49,7 +49,7 @@ fn refused(number: u8, tables: Timestamp) -> Played
     }
 }
 
-// One tick, of which these are the bytes. Its lines are written at the start of the text.
+// One tick, given by its `bytes`. Its lines are written at the start of `text`.
 pub fn play(
     setup: Setup,
     tables: Timestamp,

@@ -56,7 +56,7 @@ give-at epsilon s at station r payload e f g = rw (e, f, g, station-at epsilon s
 
 -- ---- the give lines of the frames from a position on
 
--- one for each of k frames
+-- one for each of `k` frames
 unfoldable pub giveLinesFrom : ℕ → List ℕ → ℕ → ℕ → List ℕ
 giveLinesFrom epsilon s k at = joined giveLine (map (decode epsilon) (cutFrames epsilon k (drop at s)))
 

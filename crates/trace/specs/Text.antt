@@ -15,17 +15,17 @@ use Rattle.model.specs.Tick.{Input, Output}
 unfoldable pub glyph : ℕ → ℕ
 glyph d = cond (ltb d 10) (48 + d) (87 + d)
 
--- the last k digits of x in a base, the most significant first
+-- the last `k` digits of `x` in a base, the most significant first
 unfoldable pub digits : ℕ → ℕ → ℕ → List ℕ
 digits base zero x = []
 digits base (suc k) x = digits base k (x / base) ++ (glyph (x % base) ∷ [])
 
--- how many digits x has in decimal, counted up to steps + 1
+-- how many digits `x` has in decimal, counted up to `steps + 1`
 unfoldable pub countBy : ℕ → ℕ → ℕ
 countBy zero x = 1
 countBy (suc steps) x = cond (ltb x 10) 1 (suc (countBy steps (x / 10)))
 
--- all of them, since x has at most x + 1
+-- all of them, since `x` has at most `x + 1`
 unfoldable pub digitCount : ℕ → ℕ
 digitCount x = countBy x x
 
@@ -132,7 +132,7 @@ written buffer at text = cond (leb (at + length text) (length buffer)) (pasted b
 unfoldable pub textEnd : List ℕ → ℕ → List ℕ → ℕ
 textEnd buffer at text = cond (leb (at + length text) (length buffer)) (at + length text) 0
 
--- a text was put into a buffer at a position, and ends at end
+-- a text was put into a buffer at a position, and ends at `end`
 pub record Put (buffer : List ℕ) (at : ℕ) (text after : List ℕ) (end : ℕ) : Type 0 where
   pub bytes : after ≡ pasted buffer at text
   pub ends : end ≡ at + length text

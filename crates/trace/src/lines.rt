@@ -103,7 +103,7 @@ fn put_give_at(buf: &mut [u8], end: usize, delivery: &[u8], at: usize, epsilon: 
     put_give(buf, end, station, r, payload)
 }
 
-// Whether the give lines of a delivery have at most so many bytes.
+// Whether the give lines of a delivery have at most `room` bytes.
 fn gives_fit(delivery: &[u8], epsilon: usize, room: usize) -> bool
     requires { ⌜ epsilon < 2 ^ 32 ⌝ }
     ensures { λ r. ⌜ r ≡ leb (length (giveLines epsilon (now (delivery .entry)))) room ⌝ }
@@ -160,7 +160,7 @@ pub fn put_lines(buf: &mut [u8], at: usize, f: Figures, epsilon: u32, delivery: 
     put_gives(buf, end, delivery, epsilon as usize)
 }
 
-// Writes the line of a refusal, as put_lines does those of a tick.
+// Writes the line of a refusal, as `put_lines` does those of a tick.
 pub fn put_refused(buf: &mut [u8], at: usize, number: u8) -> usize
     ensures { λ r. ⌜ r ≡ textEnd (now (buf .entry)) at (refusedLine number) ⌝ }
     ensures { λ r. ⌜ now (buf .exit) ≡ written (now (buf .entry)) at (refusedLine number) ⌝ }

@@ -1,4 +1,5 @@
-// The parts of a line, each written at a position where there is room for it; the answer is where it ends.
+// The parts of a line, each written at a position where there is room for it; the answer is where
+// it ends.
 use crate::digits::put_decimal;
 use crate::digits::put_digits;
 use splice::copy_into;
