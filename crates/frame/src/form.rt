@@ -25,7 +25,7 @@ pub fn frame_end(epsilon: usize, s: &[u8]) -> usize
 }
 
 // 01, 10: "Are the three counts right, and is nothing left over?"
-pub fn well_formed(epsilon: usize, s: &[u8]) -> bool
+fn well_formed(epsilon: usize, s: &[u8]) -> bool
     requires { ⌜ epsilon ≤ 16 ⌝ }
     ensures { λ r. ⌜ r ≡ wellFormed epsilon (now (s .entry)) ⌝ }
 {

@@ -20,7 +20,7 @@ pub struct Reading {
 }
 
 // 01: "the reader asks 1, 10, 11, 12": the number of the first no, or 0.
-pub fn check_read(setup: Setup, frame: &[u8]) -> u8
+fn check_read(setup: Setup, frame: &[u8]) -> u8
     ensures { λ r. ⌜ r ≡ firstNo (codec.readQuestions (setupOf setup) (now (frame .entry))) ⌝ }
 {
     if !in_limits(setup) {

@@ -26,7 +26,7 @@ pub fn copy_into(dst: &mut [u8], at: usize, src: &[u8])
 
 // Moves the len bytes at from to the lower index to; the two places may overlap. Where they are one
 // place nothing is to be done: the loop would write each byte over itself, and not many at a time.
-pub fn move_left(buf: &mut [u8], from: usize, to: usize, len: usize)
+fn move_left(buf: &mut [u8], from: usize, to: usize, len: usize)
     requires { ⌜ (to ≤ from) × (from + len ≤ length (now buf)) ⌝ }
     ensures { λ _. ⌜ now (buf .exit) ≡ pasted (now (buf .entry)) to (part (now (buf .entry)) from len) ⌝ }
 {
@@ -42,7 +42,7 @@ pub fn move_left(buf: &mut [u8], from: usize, to: usize, len: usize)
 
 // Moves the len bytes at from to the higher index to, the last one first; the two places may
 // overlap.
-pub fn move_right(buf: &mut [u8], from: usize, to: usize, len: usize)
+fn move_right(buf: &mut [u8], from: usize, to: usize, len: usize)
     requires { ⌜ (from ≤ to) × (to + len ≤ length (now buf)) ⌝ }
     ensures { λ _. ⌜ now (buf .exit) ≡ pasted (now (buf .entry)) to (part (now (buf .entry)) from len) ⌝ }
 {

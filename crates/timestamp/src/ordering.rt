@@ -38,7 +38,7 @@ fn compare_numbers(a: usize, b: usize) -> Order
 
 // 01: "count at offset c; at c − 1; and so on to c − ε + 1 (ε counts)". The form is 01's for "The comparison ends at the first
 // count that differs": a loop over the ε counts that yields its order by break at the first difference.
-pub fn compare_counts(epsilon: usize, a: &[u8], ca: usize, b: &[u8], cb: usize) -> Order
+fn compare_counts(epsilon: usize, a: &[u8], ca: usize, b: &[u8], cb: usize) -> Order
     requires { ⌜ (epsilon + ca < length (now a)) × (epsilon + cb < length (now b)) ⌝ }
     ensures { λ o. ⌜ o ≡ orderOf (lexCompare (countsFrom epsilon ca (now (a .entry))) (countsFrom epsilon cb (now (b .entry)))) ⌝ }
 {
