@@ -20,7 +20,7 @@ use Rattle.timestamp.proofs.Steps.{trimmed-all}
 use Rattle.timestamp.specs.declared.ordering.Order.{Order}
 use Rattle.timestamp.specs.declared.ordering.Order.the-variants.{First, Same, After}
 use Rattle.timestamp.specs.declared.ordering.Rank.{Rank}
-use Rattle.timestamp.specs.Ranks.{orderOf, countsFrom, frameOf, rankedFrame}
+use Rattle.timestamp.specs.Ranks.{orderOf, countsFrom, stampedFrame, rankedFrame}
 
 -- the counts from place k of the order on: the first of them, then the others
 down-cons : (epsilon c k : ℕ) (kn : List ℕ) → k < epsilon
@@ -139,7 +139,7 @@ module _ (tags : Tags) where
 
 -- the order looks at no place past the 2ε counts
 pub key-trimmed : (epsilon x station : ℕ) (t : Timestamp) → epsilon ≤ 16 → length (t .kn) ≡ 32 → t .c < epsilon
-    → key epsilon x (frameOf station (record { r = 0; c = t .c; kn = t .kn })) ≡ key epsilon x (frameOf station (trimmed epsilon t))
+    → key epsilon x (stampedFrame station (record { r = 0; c = t .c; kn = t .kn })) ≡ key epsilon x (stampedFrame station (trimmed epsilon t))
 unfolding key countsDown
 key-trimmed epsilon x station t small long lead =
     let same : tab epsilon (λ j. getD (t .kn) (epsilon + t .c - j) 0)

@@ -6,7 +6,7 @@ ghost use Rattle.laws.specs.Lex.{lexCompare};
 ghost use Rattle.model.specs.Timestamp.{trimmed};
 ghost use Rattle.model.specs.Order.{key};
 ghost use Rattle.timestamp.specs.Views.{stampOf};
-ghost use Rattle.timestamp.specs.Ranks.{orderOf, countsFrom, frameOf, rankedFrame, Ranked};
+ghost use Rattle.timestamp.specs.Ranks.{orderOf, countsFrom, stampedFrame, rankedFrame, Ranked};
 use crate::stamp::Timestamp;
 
 // How the first of two stands to the second.
@@ -93,7 +93,7 @@ pub fn compare(
 ) -> Order
     requires { ⌜ (epsilon ≤ 16) × ((f .c < epsilon) × (g .c < epsilon)) ⌝ }
     requires { ⌜ («at_f» ≤ 2 ^ 17) × («at_g» ≤ 2 ^ 17) ⌝ }
-    ensures { λ o. ⌜ o ≡ orderOf (lexCompare (key epsilon «at_f» (frameOf «station_f» (trimmed epsilon (stampOf f)))) (key epsilon «at_g» (frameOf «station_g» (trimmed epsilon (stampOf g))))) ⌝ }
+    ensures { λ o. ⌜ o ≡ orderOf (lexCompare (key epsilon «at_f» (stampedFrame «station_f» (trimmed epsilon (stampOf f)))) (key epsilon «at_g» (stampedFrame «station_g» (trimmed epsilon (stampOf g))))) ⌝ }
 {
     let kf = f.kn;
     let kg = g.kn;
