@@ -6,7 +6,7 @@ ghost use Rattle.batch.specs.Walk.{countOf, entryAt, nextAt, stepAt};
 
 pub mod walker;
 
-// One step of a walk: where an entry's bytes start and end. At the end stands the next entry's length.
+// One step of a walk: where an entry's bytes start and end. After them stands the next entry's length, if there is one.
 pub struct Step {
     pub start: usize,
     pub end: usize,

@@ -15,7 +15,7 @@ ghost use Rattle.model.specs.Timestamp.{widened};
 ghost use Rattle.model.specs.Question.{firstNo, frameQuestions};
 ghost use Rattle.timestamp.specs.Views.{setupOf, stampOf};
 
-// Where its counts say that the frame at the start of s ends.
+// Where its counts say that the frame at the start of `s` ends.
 pub fn frame_end(epsilon: usize, s: &[u8]) -> usize
     requires { ⌜ epsilon ≤ 16 ⌝ }
     ensures { λ r. ⌜ r ≡ frameEnd epsilon (now (s .entry)) ⌝ }

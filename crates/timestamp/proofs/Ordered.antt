@@ -66,7 +66,7 @@ or-else-same Ordering·lt = refl
 or-else-same Ordering·eq = refl
 or-else-same Ordering·gt = refl
 
--- 01: "sum; count at offset c; … ; station number; r": what decides, in turn
+-- 01's order of two stamps, "first difference decides": the sum, the counts, the station number and r, in turn
 pub key-order : (epsilon x y : ℕ) (f g : Frame)
     → lexCompare (key epsilon x f) (key epsilon y g)
     ≡ orElse (compare (x + f .stamp .c) (y + g .stamp .c))
@@ -89,14 +89,14 @@ pub record Tags : Type 0 where
   pub at-after : tag After ≡ 2
 
 module _ (tags : Tags) where
-  -- an answer that is not Same decides
+  -- an answer that is not `Same` decides
   decided : (o q : Ordering) (r : Order) → r ≡ orderOf o → (tags .tag r ≡ 0) ⊎ (tags .tag r ≡ 2) → r ≡ orderOf (orElse o q)
   decided Ordering·lt q r e k = e
   decided Ordering·eq q r e (inl k) = absurd (omega (arith, ap (tags .tag) e, tags .at-same))
   decided Ordering·eq q r e (inr k) = absurd (omega (arith, ap (tags .tag) e, tags .at-same))
   decided Ordering·gt q r e k = e
 
-  -- one that is Same does not
+  -- one that is `Same` does not
   undecided : (o : Ordering) (r : Order) → r ≡ orderOf o → tags .tag r ≡ 1 → o ≡ Ordering·eq
   undecided Ordering·lt r e k = absurd (omega (arith, ap (tags .tag) e, tags .at-first))
   undecided Ordering·eq r e k = refl
