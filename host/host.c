@@ -1,7 +1,7 @@
 /* A yard of several stations in one process, over the library: each station has a clock within the drift limit, the air loses,
  * delays and repeats frames and carries junk, and in the middle a power dip fills one station's memory with random bytes.
- * It prints each board's hand-outs, then checks of the messages sent after recovery that no board shows one twice, that any two
- * boards show those that both show in one order, and that every board shows causes before effects.
+ * It prints each board's hand-outs, then checks of the messages sent after recovery that every board shows each one that it took and
+ * that was due, none of them twice, and causes before effects, and that any two boards show those that both show in one order.
  * Usage: host [SEED]. Exit status 0 where all holds. */
 #include <stdio.h>
 #include <stdlib.h>
@@ -30,7 +30,8 @@ struct station {
     int clock; /* the true clock */
     uint8_t tables[YARNGRAVEL_TABLES];
     uint8_t shelf[SHELF];
-    struct set known; /* what the station sent or took so far, and the causes of that */
+    struct set taken; /* what the station took so far */
+    struct set known; /* that, what it sent, and the causes of both */
     unsigned given_count;
     int given[GIVEN]; /* the messages handed out, in order; JUNK for a frame that nobody sent */
 };
@@ -124,6 +125,7 @@ static void gather(int who, struct bundle *b, bool junk) {
 static void learn(struct station *s, const struct bundle *b, const uint8_t *verdicts) {
     for (unsigned k = 0; k < b->bytes[0]; k++)
         if (verdicts[k] == 0 && b->from[k] != JUNK) {
+            add(&s->taken, b->from[k]);
             add(&s->known, b->from[k]);
             join(&s->known, &messages[b->from[k]].causes);
         }
@@ -209,6 +211,9 @@ static void keep_covered(struct station *s, int from) {
     s->given_count = kept;
 }
 
+/* the clock at which a message is due: sent_at + c + delay + drift limit */
+static int due(const struct message *m) { return m->sent_at + m->bytes[5] + DELTA + EPSILON; }
+
 /* the place of a message among those that a board gave before the place `end`, or -1 */
 static int place_of(const struct station *s, int message, unsigned end) {
     for (unsigned k = 0; k < end; k++)
@@ -229,6 +234,14 @@ static unsigned check_board(const struct station *s) {
     return pairs;
 }
 
+/* Of the messages sent from this clock on, a board shows each one that it took and that was due. */
+static void check_whole(const struct station *s, int from) {
+    for (int k = 0; k < (int)message_count; k++)
+        if (messages[k].sent_at >= from && has(&s->taken, k) && due(&messages[k]) <= s->clock &&
+            place_of(s, k, s->given_count) < 0)
+            fail("a covered message was taken and not handed out");
+}
+
 /* how many messages two boards both show; they come in one order */
 static unsigned check_two(const struct station *a, const struct station *b) {
     unsigned shared = 0;
@@ -247,9 +260,10 @@ int main(int argc, char **argv) {
     unsigned causes = 0, shared = 0;
     seed = argc > 1 ? strtoull(argv[1], NULL, 10) : 20261115;
     for (int k = 0; k < N; k++) start(&stations[k], (int)draw(EPSILON + 1));
-    int dip = play();
+    int from = play() + DELTA + 3 * EPSILON;
     for (int a = 0; a < N; a++) {
-        keep_covered(&stations[a], dip + DELTA + 3 * EPSILON);
+        keep_covered(&stations[a], from);
+        check_whole(&stations[a], from);
         causes += check_board(&stations[a]);
         for (int b = 0; b < a; b++) shared += check_two(&stations[a], &stations[b]);
     }

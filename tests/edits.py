@@ -66,9 +66,10 @@ def place(crate, file, old):
 
 
 def rounds(edits):
-    """The edits in lists of which none changes a function twice."""
+    """The edits in lists of which none changes a function twice. Those that are tried alone come first: each leaves little that the
+    check after it could use, and the others leave much."""
     made = []
-    for edit in edits:
+    for edit in sorted(edits, key=lambda edit: not edit.alone):
         for one in made:
             if not edit.alone and not one[0].alone and all(edit.functions.isdisjoint(e.functions) for e in one):
                 one.append(edit)
@@ -132,37 +133,43 @@ def try_crate(crate):
         for part in ("crates", "target"):
             shutil.copytree(ROOT / part, work / part, ignore=shutil.ignore_patterns("must-fail", "inc"))
         shutil.copy(ROOT / "crates.txt", work)
-        shutil.copytree(ROOT / "crates" / crate, work / "clean")
-        if "logic=proved" not in dev(work, crate):
-            return [f"{crate}: not proved before any edit"], 1
         return try_rounds(work, crate)
 
 
 def try_rounds(work, crate):
-    """The same, in a copy of the repository in which the crate is proved."""
-    clean, copy = work / "clean", work / "crates" / crate
+    """The same, in a copy of the repository. Without an edit the crate must be proved there; that is tried last, when most of it
+    has been proved already."""
+    clean, copy = ROOT / "crates" / crate, work / "crates" / crate
     edits = edits_of(clean)
     verdicts = []
     for together in rounds(edits):
-        for part in ("src", "specs"):
-            if (clean / part).is_dir():
-                shutil.copytree(clean / part, copy / part, dirs_exist_ok=True)
+        restore(clean, copy)
         for edit in together:
             edit.apply(copy)
         log = dev(work, crate)
         verdicts += [verdict(edit, crate, log) for edit in together]
+    restore(clean, copy)
+    if "logic=proved" not in dev(work, crate):
+        verdicts.append((f"{crate}: NOT PROVED without an edit", 1))
     return [line for line, _ in verdicts], sum(failed for _, failed in verdicts)
 
 
+def restore(clean, copy):
+    """Takes all edits back."""
+    for part in ("src", "specs"):
+        if (clean / part).is_dir():
+            shutil.copytree(clean / part, copy / part, dirs_exist_ok=True)
+
+
 def summary(what, answers):
-    """Prints the lines of each answer as it comes, then the counts; ends the run."""
+    """Prints the lines of each answer as it comes, then the counts; ends the run, with 1 if anything failed or nothing was tried."""
     tried = failed = 0
     for lines, wrong in answers:
         print("\n".join(lines), flush=True)
         tried += len(lines)
         failed += wrong
     print(f"{what}: {tried - failed} refused, {failed} not")
-    sys.exit(1 if failed else 0)
+    sys.exit(1 if failed or not tried else 0)
 
 
 def edits_of(crate):

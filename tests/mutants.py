@@ -4,6 +4,7 @@ protocol, so what is proved of them (lemmas, theory) must be refused."""
 import os
 import shutil
 import subprocess
+import sys
 import tempfile
 from concurrent.futures import ThreadPoolExecutor
 from pathlib import Path
@@ -25,16 +26,22 @@ def copy_definitions(work):
     (proofs / "Lib.antt").write_text(modules.replace("pub mod Samples\n", ""), encoding="utf-8")
 
 
-def try_mutant(path):
-    """The line to print for a mutant, and 1 if it is not refused."""
+def check(edits):
+    """What the check of a copy of the definitions says, after some edits."""
     with tempfile.TemporaryDirectory() as name:
         work = Path(name)
         copy_definitions(work)
-        edit = Edit(path, ROOT / "crates" / "model")
-        edit.apply(work / "crates" / "model")
+        for edit in edits:
+            edit.apply(work / "crates" / "model")
         # two mutants are tried at a time, so one prover for each; the lines of the log whole, for they are read
         settings = {**os.environ, "RT_JOBS": "1", "RT_CUT": "0"}
-        log = subprocess.run(["rt", "check", "theory"], cwd=work, env=settings, text=True, stdout=subprocess.PIPE, stderr=subprocess.STDOUT).stdout
+        return subprocess.run(["rt", "check", "theory"], cwd=work, env=settings, text=True, stdout=subprocess.PIPE, stderr=subprocess.STDOUT).stdout
+
+
+def try_mutant(path):
+    """The line to print for a mutant, and 1 if it is not refused."""
+    edit = Edit(path, ROOT / "crates" / "model")
+    log = check([edit])
     if "rt: model proved" not in log:
         return [f"mutant {edit.name}: the definitions are not well-formed"], 1
     where = first_error(log)
@@ -44,6 +51,8 @@ def try_mutant(path):
 
 
 def main():
+    if "rt: theory proved" not in check([]):
+        sys.exit("mutants: the theorems are not proved without one")
     with ThreadPoolExecutor(2) as pool:
         summary("mutants", pool.map(try_mutant, sorted((ROOT / "tests" / "mutants").glob("*.edit"))))
 

@@ -1,22 +1,34 @@
-//! The three programs, called alike: each gets the same case, and its answer is packed as the library's.
+//! The programs, called alike: each gets the same case, and its answer is packed as the library's.
 
-use crate::twin;
+use crate::twin::{self, Bits, Bytes, Forms, Loop, Number, Own, Widest};
 use oracle::abi::{self, library};
 use oracle::generate::TickCase;
 
 /// Makes a call and answers its packed answer.
 pub type Program = fn(&mut TickCase) -> u64;
 
-/// In the order of the printed columns.
-pub const PROGRAMS: [Program; 3] = [library::tick, oracle, twin];
+/// The proved library, the oracle, the twin; then the twin with the proved program's comparison, with its origins, with its way to
+/// hold counts to their limits, and with all three.
+pub const PROGRAMS: [Program; 7] = [
+    library::tick,
+    oracle,
+    twin::<(Number, Bits, Widest)>,
+    twin::<(Loop, Bits, Widest)>,
+    twin::<(Number, Bytes, Widest)>,
+    twin::<(Number, Bits, Own)>,
+    twin::<(Loop, Bytes, Own)>,
+];
+
+/// A number for each program.
+pub type Each = [f64; PROGRAMS.len()];
 
 /// The second program.
 fn oracle(case: &mut TickCase) -> u64 {
     abi::pack_tick(&case.run())
 }
 
-fn twin(case: &mut TickCase) -> u64 {
-    twin::tick(&mut twin::Call {
+fn twin<F: Forms>(case: &mut TickCase) -> u64 {
+    twin::tick::<F>(&mut twin::Call {
         setup: library::numbers(&case.setup),
         clock: library::narrow(case.clock),
         tables: &mut case.state,

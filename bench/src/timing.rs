@@ -1,6 +1,6 @@
 //! Nanoseconds a call, the best of many rounds.
 
-use crate::programs::{Program, PROGRAMS};
+use crate::programs::{Each, Program, PROGRAMS};
 use crate::workloads::Workload;
 use oracle::generate::TickCase;
 use std::hint::black_box;
@@ -15,12 +15,12 @@ const SMALL: usize = 8_192;
 struct Part<'w> {
     cases: &'w [TickCase],
     work: Vec<TickCase>,
-    best: [f64; 3],
+    best: Each,
 }
 
 impl<'w> Part<'w> {
     fn new(cases: &'w [TickCase]) -> Self {
-        Part { cases, work: cases.to_vec(), best: [f64::MAX; 3] }
+        Part { cases, work: cases.to_vec(), best: [f64::MAX; PROGRAMS.len()] }
     }
 
     /// Times each program once.
@@ -33,7 +33,7 @@ impl<'w> Part<'w> {
 
 /// For each workload and program the time of a call: the mean of the calls' best rounds. The
 /// programs take turns, and so do the workloads.
-pub fn measure<const W: usize>(workloads: [&Workload; W]) -> [[f64; 3]; W] {
+pub fn measure<const W: usize>(workloads: [&Workload; W]) -> [Each; W] {
     let small = workloads[0].cases[0].holdback.len() <= SMALL;
     let size = if small { workloads[0].cases.len() } else { 1 };
     let mut parts = workloads
@@ -44,7 +44,8 @@ pub fn measure<const W: usize>(workloads: [&Workload; W]) -> [[f64; 3]; W] {
     let timer = (0..1_000).map(|_| time(|_| 0, &[], &mut [])).fold(f64::MAX, f64::min);
     parts.map(|parts| {
         let calls = (parts.len() * size) as f64;
-        [0, 1, 2].map(|i| parts.iter().map(|part| part.best[i] - timer).sum::<f64>() / calls)
+        let mean = |i| parts.iter().map(|part| part.best[i] - timer).sum::<f64>() / calls;
+        std::array::from_fn(mean)
     })
 }
 

@@ -4,6 +4,12 @@
 //! What it does for speed: a frame is looked at through one window of 39 bytes, which holds all of it but the payload; counts are
 //! held to their limits 32 at a time; the ε counts of the order are one number; origins are bits; and where each sum starts in the
 //! queue is kept, so that a search looks at the frames of one sum only.
+//!
+//! Three of these the proved program does otherwise: its comparison is 01's loop over the counts, its origins are bytes, and of each
+//! frame only the counts that it has are held to their limits. So that the price of each can be measured, the twin comes with them
+//! too (`Forms`).
+
+use std::marker::PhantomData;
 
 /// Where a frame's counts start.
 const COUNTS: usize = 6;
@@ -25,9 +31,126 @@ static MASKS: [u8; 3 * WIDEST] = {
     masks
 };
 
-type Window = [u8; WINDOW];
-type Counts = [u8; WIDEST];
-type Origins = [u64; 32];
+pub type Window = [u8; WINDOW];
+pub type Counts = [u8; WIDEST];
+/// For each station two words, with a bit for each reading.
+pub type Bits = [u64; 32];
+/// For each station and reading a byte.
+pub type Bytes = [u8; 2048];
+
+/// What can be done in more than one way: how counts are compared, where origins are kept, how counts are held to their limits.
+pub trait Forms {
+    type Compare: Compare;
+    type Origins: Origins;
+    type Limits: Limits;
+}
+
+impl<C: Compare, O: Origins, L: Limits> Forms for (C, O, L) {
+    type Compare = C;
+    type Origins = O;
+    type Limits = L;
+}
+
+/// Does the first of two frames with one sum come before the second, by the ε counts? None where they are alike.
+pub trait Compare {
+    fn by_counts(first: &Key, second: &Key, epsilon: usize) -> Option<bool>;
+}
+
+/// All ε counts as one number.
+pub struct Number;
+/// 01: "The comparison ends at the first count that differs".
+pub struct Loop;
+
+impl Compare for Number {
+    #[inline(always)]
+    fn by_counts(first: &Key, second: &Key, _: usize) -> Option<bool> {
+        (first.recent != second.recent).then_some(first.recent < second.recent)
+    }
+}
+
+impl Compare for Loop {
+    #[inline(always)]
+    fn by_counts(first: &Key, second: &Key, epsilon: usize) -> Option<bool> {
+        for k in 0..epsilon {
+            let a = first.window[COUNTS + epsilon + first.c - k];
+            let b = second.window[COUNTS + epsilon + second.c - k];
+            if a != b {
+                return Some(a < b);
+            }
+        }
+        None
+    }
+}
+
+/// Is each count before a place at most one limit, and from there on at most another?
+pub trait Limits {
+    fn hold(counts: &Counts, width: usize, place: usize, before: u8, after: u8) -> bool;
+}
+
+/// All counts that there can be, 32 at a time; those past the width are ignored.
+pub struct Widest;
+/// The 2ε counts that there are.
+pub struct Own;
+
+impl Limits for Widest {
+    #[inline(always)]
+    fn hold(counts: &Counts, width: usize, place: usize, before: u8, after: u8) -> bool {
+        let (mask, ignored): (&Counts, _) = (part(&MASKS, WIDEST - place), ignored(width));
+        let mut over = 0;
+        for i in 0..WIDEST {
+            let limit = after + (mask[i] & (before - after));
+            over |= counts[i].saturating_sub(limit | ignored[i]);
+        }
+        over == 0
+    }
+}
+
+impl Limits for Own {
+    #[inline(always)]
+    fn hold(counts: &Counts, width: usize, place: usize, before: u8, after: u8) -> bool {
+        let mut fine = true;
+        for (i, count) in (0..).zip(&counts[..width]) {
+            fine &= *count <= if i < place as u8 { before } else { after };
+        }
+        fine
+    }
+}
+
+/// 255 in the places past the counts, otherwise 0.
+fn ignored(width: usize) -> &'static Counts {
+    part(&MASKS, 2 * WIDEST - width)
+}
+
+/// Which stations and readings are queued.
+pub trait Origins {
+    const NONE: Self;
+    fn has(&self, key: &Key) -> bool;
+    fn mark(&mut self, key: &Key);
+}
+
+impl Origins for Bits {
+    const NONE: Self = [0; 32];
+
+    fn has(&self, key: &Key) -> bool {
+        self[2 * key.station + key.reading / 64] >> (key.reading % 64) & 1 != 0
+    }
+
+    fn mark(&mut self, key: &Key) {
+        self[2 * key.station + key.reading / 64] |= 1 << (key.reading % 64);
+    }
+}
+
+impl Origins for Bytes {
+    const NONE: Self = [0; 2048];
+
+    fn has(&self, key: &Key) -> bool {
+        self[128 * key.station + key.reading] != 0
+    }
+
+    fn mark(&mut self, key: &Key) {
+        self[128 * key.station + key.reading] = 1;
+    }
+}
 
 /// The arguments of the tick.
 pub struct Call<'a> {
@@ -45,9 +168,9 @@ pub struct Call<'a> {
 }
 
 /// One tick, its answer packed as the library's.
-pub fn tick(call: &mut Call) -> u64 {
+pub fn tick<F: Forms>(call: &mut Call) -> u64 {
     match check(call) {
-        0 => accept(call),
+        0 => accept::<F>(call),
         number => number.into(),
     }
 }
@@ -85,7 +208,8 @@ fn ends_exactly(batch: &[u8]) -> bool {
 }
 
 /// The numbers of an accepted call, and the limits of counts.
-struct Group {
+struct Group<F> {
+    forms: PhantomData<F>,
     n: u8,
     epsilon: usize,
     /// 2ε, how many counts a timestamp has.
@@ -97,40 +221,47 @@ struct Group {
     ignored: &'static Counts,
 }
 
-/// What the order looks at, in its order: the sum, the ε counts from offset c down as one number, the station and the reading.
-/// Sum and reading count from the least that a sound queue has.
-#[derive(Clone, Copy, PartialEq, Eq, PartialOrd, Ord)]
-struct Key {
+/// What the order looks at: the sum, the ε counts from offset c down, here as one number and by the frame and c, the station and the
+/// reading. Sum and reading count from the least that a sound queue has.
+#[derive(Clone, Copy)]
+pub struct Key<'a> {
     sum: usize,
     recent: u128,
+    window: &'a Window,
+    c: usize,
     station: usize,
     reading: usize,
 }
 
-impl Key {
-    /// Which word of the origins has its bit.
-    fn word(&self) -> usize {
-        2 * self.station + self.reading / 64
+impl Key<'_> {
+    /// Does it come before another?
+    #[inline(always)]
+    fn is_before<F: Forms>(&self, other: &Key, epsilon: usize) -> bool {
+        if self.sum != other.sum {
+            return self.sum < other.sum;
+        }
+        let last = (self.station, self.reading) < (other.station, other.reading);
+        F::Compare::by_counts(self, other, epsilon).unwrap_or(last)
     }
 }
 
 /// Comes before the key of every sound frame, whose count at offset c is not 0.
-const FIRST: Key = Key { sum: 0, recent: 0, station: 0, reading: 0 };
+const FIRST: Key = Key { sum: 0, recent: 0, window: &[0; WINDOW], c: 0, station: 0, reading: 0 };
 
 /// The queue while a tick is at work on it.
-struct Queue {
+struct Queue<F: Forms> {
     count: usize,
     end: usize,
-    /// For each station two words, with a bit for each reading that is queued.
-    origins: Origins,
+    origins: F::Origins,
     /// Where the frames of each sum start; past the last sum, the end.
     starts: [u32; SUMS],
     /// How many frames have the least sum: they are due.
     due: usize,
 }
 
-impl Queue {
-    const EMPTY: Queue = Queue { count: 0, end: 2, origins: [0; 32], starts: [2; SUMS], due: 0 };
+impl<F: Forms> Queue<F> {
+    const EMPTY: Self =
+        Queue { count: 0, end: 2, origins: F::Origins::NONE, starts: [2; SUMS], due: 0 };
 }
 
 /// The own timestamp while a tick is at work on it.
@@ -139,13 +270,13 @@ struct Local {
     kn: Counts,
 }
 
-fn accept(call: &mut Call) -> u64 {
-    let group = Group::of(call);
+fn accept<F: Forms>(call: &mut Call) -> u64 {
+    let group = Group::<F>::of(call);
     let (mut local, mut repair) = match group.is_sound_before(call.tables) {
         true => (group.step(call.tables), 0),
         false => (Local { c: 0, kn: [0; WIDEST] }, 1),
     };
-    let mut queue = Queue::EMPTY;
+    let mut queue = Queue::<F>::EMPTY;
     if !group.walk(call.holdback, &mut queue) {
         repair += 2;
         queue = Queue::EMPTY;
@@ -171,14 +302,14 @@ fn part<const N: usize>(bytes: &[u8], at: usize) -> &[u8; N] {
     bytes[at..at + N].try_into().expect("N bytes")
 }
 
-impl Group {
+impl<F: Forms> Group<F> {
     fn of(call: &Call) -> Self {
         let [n, epsilon, delta, modulus, _] = call.setup;
         let (n, epsilon) = (n as u8, epsilon as usize);
         let width = 2 * epsilon;
-        let ignored = part(&MASKS, 2 * WIDEST - width);
+        let ignored = ignored(width);
         let (delta, modulus, clock) = (delta as usize, modulus as i32, call.clock as i32);
-        Group { n, epsilon, width, delta, modulus, clock, ignored }
+        Group { forms: PhantomData, n, epsilon, width, delta, modulus, clock, ignored }
     }
 
     fn depth(&self) -> usize {
@@ -216,15 +347,8 @@ impl Group {
     }
 
     /// Is each count before a place at most one limit, and from there on at most another?
-    #[inline(always)]
     fn within(&self, counts: &Counts, place: usize, before: u8, after: u8) -> bool {
-        let mask: &Counts = part(&MASKS, WIDEST - place);
-        let mut over = 0;
-        for i in 0..WIDEST {
-            let limit = after + (mask[i] & (before - after));
-            over |= counts[i].saturating_sub(limit | self.ignored[i]);
-        }
-        over == 0
+        F::Limits::hold(counts, self.width, place, before, after)
     }
 
     fn step(&self, tables: &[u8; 35]) -> Local {
@@ -257,16 +381,16 @@ impl Group {
     }
 
     /// The key of a sound frame that is not overdue.
-    fn key(&self, w: &Window, ahead: i32) -> Key {
+    fn key<'w>(&self, w: &'w Window, ahead: i32) -> Key<'w> {
         let c = usize::from(w[5]);
         let low = self.delta + 2 * self.epsilon;
         let reading = (low as i32 + ahead) as usize;
         let recent = u128::from_le_bytes(*part(w, COUNTS + c + 1)) << (128 - 8 * self.epsilon);
-        Key { sum: reading + c - self.epsilon, recent, station: w[1].into(), reading }
+        Key { sum: reading + c - self.epsilon, recent, window: w, c, station: w[1].into(), reading }
     }
 
     /// Is the queue in the buffer sound? Its figures then.
-    fn walk(&self, buf: &[u8], queue: &mut Queue) -> bool {
+    fn walk(&self, buf: &[u8], queue: &mut Queue<F>) -> bool {
         queue.count = usize::from(u16::from_le_bytes([buf[0], buf[1]]));
         if queue.count > self.depth() {
             return false;
@@ -289,7 +413,7 @@ impl Group {
     }
 
     /// The key of the next frame of the walk, if the queue is sound so far; its origin is marked.
-    fn next_key(&self, w: &Window, last: &Key, origins: &mut Origins) -> Option<Key> {
+    fn next_key<'w>(&self, w: &'w Window, last: &Key, origins: &mut F::Origins) -> Option<Key<'w>> {
         if self.check_frame(w) != 0 {
             return None;
         }
@@ -299,16 +423,15 @@ impl Group {
             return None;
         }
         let key = self.key(w, ahead);
-        let seen = &mut origins[key.word()];
-        if *seen >> (key.reading % 64) & 1 != 0 || *last >= key {
+        if origins.has(&key) || !last.is_before::<F>(&key, self.epsilon) {
             return None;
         }
-        *seen |= 1 << (key.reading % 64);
+        origins.mark(&key);
         Some(key)
     }
 
     /// Judges the frames of the batch in turn; how many were taken.
-    fn hear(&self, call: &mut Call, local: &mut Local, queue: &mut Queue) -> u64 {
+    fn hear(&self, call: &mut Call, local: &mut Local, queue: &mut Queue<F>) -> u64 {
         let mut taken = 0;
         let mut at = 1;
         for i in 0..usize::from(call.batch[0]) {
@@ -336,7 +459,7 @@ impl Group {
         w: &Window,
         entry: &[u8],
         local: &mut Local,
-        queue: &mut Queue,
+        queue: &mut Queue<F>,
         buf: &mut [u8],
     ) -> u8 {
         if entry.len() != self.frame_len(w) {
@@ -358,7 +481,7 @@ impl Group {
             return 15;
         }
         let key = self.key(w, ahead);
-        if queue.origins[key.word()] >> (key.reading % 64) & 1 != 0 {
+        if queue.origins.has(&key) {
             return 16;
         }
         if queue.count >= self.depth() {
@@ -370,12 +493,12 @@ impl Group {
     }
 
     /// Puts a frame in its place.
-    fn place(&self, key: &Key, entry: &[u8], queue: &mut Queue, buf: &mut [u8]) {
+    fn place(&self, key: &Key, entry: &[u8], queue: &mut Queue<F>, buf: &mut [u8]) {
         let mut at = queue.starts[key.sum] as usize;
         let stop = queue.starts[key.sum + 1] as usize;
         while at < stop {
             let w = part(buf, at);
-            if self.key(w, self.near(r_of(w))) > *key {
+            if key.is_before::<F>(&self.key(w, self.near(r_of(w))), self.epsilon) {
                 break;
             }
             at += self.frame_len(w);
@@ -385,7 +508,7 @@ impl Group {
         for start in &mut queue.starts[key.sum + 1..] {
             *start += entry.len() as u32;
         }
-        queue.origins[key.word()] |= 1 << (key.reading % 64);
+        queue.origins.mark(key);
         queue.end += entry.len();
         queue.count += 1;
         queue.due += usize::from(key.sum == 0);
@@ -420,7 +543,7 @@ impl Group {
     }
 
     /// Hands out the frames that are due; the others move to the front.
-    fn deliver(&self, call: &mut Call, queue: &Queue) {
+    fn deliver(&self, call: &mut Call, queue: &Queue<F>) {
         let first = queue.starts[1] as usize;
         call.delivery[..2].copy_from_slice(&(queue.due as u16).to_le_bytes());
         if first > 2 {

@@ -1,2 +1,2 @@
 -- `Words` has the laws of tables in bytes and of answers in one number.
-pub mod Words
+mod Words

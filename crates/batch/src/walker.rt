@@ -1,4 +1,4 @@
-// A batch and a position in it. step and advance take the walker apart and call a function of the crate on the slice and the number.
+// A batch and a position in it. `step` and `advance` take the walker apart and call a function of the crate on the slice and the number.
 use crate::Step;
 use crate::next_at;
 use crate::step_at;
@@ -26,8 +26,9 @@ pub fn advance<'a>(w: Walker<'a>) -> Walker<'a>
     Walker { src: w.src, at }
 }
 
-// The step of a walker at a position of a batch, which ends where the walker goes on. Its contract says nothing of a walker, so
-// a caller needs no walk by hand.
+// The step of a walker at a position of a batch. Its contract says nothing of a walker, so a caller needs no walk by hand. It
+// goes by the walker's own two functions: the entry starts where `step` says, and ends where `advance` goes on. `step` has the same
+// end, so the position after the entry is worked out twice.
 pub fn walk_step(batch: &[u8], at: usize) -> Step
     ensures { λ r. ⌜ r ≡ stepAt (now (batch .entry)) at ⌝ }
 {

@@ -15,7 +15,7 @@ ghost use Rattle.model.specs.Timestamp.{widened};
 ghost use Rattle.model.specs.Question.{firstNo, frameQuestions};
 ghost use Rattle.timestamp.specs.Views.{setupOf, stampOf};
 
-// Where its counts say that the frame at the start of s ends.
+// Where its counts say that the frame at the start of `s` ends.
 pub fn frame_end(epsilon: usize, s: &[u8]) -> usize
     requires { ⌜ epsilon ≤ 16 ⌝ }
     ensures { λ r. ⌜ r ≡ frameEnd epsilon (now (s .entry)) ⌝ }
@@ -25,7 +25,7 @@ pub fn frame_end(epsilon: usize, s: &[u8]) -> usize
 }
 
 // 01, 10: "Are the three counts right, and is nothing left over?"
-pub fn well_formed(epsilon: usize, s: &[u8]) -> bool
+fn well_formed(epsilon: usize, s: &[u8]) -> bool
     requires { ⌜ epsilon ≤ 16 ⌝ }
     ensures { λ r. ⌜ r ≡ wellFormed epsilon (now (s .entry)) ⌝ }
 {

@@ -9,7 +9,6 @@ pub use form::frame_end;
 pub use form::r_of;
 pub use form::stamp_of;
 pub use form::station_of;
-pub use form::well_formed;
 pub use reader::Reading;
 pub use reader::payload_of;
 pub use reader::read;

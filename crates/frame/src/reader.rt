@@ -11,7 +11,7 @@ ghost use Rattle.model.specs.Codec as codec;
 ghost use Rattle.timestamp.specs.Views.{setupOf};
 ghost use Rattle.frame.specs.Answers.{readAnswer};
 
-// What the reader answers, by value; the payload (01: the ticket) is payload_of's.
+// What the reader answers, by value; the payload (01: the ticket) is the answer of `payload_of`.
 pub struct Reading {
     // 0, or the number of the first no
     pub number: u8,
@@ -20,7 +20,7 @@ pub struct Reading {
 }
 
 // 01: "the reader asks 1, 10, 11, 12": the number of the first no, or 0.
-pub fn check_read(setup: Setup, frame: &[u8]) -> u8
+fn check_read(setup: Setup, frame: &[u8]) -> u8
     ensures { λ r. ⌜ r ≡ firstNo (codec.readQuestions (setupOf setup) (now (frame .entry))) ⌝ }
 {
     if !in_limits(setup) {

@@ -226,13 +226,18 @@ kept-held i a =
     ∙ held-holdback (i .setup .epsilon) (holdbackSize (i .setup)) (keptOf i) (λ f m. kept-sound i a .frames f m .sound .wide)
     (omega (arith, kept-most i a, depth-small (i .setup) (a .limits)))
 
+-- the shelf that a tick leaves is sound for the next clock
+pub shelf-sound : (i : Input) → Accepted i → soundHoldback (i .setup) ((i .clock + 1) % i .setup .modulus) (tick i .holdback) ≡ true
+shelf-sound i a =
+    ap (λ (x : List ℕ). soundHoldback (i .setup) ((i .clock + 1) % i .setup .modulus) x) (holdback-is i a)
+    ∙ queue-sound (i .setup) ((i .clock + 1) % i .setup .modulus) (keptOf i) (a .limits) (mod-lt (i .clock + 1) (omega (arith, a .clock-below))) (kept-sound i a)
+
 pub queue-next-sound : (i j : Input) → Accepted i → j .setup ≡ i .setup → j .clock ≡ (i .clock + 1) % i .setup .modulus → j .holdback ≡ tick i .holdback → queueSound j ≡ true
 unfolding queueSound
 queue-next-sound i j a e c t =
     ap (λ (x : Setup). soundHoldback x (j .clock) (j .holdback)) e
     ∙ (ap (λ (x : ℕ). soundHoldback (i .setup) x (j .holdback)) c
-    ∙ (ap (λ (x : List ℕ). soundHoldback (i .setup) ((i .clock + 1) % i .setup .modulus) x) (t ∙ holdback-is i a)
-    ∙ queue-sound (i .setup) ((i .clock + 1) % i .setup .modulus) (keptOf i) (a .limits) (mod-lt (i .clock + 1) (omega (arith, a .clock-below))) (kept-sound i a)))
+    ∙ (ap (λ (x : List ℕ). soundHoldback (i .setup) ((i .clock + 1) % i .setup .modulus) x) t ∙ shelf-sound i a))
 
 pub next-queue : (i j : Input) → Accepted i → j .setup ≡ i .setup → j .clock ≡ (i .clock + 1) % i .setup .modulus → j .holdback ≡ tick i .holdback → openingQueue j ≡ keptOf i
 unfolding openingQueue

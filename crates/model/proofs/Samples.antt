@@ -197,7 +197,8 @@ judged before-it v queue =
     ∷ one-if (every (notOverdue usual v) (held 2 (stored queue)))
     ∷ []
 
--- what a shelf must be: each shelf with mend 2 fails the clause that it is for, and no other; and when a frame is handed out.
+-- what a shelf must be: each shelf with mend 2 fails the clause that it is for, and no other, but for the one that holds the same
+-- frame twice; and when a frame is handed out.
 -- (No shelf fails the first clause alone: the others leave room for n(δ + 3ε − 1) frames, `queue-bound` in lemmas.)
 pub queues : List Case
 queues =

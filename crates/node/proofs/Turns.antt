@@ -21,8 +21,8 @@ use Rattle.lemmas.proofs.Counts.{trimmed-widened, absorb-wide}
 use Rattle.lemmas.proofs.OneTick.{taken-more}
 use Rattle.holdback.specs.Queue.{endOf}
 use Rattle.holdback.proofs.RoundTrip.{Bytes}
-use Rattle.batch.specs.Walk.{countOf, entryAt, nextAt, walked}
-use Rattle.batch.proofs.Walk.{batch-walked}
+use Rattle.batch.specs.Walk.{countOf, entryAt, nextAt}
+use Rattle.batch.proofs.Walk.{walked, batch-walked}
 use Rattle.node.specs.States.{Queued, Took, Listening, heardAll, HeardAll}
 use Rattle.node.proofs.Verdicts.{refused-number}
 use Rattle.node.proofs.Places.{size-two, queue-own, overlay-hides, frames-longer}

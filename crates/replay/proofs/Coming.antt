@@ -10,7 +10,7 @@ use Rattle.trace.specs.Trace.{tickEnd, longestTick}
 use Rattle.trace.proofs.Whole.{never-past}
 use Rattle.replay.specs.Playing.{Came}
 
--- used bytes are there, and end is where the tick ends so far
+-- `used` bytes are there, and `end` is where the tick ends so far
 pub record Coming (before after : List ℕ) (used end : ℕ) : Type 0 where
   pub room : longestTick ≤ length before
   pub long : length after ≡ length before

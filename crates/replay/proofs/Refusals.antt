@@ -1,37 +1,47 @@
--- The numbers of refusals are at most 6. Assumes nothing.
-use Prim.Native.Nat.{ℕ, zero, suc, _+_, _≤_}
+-- The numbers that a tick and a trace can stop with. Assumes nothing.
+use Prim.Native.Nat.{ℕ, zero, suc, _+_, _*_, _≤_}
 use native.Mathlib.Omega.{arith}
 use mathlib.Core.Path.{_≡_, refl, ap}
 use mathlib.Core.Bool.{Bool, true, false, cond}
 use mathlib.Core.List.{List, [], _∷_}
-use Rattle.model.specs.Setup.{Setup, inLimits}
+use Rattle.laws.specs.Lists.{any}
+use Rattle.laws.proofs.Numbers.{clash, and-intro, or-right}
+use Rattle.model.specs.Setup.{Setup, inLimits, width, longestFrame}
 use Rattle.model.specs.Timestamp.{Timestamp}
 use Rattle.model.specs.Question.{Question, ask, firstNo, askSetup}
 use Rattle.model.specs.Codec.{askPayload}
-use Rattle.model.specs.Tick.{Input, Output, holdbackSize, callQuestions, refusal, acceptance, tick}
-use Rattle.lemmas.proofs.Questions.{first-yes, other-yes}
+use Rattle.model.specs.Tick.{Input, Output, holdbackSize, roomy, callQuestions, refusal, acceptance, tick}
+use Rattle.lemmas.proofs.Questions.{first-yes, other-yes, limits-from}
 use Rattle.lemmas.proofs.OneTick.{tick-by}
-use Rattle.trace.specs.Text.{endOf}
+use Rattle.trace.specs.Text.{textEnd}
 use Rattle.trace.specs.Trace.{traceSetup, setupLength, setupNumber, tickNumber, largestHoldback}
 use Rattle.trace.specs.Replay.{callOf, calledTurn, turnBy, turn}
-use borrow.Author.Tests.{leb-true}
-use lib.Dec.{leb}
+use borrow.Author.Tests.{leb-true, le-leb, eq-eqb}
+use lib.Dec.{leb, eqb}
 use lib.ListN.{length}
-use Rattle.replay.specs.Playing.{Ready}
+use Rattle.replay.specs.Playing.{Ready, among, runNumbers, replayNumbers}
 
-first-most : (holds : Bool) (k : ℕ) (qs : List Question) → k ≤ 6 → firstNo qs ≤ 6 → firstNo (ask holds k ∷ qs) ≤ 6
+-- one of the numbers, where the number of each question that can get a no is one
+first-among : (numbers : List ℕ) (holds : Bool) (k : ℕ) (qs : List Question) → (holds ≡ false → among numbers k ≡ true)
+    → among numbers (firstNo qs) ≡ true → among numbers (firstNo (ask holds k ∷ qs)) ≡ true
 unfolding firstNo
-first-most true k qs h rest = rest
-first-most false k qs h rest = h
+first-among numbers true k qs h rest = rest
+first-among numbers false k qs h rest = h refl
 
-none-most : firstNo [] ≤ 6
+none-no : firstNo [] ≡ 0
 unfolding firstNo
-none-most = omega arith
+none-no = refl
 
-pub setup-most : (bytes : List ℕ) → setupNumber bytes ≤ 6
-unfolding setupNumber
-setup-most bytes =
-    first-most _ 5 _ (omega arith) (first-most _ 1 _ (omega arith) (first-most _ 1 _ (omega arith) none-most))
+pub setup-among : (bytes : List ℕ) → among replayNumbers (setupNumber bytes) ≡ true
+unfolding among any setupNumber
+setup-among bytes =
+    first-among replayNumbers _ 5 _ (λ _. refl)
+    (first-among replayNumbers _ 1 _ (λ _. refl) (first-among replayNumbers _ 1 _ (λ _. refl) (ap (among replayNumbers) none-no)))
+
+-- what the ticks stop with, the whole trace stops with
+pub run-among : (x : ℕ) → among runNumbers x ≡ true → among replayNumbers x ≡ true
+unfolding among any
+run-among x h = or-right (eqb x 1) h
 
 -- a setup that is not refused
 pub setup-ready : (bytes : List ℕ) → setupNumber bytes ≡ 0 → Ready (traceSetup bytes)
@@ -44,35 +54,49 @@ setup-ready bytes e =
       small = leb-true (holdbackSize (traceSetup bytes)) largestHoldback (first-yes (leb (holdbackSize (traceSetup bytes)) largestHoldback) 0 _ e₂);
     }
 
-call-most : (i : Input) → firstNo (callQuestions i) ≤ 6
-unfolding callQuestions askSetup askPayload
-call-most i =
-    first-most _ 1 _ (omega arith)
-    (first-most _ 2 _ (omega arith)
-    (first-most _ 3 _ (omega arith)
-    (first-most _ 4 _ (omega arith)
-    (first-most _ 5 _ (omega arith)
-    (first-most _ 6 _ (omega arith) none-most)))))
+-- of the questions of a call only 2, 4 and 5 are open
+call-among : (i : Input) → inLimits (i .setup) ≡ true → eqb (length (i .holdback)) (holdbackSize (i .setup)) ≡ true → roomy i ≡ true
+    → among runNumbers (firstNo (callQuestions i)) ≡ true
+unfolding among any callQuestions askSetup askPayload
+call-among i limits size room =
+    first-among runNumbers _ 1 _ (λ h. absurd (clash limits h))
+    (first-among runNumbers _ 2 _ (λ _. refl)
+    (first-among runNumbers _ 3 _ (λ h. absurd (clash size h))
+    (first-among runNumbers _ 4 _ (λ _. refl)
+    (first-among runNumbers _ 5 _ (λ _. refl)
+    (first-among runNumbers _ 6 _ (λ h. absurd (clash room h)) (ap (among runNumbers) none-no))))))
 
-answer-most : (i : Input) → tick i .answer .number ≤ 6
+-- what a call answers is the number of the first no
+answer-number : (i : Input) → tick i .answer .number ≡ firstNo (callQuestions i)
 unfolding refusal acceptance
-answer-most i = go (firstNo (callQuestions i)) refl
+answer-number i = go (firstNo (callQuestions i)) refl
   where
-    go : (k : ℕ) → firstNo (callQuestions i) ≡ k → tick i .answer .number ≤ 6
-    go zero e = omega (arith, ap (λ (o : Output). o .answer .number) (tick-by i zero e))
-    go (suc k) e = omega (arith, call-most i, ap (λ (o : Output). o .answer .number) (tick-by i (suc k) e))
+    go : (k : ℕ) → firstNo (callQuestions i) ≡ k → tick i .answer .number ≡ k
+    go zero e = ap (λ (o : Output). o .answer .number) (tick-by i zero e)
+    go (suc k) e = ap (λ (o : Output). o .answer .number) (tick-by i (suc k) e)
 
-pub turn-most : (s : Setup) (tables : Timestamp) (holdback bytes : List ℕ) → turn s tables holdback bytes .number ≤ 6
-unfolding turn calledTurn tickNumber
-turn-most s tables holdback bytes = go (tickNumber bytes) (first-most _ 5 _ (omega arith) (first-most _ 5 _ (omega arith) none-most))
-  where
-    go : (k : ℕ) → k ≤ 6 → turnBy k s tables holdback bytes .number ≤ 6
-    go zero h = answer-most (callOf s tables holdback bytes)
-    go (suc k) h = h
+module _ (s : Setup) (tables : Timestamp) (holdback bytes : List ℕ) (ready : Ready s) (size : length holdback ≡ holdbackSize s) where
+  -- the buffers that are lent have room
+  lent-room : roomy (callOf s tables holdback bytes) ≡ true
+  unfolding roomy callOf longestFrame width
+  lent-room =
+      let wide : 39 + 2 * s .epsilon ≤ 71 = omega (arith, limits-from s (ready .limits) .epsilon-most) in
+      and-intro (le-leb (39 + 2 * s .epsilon) 71 wide) (and-intro refl (le-leb (holdbackSize s) largestHoldback (ready .small)))
+
+  pub turn-among : among runNumbers (turn s tables holdback bytes .number) ≡ true
+  unfolding among any turn calledTurn tickNumber callOf
+  turn-among = go (tickNumber bytes) (first-among runNumbers _ 5 _ (λ _. refl) (first-among runNumbers _ 5 _ (λ _. refl) (ap (among runNumbers) none-no)))
+    where
+      i : Input
+      i = callOf s tables holdback bytes
+
+      go : (k : ℕ) → among runNumbers k ≡ true → among runNumbers (turnBy k s tables holdback bytes .number) ≡ true
+      go zero h = rw (answer-number i) (call-among i (ready .limits) (eq-eqb (length holdback) (holdbackSize s) size) lent-room)
+      go (suc k) h = h
 
 -- where a line ends that was written into a buffer
-pub end-within : (l : List ℕ) (at : ℕ) (text : List ℕ) → endOf l at text ≤ length l
-unfolding endOf
+pub end-within : (l : List ℕ) (at : ℕ) (text : List ℕ) → textEnd l at text ≤ length l
+unfolding textEnd
 end-within l at text = go (leb (at + length text) (length l)) refl
   where
     go : (b : Bool) → leb (at + length text) (length l) ≡ b → cond b (at + length text) 0 ≤ length l

@@ -12,13 +12,13 @@ use Rattle.laws.specs.Lists.{overlay}
 use Rattle.splice.specs.Bytes.{pasted}
 use Rattle.model.specs.Setup.{Setup}
 use Rattle.model.specs.Timestamp.{Timestamp}
-use Rattle.model.specs.Tick.{Input, Output, tick}
-use Rattle.trace.specs.Text.{tickLines, linesOf, written, endOf}
+use Rattle.model.specs.Tick.{Input, Output, holdbackSize, tick}
+use Rattle.trace.specs.Text.{tickLines, linesOf, written, textEnd}
 use Rattle.trace.specs.Trace.{clockOf, sendOf, batchOf, payloadOf, tickNumber}
 use Rattle.trace.specs.Replay.{Turn, callOf, textBy, calledTurn, turnBy, turn}
-use Rattle.replay.specs.Playing.{Ready, Result, resultBy, textRoom}
+use Rattle.replay.specs.Playing.{Ready, Result, resultBy, textRoom, among, runNumbers}
 use Rattle.replay.proofs.Fits.{Figured, lines-fit}
-use Rattle.replay.proofs.Refusals.{turn-most}
+use Rattle.replay.proofs.Refusals.{turn-among}
 
 -- the arguments of the call, read from the bytes
 pub call-is : (s : Setup) (tables : Timestamp) (holdback bytes : List ℕ) {clock : ℕ} {send : Bool} {batch payload : List ℕ}
@@ -69,10 +69,10 @@ module _ (s : Setup) (tables : Timestamp) (holdback bytes text : List ℕ) where
   -- an accepted one
   pub turn-played : (o : Output) (clock : ℕ) {size : ℕ} {lines : List ℕ} → Ready s → textRoom ≤ length text → 0 ≡ tickNumber bytes
       → o ≡ tick (callOf s tables holdback bytes) → o .answer .number ≡ 0 → clock ≡ clockOf bytes → Figured clock (o .answer)
-      → size ≡ endOf text 0 (tickLines clock (o .answer .repair) (o .answer .tables .c) (o .answer .taken) (o .answer .sent) (o .answer .delivered) (s .epsilon) (o .delivery))
+      → size ≡ textEnd text 0 (tickLines clock (o .answer .repair) (o .answer .tables .c) (o .answer .taken) (o .answer .sent) (o .answer .delivered) (s .epsilon) (o .delivery))
       → lines ≡ written text 0 (tickLines clock (o .answer .repair) (o .answer .tables .c) (o .answer .taken) (o .answer .sent) (o .answer .delivered) (s .epsilon) (o .delivery))
       → record { number = 0; tables = o .answer .tables; size = size; holdback = o .holdback; text = lines } ≡ resultBy (turn s tables holdback bytes) text
-  unfolding resultBy overlay written endOf pasted callOf linesOf
+  unfolding resultBy overlay written textEnd pasted callOf linesOf
   turn-played o clock {size} {lines} ready room e same number clock-is small ends bytes-are =
       let i : Input = callOf s tables holdback bytes in
       let all : List ℕ = linesOf i o in
@@ -89,6 +89,8 @@ unfolding resultBy overlay
 result-within r t text e =
     omega (arith, ap (λ (x : Result). x .size) e, ap (λ (x : Result). length (x .text)) e, length-append (t .text) (drop (length (t .text)) text))
 
-pub result-most : (r : Result) (s : Setup) (tables : Timestamp) (holdback bytes text : List ℕ) → r ≡ resultBy (turn s tables holdback bytes) text → r .number ≤ 6
+pub result-among : (r : Result) (s : Setup) (tables : Timestamp) (holdback bytes text : List ℕ) → Ready s → length holdback ≡ holdbackSize s
+    → r ≡ resultBy (turn s tables holdback bytes) text → among runNumbers (r .number) ≡ true
 unfolding resultBy
-result-most r s tables holdback bytes text e = omega (arith, ap (λ (x : Result). x .number) e, turn-most s tables holdback bytes)
+result-among r s tables holdback bytes text ready size e =
+    ap (λ (x : Result). among runNumbers (x .number)) e ∙ turn-among s tables holdback bytes ready size

@@ -1,10 +1,11 @@
 -- What the functions of the program ask of their arguments, and what they leave. Assumes nothing.
 use Prim.Native.Nat.{ℕ, _≤_}
 use mathlib.Core.Path.{_≡_}
-use mathlib.Core.Bool.{true}
-use mathlib.Core.List.{List}
+use mathlib.Core.Bool.{Bool, true}
+use mathlib.Core.List.{List, [], _∷_}
+use lib.Dec.{eqb}
 use lib.ListN.{length, take, drop}
-use Rattle.laws.specs.Lists.{overlay}
+use Rattle.laws.specs.Lists.{any, overlay}
 use Rattle.model.specs.Setup.{Setup, inLimits}
 use Rattle.model.specs.Timestamp.{Timestamp}
 use Rattle.model.specs.Tick.{holdbackSize}
@@ -30,7 +31,7 @@ abbrev pub textRoom : ℕ
 textRoom = 131072
 
 -- the buffers of a tick: the hold-back queue (01: shelf) has its exact length, and its lines have room
-pub record Laid (s : Setup) (holdback text : List ℕ) : Type 0 where
+pub record Prepared (s : Setup) (holdback text : List ℕ) : Type 0 where
   pub ready : Ready s
   pub size : length holdback ≡ holdbackSize s
   pub room : textRoom ≤ length text
@@ -61,3 +62,15 @@ resultBy t text =
       holdback = t .holdback;
       text = overlay (t .text) text;
     }
+
+-- `x` is one of the numbers
+unfoldable pub among : List ℕ → ℕ → Bool
+among numbers x = any (eqb x) numbers
+
+-- what the ticks can stop with: 0, or a refusal for a clock (2), for a payload (4), or for the form of the trace (5)
+abbrev pub runNumbers : List ℕ
+runNumbers = 0 ∷ 2 ∷ 4 ∷ 5 ∷ []
+
+-- what the whole trace can stop with: also a refusal for the setup
+abbrev pub replayNumbers : List ℕ
+replayNumbers = 1 ∷ runNumbers

@@ -13,16 +13,17 @@ use trace::put_refused;
 use trace::read_setup;
 use trace::setup_number;
 use trace::tick_count;
-ghost use Prim.Native.Nat.{_≤_};
+ghost use mathlib.Core.Path.{_≡_};
+ghost use mathlib.Core.Bool.{true};
 ghost use Rattle.timestamp.specs.Views.{setupOf};
-ghost use Rattle.replay.specs.Playing.{Ready};
+ghost use Rattle.replay.specs.Playing.{Ready, among, runNumbers, replayNumbers};
 
 // All that follows the setup. Answers 0, or the number of the refusal at which it stopped. Lines that
 // cannot be written stop it too, with 0: nothing more is read or called. A failed read counts as the
 // trace's end.
 fn run(setup: Setup) -> u8
     requires { ⌜ Ready (setupOf setup) ⌝ }
-    ensures { λ r. ⌜ r ≤ 6 ⌝ }
+    ensures { λ r. ⌜ among runNumbers r ≡ true ⌝ }
 {
     let mut head = [0u8; 2];
     if io::read_full(0, &mut head) < 2 {
@@ -64,7 +65,7 @@ fn run(setup: Setup) -> u8
 
 // The whole trace, but for the line of a refusal.
 fn replay() -> u8
-    ensures { λ r. ⌜ r ≤ 6 ⌝ }
+    ensures { λ r. ⌜ among replayNumbers r ≡ true ⌝ }
 {
     let mut head = [0u8; 6];
     let got = io::read_full(0, &mut head);

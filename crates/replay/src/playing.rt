@@ -13,10 +13,10 @@ ghost use mathlib.Core.Bool.{cond};
 ghost use lib.Dec.{eqb};
 ghost use Rattle.timestamp.specs.Views.{setupOf, stampOf};
 ghost use Rattle.trace.specs.Replay.{turn, freshBefore};
-ghost use Rattle.replay.specs.Playing.{Ready, Laid, refusedBy, resultOf, resultBy};
+ghost use Rattle.replay.specs.Playing.{Ready, Prepared, refusedBy, resultOf, resultBy};
 
-// 01: "It starts fresh one before the first clock": the tables for tick i, of which these are the
-// bytes; for a later one those that the tick before left.
+// The tables with which tick `i` starts. 01: "It starts fresh one before the first clock", which is
+// read from the first tick's `bytes`; a later tick has those that the one before left.
 pub fn tables_at(i: usize, setup: Setup, tables: Timestamp, bytes: &[u8]) -> Timestamp
     requires { ⌜ Ready (setupOf setup) ⌝ }
     ensures { λ r. ⌜ stampOf r ≡ cond (eqb i 0) (freshBefore (setupOf setup) (now (bytes .entry))) (stampOf tables) ⌝ }
@@ -49,7 +49,7 @@ fn refused(number: u8, tables: Timestamp) -> Played
     }
 }
 
-// One tick, of which these are the bytes. Its lines are written at the start of the text.
+// One tick, given by its `bytes`. Its lines are written at the start of `text`.
 pub fn play(
     setup: Setup,
     tables: Timestamp,
@@ -57,7 +57,7 @@ pub fn play(
     bytes: &[u8],
     text: &mut [u8],
 ) -> Played
-    requires { ⌜ Laid (setupOf setup) (now holdback) (now text) ⌝ }
+    requires { ⌜ Prepared (setupOf setup) (now holdback) (now text) ⌝ }
     ensures { λ r. ⌜ resultOf r (now (holdback .exit)) (now (text .exit))
         ≡ resultBy (turn (setupOf setup) (stampOf tables) (now (holdback .entry)) (now (bytes .entry))) (now (text .entry)) ⌝ }
 {

@@ -5,8 +5,8 @@ ghost use lib.ListN.{length};
 ghost use Rattle.trace.specs.Trace.{longestTick};
 ghost use Rattle.replay.specs.Playing.{Came};
 
-// Reads one tick into the buffer, and answers how many bytes came: fewer than it has where the
-// trace is cut; a read that fails counts as the trace's end. No byte past it is read.
+// Reads one tick into `bytes`, and answers how many came: fewer than the tick has where the trace
+// is cut; a read that fails counts as the trace's end. No byte past the tick is read.
 pub fn read_tick(bytes: &mut [u8]) -> usize
     requires { ⌜ longestTick ≤ length (now bytes) ⌝ }
     ensures { λ r. ⌜ Came (now (bytes .entry)) (now (bytes .exit)) r ⌝ }

@@ -1,6 +1,6 @@
-// Changes to a byte buffer in place: copy into it, move a part of it left or right, clear a part,
-// insert into and cut from the bytes in use, and write a two-byte number. And what stands at a
-// position of any bytes, and a part of them.
+// Changes to a byte buffer in place: copy into it, clear a part of it, insert into and cut from the
+// bytes in use, and write a two-byte number. And what stands at a position of any bytes, and a part of
+// them.
 //
 // Each contract is one equation: the buffer at exit is a definition of `specs/Bytes.antt` at the
 // buffer at entry. Each `requires` keeps the indices within the buffer; the callers are inside this
@@ -12,7 +12,7 @@ ghost use Rattle.laws.specs.Lex.{numberOf};
 ghost use Rattle.model.specs.Frame.{twoAt, twoBytes};
 ghost use Rattle.splice.specs.Bytes.{pasted, part, cleared, inserted, cutOut};
 
-// Copies all of src into dst from index at.
+// Copies all of `src` into `dst`, from index `at` on.
 pub fn copy_into(dst: &mut [u8], at: usize, src: &[u8])
     requires { ⌜ at + length (now src) ≤ length (now dst) ⌝ }
     ensures { λ _. ⌜ now (dst .exit) ≡ pasted (now (dst .entry)) at (now (src .entry)) ⌝ }
@@ -25,9 +25,10 @@ pub fn copy_into(dst: &mut [u8], at: usize, src: &[u8])
     }
 }
 
-// Moves the len bytes at from to the lower index to; the two places may overlap. Where they are one
-// place nothing is to be done: the loop would write each byte over itself, and not many at a time.
-pub fn move_left(buf: &mut [u8], from: usize, to: usize, len: usize)
+// Moves the `len` bytes at index `from` down to index `to`; the two places may overlap. Where they are
+// one place there is nothing to do: the loop would write each byte over itself, and the compiler cannot
+// take many bytes at a time there.
+fn move_left(buf: &mut [u8], from: usize, to: usize, len: usize)
     requires { ⌜ (to ≤ from) × (from + len ≤ length (now buf)) ⌝ }
     ensures { λ _. ⌜ now (buf .exit) ≡ pasted (now (buf .entry)) to (part (now (buf .entry)) from len) ⌝ }
 {
@@ -41,9 +42,9 @@ pub fn move_left(buf: &mut [u8], from: usize, to: usize, len: usize)
     }
 }
 
-// Moves the len bytes at from to the higher index to, the last one first; the two places may
+// Moves the `len` bytes at index `from` up to index `to`, the last one first; the two places may
 // overlap.
-pub fn move_right(buf: &mut [u8], from: usize, to: usize, len: usize)
+fn move_right(buf: &mut [u8], from: usize, to: usize, len: usize)
     requires { ⌜ (from ≤ to) × (to + len ≤ length (now buf)) ⌝ }
     ensures { λ _. ⌜ now (buf .exit) ≡ pasted (now (buf .entry)) to (part (now (buf .entry)) from len) ⌝ }
 {
@@ -54,7 +55,7 @@ pub fn move_right(buf: &mut [u8], from: usize, to: usize, len: usize)
     }
 }
 
-// Writes 0 at each index from from up to, not including, to.
+// Writes 0 at each index from `from` up to, not including, `to`.
 pub fn clear(buf: &mut [u8], from: usize, to: usize)
     requires { ⌜ (from ≤ to) × (to ≤ length (now buf)) ⌝ }
     ensures { λ _. ⌜ now (buf .exit) ≡ cleared (now (buf .entry)) from to ⌝ }
@@ -67,8 +68,8 @@ pub fn clear(buf: &mut [u8], from: usize, to: usize)
     }
 }
 
-// Puts src in before index at. The first used bytes of buf are in use, and those from at on make
-// room.
+// Puts `src` in before index `at`. The first `used` bytes of `buf` are in use; those from `at` on move
+// right to make room.
 pub fn insert(buf: &mut [u8], used: usize, at: usize, src: &[u8])
     requires { ⌜ (at ≤ used) × (used + length (now src) ≤ length (now buf)) ⌝ }
     ensures { λ _. ⌜ now (buf .exit) ≡ inserted (now (buf .entry)) used at (now (src .entry)) ⌝ }
@@ -77,8 +78,8 @@ pub fn insert(buf: &mut [u8], used: usize, at: usize, src: &[u8])
     copy_into(buf, at, src);
 }
 
-// Takes out the len bytes at at. The first used bytes of buf are in use; those after the cut move
-// left, and the place that is freed is cleared.
+// Takes out the `len` bytes at index `at`. The first `used` bytes of `buf` are in use; those after the
+// cut move left, and the place that is freed is cleared.
 pub fn cut(buf: &mut [u8], used: usize, at: usize, len: usize)
     requires { ⌜ (at + len ≤ used) × (used ≤ length (now buf)) ⌝ }
     ensures { λ _. ⌜ now (buf .exit) ≡ cutOut (now (buf .entry)) used at len ⌝ }
@@ -88,7 +89,7 @@ pub fn cut(buf: &mut [u8], used: usize, at: usize, len: usize)
     clear(buf, used - len, used);
 }
 
-// Writes value at at as two bytes, the low one first.
+// Writes `value` at index `at` as two bytes, the low one first.
 pub fn put_u16(buf: &mut [u8], at: usize, value: usize)
     requires { ⌜ (at + 2 ≤ length (now buf)) × (value < 65536) ⌝ }
     ensures { λ _. ⌜ now (buf .exit) ≡ pasted (now (buf .entry)) at (twoBytes value) ⌝ }
@@ -131,7 +132,7 @@ pub fn eight_at(s: &[u8], at: usize) -> u64
     four_at(s, at + 4) * 4294967296 + four_at(s, at)
 }
 
-// The bytes from a position on, size of them at most: a part of the slice.
+// The bytes from a position on, `size` of them at most: a part of the slice.
 pub fn part(s: &[u8], from: usize, size: usize) -> &[u8]
     ensures { λ r. ⌜ now r ≡ part (now (s .entry)) from size ⌝ }
 {

@@ -12,7 +12,7 @@ use Rattle.model.specs.Batch.{batchEntries}
 use Rattle.model.specs.Tick.{Input, Output, heardOf, newStamp, deliveredOf, takenCount, acceptance, tick}
 use Rattle.theory.specs.Demand2.{heardBefore, Demand2Any}
 use Rattle.lemmas.proofs.Counts.{trimmed-widened}
-use Rattle.lemmas.proofs.OneTick.{Accepted, accepted-call, opening, hear-length, new-sound, new-tables, tables-are, verdicts-are, verdict-byte, sent-is, delivered-bytes, sent-bytes}
+use Rattle.lemmas.proofs.OneTick.{Accepted, accepted-call, opening, hear-length, new-sound, new-tables, shelf-sound, tables-are, verdicts-are, verdict-byte, sent-is, delivered-bytes, sent-bytes}
 
 taken-is : (i : Input) → Accepted i → tick i .answer .taken ≡ takenCount (heardOf i .verdicts)
 unfolding acceptance
@@ -51,4 +51,5 @@ demand2-any i h =
       sent = sent-is i a;
       outgoing = sent-bytes i a;
       bounded = bounds-kept i a;
+      boundedQueue = shelf-sound i a;
     }

@@ -40,10 +40,12 @@ pub record AnyState (i : Input) : Type 0 where
   -- "outgoing length (0 if none)": the bytes of the frame sent, none where nothing is to be sent
   pub sent : tick i .answer .sent ≡ length (sentBytes i)
   pub outgoing : take (tick i .answer .sent) (tick i .outgoing) ≡ sentBytes i
-  -- "Stamps stay within their bounds after every tick"
+  -- "Stamps stay within their bounds after every tick": the tables are sound for the next clock
   pub bounded :
       soundTables (i .setup .n) (i .setup .epsilon) (i .setup .modulus) ((i .clock + 1) % i .setup .modulus)
       (trimmed (i .setup .epsilon) (tick i .answer .tables)) ≡ true
+  -- and so is the shelf, with each stamp on it
+  pub boundedQueue : soundHoldback (i .setup) ((i .clock + 1) % i .setup .modulus) (tick i .holdback) ≡ true
 
 -- Demand 2 from any state, of every accepted call
 abbrev pub Demand2Any : Type 0

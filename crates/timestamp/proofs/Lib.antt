@@ -1,6 +1,8 @@
+-- For the proofs of this crate and of the crates that use it: `InLimits` has the limits of a setup as facts, `Ordered` the order of two timestamps.
 pub mod InLimits
-pub mod Counts
-pub mod Readings
-pub mod Steps
-pub mod Soundness
 pub mod Ordered
+-- For the proofs of this crate.
+mod Counts
+mod Readings
+mod Steps
+mod Soundness

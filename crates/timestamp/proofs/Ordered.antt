@@ -20,7 +20,7 @@ use Rattle.timestamp.proofs.Steps.{trimmed-all}
 use Rattle.timestamp.specs.declared.ordering.Order.{Order}
 use Rattle.timestamp.specs.declared.ordering.Order.the-variants.{First, Same, After}
 use Rattle.timestamp.specs.declared.ordering.Rank.{Rank}
-use Rattle.timestamp.specs.Ranks.{orderOf, countsFrom, frameOf, rankedFrame}
+use Rattle.timestamp.specs.Ranks.{orderOf, countsFrom, stampedFrame, rankedFrame}
 
 -- the counts from place k of the order on: the first of them, then the others
 down-cons : (epsilon c k : ℕ) (kn : List ℕ) → k < epsilon
@@ -66,7 +66,7 @@ or-else-same Ordering·lt = refl
 or-else-same Ordering·eq = refl
 or-else-same Ordering·gt = refl
 
--- 01: "sum; count at offset c; … ; station number; r": what decides, in turn
+-- 01's order of two stamps, "first difference decides": the sum, the counts, the station number and r, in turn
 pub key-order : (epsilon x y : ℕ) (f g : Frame)
     → lexCompare (key epsilon x f) (key epsilon y g)
     ≡ orElse (compare (x + f .stamp .c) (y + g .stamp .c))
@@ -89,14 +89,14 @@ pub record Tags : Type 0 where
   pub at-after : tag After ≡ 2
 
 module _ (tags : Tags) where
-  -- an answer that is not Same decides
+  -- an answer that is not `Same` decides
   decided : (o q : Ordering) (r : Order) → r ≡ orderOf o → (tags .tag r ≡ 0) ⊎ (tags .tag r ≡ 2) → r ≡ orderOf (orElse o q)
   decided Ordering·lt q r e k = e
   decided Ordering·eq q r e (inl k) = absurd (omega (arith, ap (tags .tag) e, tags .at-same))
   decided Ordering·eq q r e (inr k) = absurd (omega (arith, ap (tags .tag) e, tags .at-same))
   decided Ordering·gt q r e k = e
 
-  -- one that is Same does not
+  -- one that is `Same` does not
   undecided : (o : Ordering) (r : Order) → r ≡ orderOf o → tags .tag r ≡ 1 → o ≡ Ordering·eq
   undecided Ordering·lt r e k = absurd (omega (arith, ap (tags .tag) e, tags .at-first))
   undecided Ordering·eq r e k = refl
@@ -139,7 +139,7 @@ module _ (tags : Tags) where
 
 -- the order looks at no place past the 2ε counts
 pub key-trimmed : (epsilon x station : ℕ) (t : Timestamp) → epsilon ≤ 16 → length (t .kn) ≡ 32 → t .c < epsilon
-    → key epsilon x (frameOf station (record { r = 0; c = t .c; kn = t .kn })) ≡ key epsilon x (frameOf station (trimmed epsilon t))
+    → key epsilon x (stampedFrame station (record { r = 0; c = t .c; kn = t .kn })) ≡ key epsilon x (stampedFrame station (trimmed epsilon t))
 unfolding key countsDown
 key-trimmed epsilon x station t small long lead =
     let same : tab epsilon (λ j. getD (t .kn) (epsilon + t .c - j) 0)

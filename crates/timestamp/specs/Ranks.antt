@@ -22,12 +22,12 @@ abbrev pub countsFrom : ℕ → ℕ → List ℕ → List ℕ
 countsFrom epsilon c kn = countsDown epsilon (counted c kn)
 
 -- a frame with that station and timestamp. The order does not look at the payload
-abbrev pub frameOf : ℕ → Timestamp → Frame
-frameOf station t = record { station = station; stamp = t; payload = [] }
+abbrev pub stampedFrame : ℕ → Timestamp → Frame
+stampedFrame station t = record { station = station; stamp = t; payload = [] }
 
 -- a frame with that rank and those counts. The order looks at the reading in the place of r
 abbrev pub rankedFrame : Rank → List ℕ → Frame
-rankedFrame f kn = frameOf (f .station) (counted (f .c) kn)
+rankedFrame f kn = stampedFrame (f .station) (counted (f .c) kn)
 
 -- what a comparison asks of a frame: its lead is sound, its reading small, and 2ε counts are there
 pub record Ranked (epsilon : ℕ) (f : Rank) (kn : List ℕ) : Type 0 where

@@ -22,7 +22,7 @@ stampOf t = record { r = t .r; c = t .c; kn = t .kn }
 abbrev pub counted : ℕ → List ℕ → stamps.Timestamp
 counted c kn = record { r = 0; c = c; kn = kn }
 
--- 01: "each count ≤ n" and "all counts above" the place top "are 0"
+-- 01: "each count ≤ n" and "all counts above" the place `top` "are 0"
 abbrev pub withinLimits : ℕ → ℕ → List ℕ → Bool
 withinLimits n top kn = atMost n kn && atMost 0 (drop (top + 1) kn)
 
@@ -30,6 +30,6 @@ withinLimits n top kn = atMost n kn && atMost 0 (drop (top + 1) kn)
 abbrev pub largerAt : ℕ → ℕ → List ℕ → List ℕ → ℕ → ℕ
 largerAt modulus reading own other i = max (getD own i 0) (countAt reading other (modulus + i))
 
--- the same for others that are placed from a place on
+-- the count at a place, the larger of own and other's, where the first of `other` stands at the place `to`
 abbrev pub raisedAt : ℕ → List ℕ → List ℕ → ℕ → ℕ
 raisedAt to own other i = max (getD own i 0) (countAt to other i)

@@ -11,7 +11,6 @@ pub use limits::longest_frame;
 pub use ordering::Order;
 pub use ordering::Rank;
 pub use ordering::compare;
-pub use ordering::compare_counts;
 pub use ordering::compare_ranked;
 pub use stamp::Timestamp;
 pub use stamp::counts_at_most;

@@ -6,7 +6,7 @@ ghost use Rattle.laws.specs.Lex.{lexCompare};
 ghost use Rattle.model.specs.Timestamp.{trimmed};
 ghost use Rattle.model.specs.Order.{key};
 ghost use Rattle.timestamp.specs.Views.{stampOf};
-ghost use Rattle.timestamp.specs.Ranks.{orderOf, countsFrom, frameOf, rankedFrame, Ranked};
+ghost use Rattle.timestamp.specs.Ranks.{orderOf, countsFrom, stampedFrame, rankedFrame, Ranked};
 use crate::stamp::Timestamp;
 
 // How the first of two stands to the second.
@@ -38,7 +38,7 @@ fn compare_numbers(a: usize, b: usize) -> Order
 
 // 01: "count at offset c; at c − 1; and so on to c − ε + 1 (ε counts)". The form is 01's for "The comparison ends at the first
 // count that differs": a loop over the ε counts that yields its order by break at the first difference.
-pub fn compare_counts(epsilon: usize, a: &[u8], ca: usize, b: &[u8], cb: usize) -> Order
+fn compare_counts(epsilon: usize, a: &[u8], ca: usize, b: &[u8], cb: usize) -> Order
     requires { ⌜ (epsilon + ca < length (now a)) × (epsilon + cb < length (now b)) ⌝ }
     ensures { λ o. ⌜ o ≡ orderOf (lexCompare (countsFrom epsilon ca (now (a .entry))) (countsFrom epsilon cb (now (b .entry)))) ⌝ }
 {
@@ -93,7 +93,7 @@ pub fn compare(
 ) -> Order
     requires { ⌜ (epsilon ≤ 16) × ((f .c < epsilon) × (g .c < epsilon)) ⌝ }
     requires { ⌜ («at_f» ≤ 2 ^ 17) × («at_g» ≤ 2 ^ 17) ⌝ }
-    ensures { λ o. ⌜ o ≡ orderOf (lexCompare (key epsilon «at_f» (frameOf «station_f» (trimmed epsilon (stampOf f)))) (key epsilon «at_g» (frameOf «station_g» (trimmed epsilon (stampOf g))))) ⌝ }
+    ensures { λ o. ⌜ o ≡ orderOf (lexCompare (key epsilon «at_f» (stampedFrame «station_f» (trimmed epsilon (stampOf f)))) (key epsilon «at_g» (stampedFrame «station_g» (trimmed epsilon (stampOf g))))) ⌝ }
 {
     let kf = f.kn;
     let kg = g.kn;

@@ -131,7 +131,7 @@ pub fn sound_counts(kn: &[u8], c: usize, n: usize, epsilon: usize) -> bool
     within_limits(kn, 2 * epsilon, epsilon + c, n)
 }
 
-// 01: "each count ≤ n" and "all counts above" the place top "are 0", in one pass. A place is held as a byte too, so that the
+// 01: "each count ≤ n" and "all counts above" the place `top` "are 0", in one pass. A place is held as a byte too, so that the
 // compiler can take 16 counts at a time.
 fn within_limits(kn: &[u8], width: usize, top: usize, n: usize) -> bool
     requires { ⌜ (width ≤ length (now kn)) × ((width ≤ 32) × ((top < width) × (n ≤ 16))) ⌝ }
@@ -150,7 +150,7 @@ fn within_limits(kn: &[u8], width: usize, top: usize, n: usize) -> bool
     fine
 }
 
-// The most that the count at a place may be: n up to the place top, 0 above it.
+// The most that the count at a place may be: `n` up to the place `top`, 0 above it.
 fn limit_at(place: u8, top: u8, n: u8) -> u8
     ensures { λ x. ⌜ x ≡ cond (leb place top) n 0 ⌝ }
 {
@@ -199,7 +199,7 @@ fn larger(a: u8, b: u8) -> u8
     if a < b { b } else { a }
 }
 
-// How far a lies past b, 0 if it does not.
+// How far `a` lies past `b`, 0 if it does not.
 fn past(a: usize, b: usize) -> usize
     ensures { λ x. ⌜ x ≡ a - b ⌝ }
 {
@@ -223,7 +223,8 @@ fn one_less(c: usize) -> usize
     if c == 0 { 0 } else { c - 1 }
 }
 
-// Each count the larger of own and of others, of which count stand in a slice from a place on; the first of them is for the place to.
+// Lays the `count` counts of `other` that start at the place `from` over those of `own` that start at the place `to`, and keeps
+// the larger of each two. The rest of `own` stays.
 fn raise(
     own: [u8; Timestamp::WIDTH],
     to: usize,
@@ -243,8 +244,8 @@ fn raise(
     kn
 }
 
-// 01, tick 3: each count "the larger of own and frame's", the frame's placed by its reading. Where the two do not meet there
-// are no others.
+// 01, tick 3: each count "the larger of own and frame's", the frame's placed by its reading. A reading past v lays the frame's
+// counts further up, one before v further down; where none of them meets an own one, the own counts stay.
 fn larger_counts(
     own: &[u8],
     other: &[u8],

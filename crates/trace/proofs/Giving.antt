@@ -2,7 +2,7 @@
 use Prim.Native.Nat.{ℕ, suc, _+_, _-_, _*_, _≤_, _<_}
 use mathlib.Core.Path.{_≡_, refl, sym, ap, _∙_}
 use mathlib.Core.Bool.{false}
-use mathlib.Core.List.{List, [], _++_}
+use mathlib.Core.List.{List, [], _++_, map}
 use native.Mathlib.Omega.{arith}
 use lib.Dec.{leb}
 use lib.ListN.{length, take, drop, getD, length-append}
@@ -14,7 +14,7 @@ use Rattle.laws.proofs.Lists.{drop-take}
 use Rattle.model.specs.Setup.{width}
 use Rattle.model.specs.Frame.{twoAt, payloadCountAt, frameEnd, decode}
 use Rattle.model.specs.Holdback.{cutFrames, heldBytes, held}
-use Rattle.trace.specs.Text.{giveLine, giveText, giveLines, giveLinesFrom, frameAt}
+use Rattle.trace.specs.Text.{giveLine, giveText, giveLines, frameFrom}
 
 -- ---- the frame at a position
 
@@ -24,8 +24,8 @@ module _ (epsilon : ℕ) (s : List ℕ) (at count : ℕ) (e : count ≡ at + (6 
   unfolding frameEnd payloadCountAt width
   end-at = rw (e, getD-drop at s (6 + 2 * epsilon) 0) (omega arith)
 
-  pub payload-at : take (getD s count 0) (drop (count + 1) s) ≡ frameAt epsilon s at .payload
-  unfolding frameAt decode frameEnd payloadCountAt width
+  pub payload-at : take (getD s count 0) (drop (count + 1) s) ≡ frameFrom epsilon s at .payload
+  unfolding frameFrom decode frameEnd payloadCountAt width
   payload-at =
       let c : ℕ = 6 + 2 * epsilon in
       let there : getD (drop at s) c 0 ≡ getD s count 0 = getD-drop at s c 0 ∙ ap (λ (i : ℕ). getD s i 0) (sym e) in
@@ -34,13 +34,13 @@ module _ (epsilon : ℕ) (s : List ℕ) (at count : ℕ) (e : count ≡ at + (6 
       (drop-take (c + 1) (getD (drop at s) c 0) (drop at s)
       ∙ rw (there, drop-drop (c + 1) at s, past))
 
-pub station-at : (epsilon : ℕ) (s : List ℕ) (at : ℕ) → getD s (at + 1) 0 ≡ frameAt epsilon s at .station
-unfolding frameAt decode frameEnd payloadCountAt
+pub station-at : (epsilon : ℕ) (s : List ℕ) (at : ℕ) → getD s (at + 1) 0 ≡ frameFrom epsilon s at .station
+unfolding frameFrom decode frameEnd payloadCountAt
 station-at epsilon s at =
     sym (getD-take (frameEnd epsilon (drop at s)) (drop at s) 1 0 (omega arith) ∙ getD-drop at s 1 0)
 
-pub r-at : (epsilon : ℕ) (s : List ℕ) (at : ℕ) → twoAt s (at + 2) ≡ frameAt epsilon s at .stamp .r
-unfolding frameAt decode frameEnd payloadCountAt twoAt
+pub r-at : (epsilon : ℕ) (s : List ℕ) (at : ℕ) → twoAt s (at + 2) ≡ frameFrom epsilon s at .stamp .r
+unfolding frameFrom decode frameEnd payloadCountAt twoAt
 r-at epsilon s at =
     let low : getD (take (frameEnd epsilon (drop at s)) (drop at s)) 2 0 ≡ getD s (at + 2) 0
     = getD-take (frameEnd epsilon (drop at s)) (drop at s) 2 0 (omega arith) ∙ getD-drop at s 2 0 in
@@ -50,11 +50,15 @@ r-at epsilon s at =
 
 -- its give line, of the numbers and the bytes that stand there
 pub give-at : (epsilon : ℕ) (s : List ℕ) (at station r : ℕ) (payload : List ℕ) → station ≡ getD s (at + 1) 0 → r ≡ twoAt s (at + 2)
-    → payload ≡ frameAt epsilon s at .payload → giveText station r payload ≡ giveLine (frameAt epsilon s at)
+    → payload ≡ frameFrom epsilon s at .payload → giveText station r payload ≡ giveLine (frameFrom epsilon s at)
 unfolding giveLine
 give-at epsilon s at station r payload e f g = rw (e, f, g, station-at epsilon s at, r-at epsilon s at)
 
 -- ---- the give lines of the frames from a position on
+
+-- one for each of `k` frames
+unfoldable pub giveLinesFrom : ℕ → List ℕ → ℕ → ℕ → List ℕ
+giveLinesFrom epsilon s k at = joined giveLine (map (decode epsilon) (cutFrames epsilon k (drop at s)))
 
 pub give-all : (epsilon : ℕ) (s : List ℕ) → giveLines epsilon s ≡ giveLinesFrom epsilon s (twoAt s 0) 2
 unfolding giveLines giveLinesFrom held heldBytes
@@ -65,8 +69,8 @@ unfolding giveLinesFrom cutFrames joined
 give-none epsilon s k at e = rw e
 
 pub give-one : (epsilon : ℕ) (s : List ℕ) (left k at next : ℕ) → left ≡ suc k → next ≡ at + frameEnd epsilon (drop at s)
-    → giveLinesFrom epsilon s left at ≡ giveLine (frameAt epsilon s at) ++ giveLinesFrom epsilon s k next
-unfolding giveLinesFrom cutFrames joined frameAt
+    → giveLinesFrom epsilon s left at ≡ giveLine (frameFrom epsilon s at) ++ giveLinesFrom epsilon s k next
+unfolding giveLinesFrom cutFrames joined frameFrom
 give-one epsilon s left k at next e f = rw (e, f, ← drop-drop (frameEnd epsilon (drop at s)) at s)
 
 -- ---- whether so many bytes are enough for them

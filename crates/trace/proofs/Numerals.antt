@@ -23,7 +23,7 @@ countBy-step : (steps x : ℕ) → 10 ≤ x → countBy (suc steps) x ≡ suc (c
 unfolding countBy
 countBy-step steps x h = rw (le-ltb x 10 h)
 
--- x steps are enough
+-- `x` steps are enough
 countBy-enough : (m n x : ℕ) → x ≤ m → x ≤ n → countBy m x ≡ countBy n x
 countBy-enough zero n x h k = countBy-small zero x (omega arith) ∙ sym (countBy-small n x (omega arith))
 countBy-enough (suc m) zero x h k = countBy-small (suc m) x (omega arith) ∙ sym (countBy-small zero x (omega arith))

@@ -27,7 +27,7 @@ use Rattle.trace.specs.Text.{
   giveText,
   refusedLine,
   written,
-  endOf,
+  textEnd,
 }
 use Rattle.trace.proofs.Numerals.{length-digits, length-decimal, digitCount-small}
 
@@ -54,7 +54,7 @@ put-as {l} {m} {at} {e} q p = subst (λ (t : List ℕ). Put l at t m e) q p
 pub room-as : (l : List ℕ) (at : ℕ) {a b : List ℕ} → a ≡ b → at + length b ≤ length l → at + length a ≤ length l
 room-as l at q h = subst (λ (t : List ℕ). at + length t ≤ length l) (sym q) h
 
--- ---- of a whole text at a position of l, b is still to be written, at e of m
+-- ---- of a whole text at a position of `l`, `b` is still to be written, at `e` of `m`
 
 pub record Ahead (l : List ℕ) (at : ℕ) (whole m : List ℕ) (e : ℕ) (b : List ℕ) : Type 0 where
   pub room : e + length b ≤ length m
@@ -87,16 +87,16 @@ pub put-written : {l m : List ℕ} {at e : ℕ} {text : List ℕ} → at + lengt
 unfolding written
 put-written {l} {m} {at} {e} {text} h p = rw (le-leb (at + length text) (length l) h) (p .bytes)
 
-pub put-end : {l m : List ℕ} {at e : ℕ} {text : List ℕ} → at + length text ≤ length l → Put l at text m e → e ≡ endOf l at text
-unfolding endOf
+pub put-end : {l m : List ℕ} {at e : ℕ} {text : List ℕ} → at + length text ≤ length l → Put l at text m e → e ≡ textEnd l at text
+unfolding textEnd
 put-end {l} {m} {at} {e} {text} h p = rw (le-leb (at + length text) (length l) h) (p .ends)
 
 pub none-written : (l : List ℕ) (at : ℕ) (text : List ℕ) → length l < at + length text → l ≡ written l at text
 unfolding written
 none-written l at text h = rw (lt-leb (at + length text) (length l) h)
 
-pub none-end : (l : List ℕ) (at : ℕ) (text : List ℕ) → length l < at + length text → 0 ≡ endOf l at text
-unfolding endOf
+pub none-end : (l : List ℕ) (at : ℕ) (text : List ℕ) → length l < at + length text → 0 ≡ textEnd l at text
+unfolding textEnd
 none-end l at text h = rw (lt-leb (at + length text) (length l) h)
 
 -- ---- the parts of a line, and how long they are
@@ -153,7 +153,7 @@ pub payload-hex : (s : List ℕ) → (length s ≡ 0 → ⊥) → payloadText s 
 unfolding payloadText
 payload-hex s h = rw (ne-eqb (length s) 0 h)
 
--- a loop that writes two digits a byte: so far those of the first i bytes
+-- a loop that writes two digits a byte: so far those of the first `i` bytes
 pub record Hexing (l : List ℕ) (at : ℕ) (s : List ℕ) (i : ℕ) (cur : List ℕ) (end : ℕ) : Type 0 where
   pub room : at + 2 * length s ≤ length l
   pub within : i ≤ length s

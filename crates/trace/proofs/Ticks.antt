@@ -84,10 +84,6 @@ pub send-flag : (s : List ℕ) (send : ℕ) → send ≡ getD s 2 0 → eqb send
 unfolding sendOf sendByte
 send-flag s send e = rw e
 
-pub send-not : (s : List ℕ) (send : ℕ) → send ≡ getD s 2 0 → 1 < send → false ≡ sendOf s
-unfolding sendOf sendByte
-send-not s send e h = sym (ne-eqb (getD s 2 0) 1 (omega arith))
-
 -- ---- the setup, judged
 
 pub setup-cut : (s : List ℕ) → length s < 6 → 5 ≡ setupNumber s

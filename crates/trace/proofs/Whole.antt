@@ -1,5 +1,5 @@
 -- What reading a tick as it comes rests on: whoever reads up to where it ends so far never reads past the tick, and a tick that is whole stays so.
--- So the definition of the whole program is what reading tick by tick gives. The batch of a whole tick ends exactly after its last entry. Assumes nothing.
+-- So the definition of the whole program is what reading tick by tick gives. Assumes nothing.
 use Prim.Native.Nat.{ℕ, zero, suc, _+_, _≤_, _<_}
 use mathlib.Core.Path.{_≡_, refl, sym, ap, _∙_}
 use mathlib.Core.List.{List, [], _∷_, _++_}
@@ -15,7 +15,7 @@ use Rattle.trace.specs.Text.{refusedLine}
 use Rattle.trace.specs.Replay.{stopped, turn, replayTicks}
 use Rattle.trace.specs.Trace.{entriesSize, payloadSize, batchAt, tickEnd}
 
--- ---- k entries, of which the first bytes are there
+-- ---- `k` entries, of which the first bytes are there
 
 entries-one : (k : ℕ) (s : List ℕ) → entriesSize (suc k) s ≡ 1 + getD s 0 0 + entriesSize k (drop (1 + getD s 0 0) s)
 unfolding entriesSize
@@ -109,8 +109,6 @@ stays-whole s t h =
     ∙ ap (λ (n : ℕ). batchAt s + 1 + n)
     (entries-same (getD s (batchAt s) 0) (drop (batchAt s + 1) s) t (omega (arith, tick-is s, length-drop (batchAt s + 1) s)))
     ∙ sym (tick-is s)
-
--- ---- 01: "one before the first clock", modulo B
 
 -- ---- so the lines of a trace are those of its ticks, read one by one
 

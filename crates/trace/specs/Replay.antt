@@ -81,7 +81,7 @@ stopped (suc k) rest = refusedLine (suc k)
 unfoldable pub freshBefore : Setup → List ℕ → Timestamp
 freshBefore s bytes = widened (fresh (s .epsilon) (oneBefore (s .modulus) (clockOf bytes)))
 
--- the lines of k ticks
+-- the lines of `k` ticks
 unfoldable pub replayTicks : Setup → ℕ → Timestamp → List ℕ → List ℕ → List ℕ
 replayTicks s zero tables holdback bytes = cond (eqb (length bytes) 0) [] (refusedLine 5)
 replayTicks s (suc k) tables holdback bytes =

@@ -2,30 +2,30 @@
 use Prim.Native.Nat.{ℕ, zero, suc, _+_, _/_, _%_}
 use mathlib.Core.Path.{_≡_}
 use mathlib.Core.Bool.{cond}
-use mathlib.Core.List.{List, [], _∷_, _++_, map}
+use mathlib.Core.List.{List, [], _∷_, _++_}
 use lib.Dec.{leb, ltb, eqb}
 use lib.ListN.{length, take, drop}
 use Rattle.laws.specs.Lists.{joined}
 use Rattle.splice.specs.Bytes.{pasted}
 use Rattle.model.specs.Frame.{Frame, frameEnd, decode}
-use Rattle.model.specs.Holdback.{cutFrames, held}
+use Rattle.model.specs.Holdback.{held}
 use Rattle.model.specs.Tick.{Input, Output}
 
 -- a digit below 16: "0" to "9", then "a" to "f"
 unfoldable pub glyph : ℕ → ℕ
 glyph d = cond (ltb d 10) (48 + d) (87 + d)
 
--- the last k digits of x in a base, the most significant first
+-- the last `k` digits of `x` in a base, the most significant first
 unfoldable pub digits : ℕ → ℕ → ℕ → List ℕ
 digits base zero x = []
 digits base (suc k) x = digits base k (x / base) ++ (glyph (x % base) ∷ [])
 
--- how many digits x has in decimal, counted up to steps + 1
+-- how many digits `x` has in decimal, counted up to `steps + 1`
 unfoldable pub countBy : ℕ → ℕ → ℕ
 countBy zero x = 1
 countBy (suc steps) x = cond (ltb x 10) 1 (suc (countBy steps (x / 10)))
 
--- all of them, since x has at most x + 1
+-- all of them, since `x` has at most `x + 1`
 unfoldable pub digitCount : ℕ → ℕ
 digitCount x = countBy x x
 
@@ -102,12 +102,8 @@ unfoldable pub giveLine : Frame → List ℕ
 giveLine f = giveText (f .station) (f .stamp .r) (f .payload)
 
 -- the frame that starts at a position of a delivery (01: hand-out)
-unfoldable pub frameAt : ℕ → List ℕ → ℕ → Frame
-frameAt epsilon s at = decode epsilon (take (frameEnd epsilon (drop at s)) (drop at s))
-
--- a give line for each of k frames from a position on
-unfoldable pub giveLinesFrom : ℕ → List ℕ → ℕ → ℕ → List ℕ
-giveLinesFrom epsilon s k at = joined giveLine (map (decode epsilon) (cutFrames epsilon k (drop at s)))
+unfoldable pub frameFrom : ℕ → List ℕ → ℕ → Frame
+frameFrom epsilon s at = decode epsilon (take (frameEnd epsilon (drop at s)) (drop at s))
 
 -- a give line for each frame of a delivery, in its order
 unfoldable pub giveLines : ℕ → List ℕ → List ℕ
@@ -133,10 +129,10 @@ unfoldable pub written : List ℕ → ℕ → List ℕ → List ℕ
 written buffer at text = cond (leb (at + length text) (length buffer)) (pasted buffer at text) buffer
 
 -- and where it ends; 0 where there is no room
-unfoldable pub endOf : List ℕ → ℕ → List ℕ → ℕ
-endOf buffer at text = cond (leb (at + length text) (length buffer)) (at + length text) 0
+unfoldable pub textEnd : List ℕ → ℕ → List ℕ → ℕ
+textEnd buffer at text = cond (leb (at + length text) (length buffer)) (at + length text) 0
 
--- a text was put into a buffer at a position, and ends at end
+-- a text was put into a buffer at a position, and ends at `end`
 pub record Put (buffer : List ℕ) (at : ℕ) (text after : List ℕ) (end : ℕ) : Type 0 where
   pub bytes : after ≡ pasted buffer at text
   pub ends : end ≡ at + length text

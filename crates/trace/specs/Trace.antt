@@ -40,7 +40,7 @@ tickCount s = twoAt s 0
 unfoldable pub oneBefore : ℕ → ℕ → ℕ
 oneBefore modulus clock = cond (eqb clock 0) (modulus - 1) (clock - 1)
 
--- ---- one tick, at the start of s
+-- ---- one tick, at the start of `s`
 -- 01: "per tick the clock (two bytes), 1 or 0 for send, a ticket count and ticket (not sent on 0), a bundle"
 
 unfoldable pub clockOf : List ℕ → ℕ
@@ -60,12 +60,12 @@ payloadOf s = take (payloadSize s) (drop 4 s)
 unfoldable pub batchAt : List ℕ → ℕ
 batchAt s = 4 + payloadSize s
 
--- how many bytes the next k entries of a batch take up, by the length bytes in s; a length that is not there counts as 0
+-- how many bytes the next `k` entries of a batch take up, by the length bytes in `s`; a length that is not there counts as 0
 unfoldable pub entriesSize : ℕ → List ℕ → ℕ
 entriesSize zero s = 0
 entriesSize (suc k) s = 1 + getD s 0 0 + entriesSize k (drop (1 + getD s 0 0) s)
 
--- where the tick ends, by the length bytes in s. Where s is cut short, this is still the least length that the whole tick can have
+-- where the tick ends, by the length bytes in `s`. Where `s` is cut short, this is still the least length that the whole tick can have
 unfoldable pub tickEnd : List ℕ → ℕ
 tickEnd s = batchAt s + 1 + entriesSize (getD s (batchAt s) 0) (drop (batchAt s + 1) s)
 
@@ -76,7 +76,7 @@ longestTick = 65540
 unfoldable pub batchOf : List ℕ → List ℕ
 batchOf s = take (tickEnd s - batchAt s) (drop (batchAt s) s)
 
--- 01: "A cut or overlong trace, or a send byte other than 0 or 1, gets 5": 0 where s is one tick
+-- 01: "A cut or overlong trace, or a send byte other than 0 or 1, gets 5": 0 where `s` is one tick
 unfoldable pub tickNumber : List ℕ → ℕ
 tickNumber s = firstNo (ask (eqb (tickEnd s) (length s)) 5 ∷ ask (leb (sendByte s) 1) 5 ∷ [])
 

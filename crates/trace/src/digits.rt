@@ -5,7 +5,7 @@ ghost use lib.ListN.{length};
 ghost use Rattle.splice.specs.Bytes.{pasted};
 ghost use Rattle.trace.specs.Text.{glyph, digits, digitCount, decimal, Put};
 
-// The ASCII code of a digit.
+// The ASCII code of a digit below 16.
 fn glyph_of(d: usize) -> u8
     requires { ⌜ d < 16 ⌝ }
     ensures { λ r. ⌜ r ≡ glyph d ⌝ }
@@ -16,7 +16,7 @@ fn glyph_of(d: usize) -> u8
     87 + d as u8
 }
 
-// Writes the last count digits of x in base.
+// Writes the last `count` digits of `x` in `base`.
 pub fn put_digits(buf: &mut [u8], at: usize, base: usize, count: usize, x: usize)
     requires { ⌜ ((0 < base) × (base ≤ 16)) × (at + count ≤ length (now buf)) ⌝ }
     ensures { λ _. ⌜ now (buf .exit) ≡ pasted (now (buf .entry)) at (digits base count x) ⌝ }
@@ -30,7 +30,7 @@ pub fn put_digits(buf: &mut [u8], at: usize, base: usize, count: usize, x: usize
     }
 }
 
-// How many digits x has in decimal; 20 at most.
+// How many digits `x` has in decimal; 20 at most.
 pub fn digit_count(x: usize) -> usize
     ensures { λ r. ⌜ (r ≡ digitCount x) × (r ≤ 20) ⌝ }
 {
@@ -43,7 +43,7 @@ pub fn digit_count(x: usize) -> usize
     count
 }
 
-// Writes x in decimal, and answers where it ends.
+// Writes `x` in decimal, and answers where it ends.
 pub fn put_decimal(buf: &mut [u8], at: usize, x: usize) -> usize
     requires { ⌜ at + length (decimal x) ≤ length (now buf) ⌝ }
     ensures { λ r. ⌜ Put (now (buf .entry)) at (decimal x) (now (buf .exit)) r ⌝ }

@@ -5,7 +5,6 @@ mod lines;
 mod parse;
 mod text;
 
-pub use digits::digit_count;
 pub use lines::Figures;
 pub use lines::put_lines;
 pub use lines::put_refused;

@@ -13,7 +13,7 @@ ghost use Prim.Native.Nat.{_+_, _*_, _≤_, _<_, _^_};
 ghost use lib.Dec.{leb};
 ghost use lib.ListN.{length, drop};
 ghost use Rattle.model.specs.Frame.{frameEnd};
-ghost use Rattle.trace.specs.Text.{flag, tickLine, giveLine, giveLines, frameAt, tickLines, refusedLine, written, endOf, Put};
+ghost use Rattle.trace.specs.Text.{flag, tickLine, giveLine, giveLines, frameFrom, tickLines, refusedLine, written, textEnd, Put};
 
 // What a tick line says: 01's clock, mend, c, taken, outgoing length (0 if none), handed out.
 pub struct Figures {
@@ -75,7 +75,7 @@ fn next_frame(delivery: &[u8], at: usize, epsilon: usize) -> usize
 // Its payload.
 fn payload_at(delivery: &[u8], at: usize, epsilon: usize) -> &[u8]
     requires { ⌜ (at < 2 ^ 52) × (epsilon < 2 ^ 32) ⌝ }
-    ensures { λ r. ⌜ (now r ≡ frameAt epsilon (now (delivery .entry)) at .payload) × (length (now r) < 256) ⌝ }
+    ensures { λ r. ⌜ (now r ≡ frameFrom epsilon (now (delivery .entry)) at .payload) × (length (now r) < 256) ⌝ }
 {
     let count = at + (6 + 2 * epsilon);
     part(delivery, count + 1, byte_at(delivery, count) as usize)
@@ -84,7 +84,7 @@ fn payload_at(delivery: &[u8], at: usize, epsilon: usize) -> &[u8]
 // How long its give line is.
 fn give_size(delivery: &[u8], at: usize, epsilon: usize) -> usize
     requires { ⌜ (at < 2 ^ 52) × (epsilon < 2 ^ 32) ⌝ }
-    ensures { λ r. ⌜ r ≡ length (giveLine (frameAt epsilon (now (delivery .entry)) at)) ⌝ }
+    ensures { λ r. ⌜ r ≡ length (giveLine (frameFrom epsilon (now (delivery .entry)) at)) ⌝ }
 {
     let station = byte_at(delivery, at + 1) as usize;
     let r = two_at(delivery, at + 2);
@@ -94,8 +94,8 @@ fn give_size(delivery: &[u8], at: usize, epsilon: usize) -> usize
 
 // Writes its give line.
 fn put_give_at(buf: &mut [u8], end: usize, delivery: &[u8], at: usize, epsilon: usize) -> usize
-    requires { ⌜ ((at < 2 ^ 52) × (epsilon < 2 ^ 32)) × (end + length (giveLine (frameAt epsilon (now delivery) at)) ≤ length (now buf)) ⌝ }
-    ensures { λ e. ⌜ Put (now (buf .entry)) end (giveLine (frameAt epsilon (now (delivery .entry)) at)) (now (buf .exit)) e ⌝ }
+    requires { ⌜ ((at < 2 ^ 52) × (epsilon < 2 ^ 32)) × (end + length (giveLine (frameFrom epsilon (now delivery) at)) ≤ length (now buf)) ⌝ }
+    ensures { λ e. ⌜ Put (now (buf .entry)) end (giveLine (frameFrom epsilon (now (delivery .entry)) at)) (now (buf .exit)) e ⌝ }
 {
     let station = byte_at(delivery, at + 1) as usize;
     let r = two_at(delivery, at + 2);
@@ -103,7 +103,7 @@ fn put_give_at(buf: &mut [u8], end: usize, delivery: &[u8], at: usize, epsilon: 
     put_give(buf, end, station, r, payload)
 }
 
-// Whether the give lines of a delivery have at most so many bytes.
+// Whether the give lines of a delivery have at most `room` bytes.
 fn gives_fit(delivery: &[u8], epsilon: usize, room: usize) -> bool
     requires { ⌜ epsilon < 2 ^ 32 ⌝ }
     ensures { λ r. ⌜ r ≡ leb (length (giveLines epsilon (now (delivery .entry)))) room ⌝ }
@@ -142,7 +142,7 @@ fn put_gives(buf: &mut [u8], from: usize, delivery: &[u8], epsilon: usize) -> us
 // Writes the lines of a tick at a position, and answers where they end; 0, and nothing is written,
 // where there is no room for all of them.
 pub fn put_lines(buf: &mut [u8], at: usize, f: Figures, epsilon: u32, delivery: &[u8]) -> usize
-    ensures { λ r. ⌜ r ≡ endOf (now (buf .entry)) at (tickLines (f .clock) (f .repair) (f .c) (f .taken) (f .sent) (f .delivered) epsilon (now (delivery .entry))) ⌝ }
+    ensures { λ r. ⌜ r ≡ textEnd (now (buf .entry)) at (tickLines (f .clock) (f .repair) (f .c) (f .taken) (f .sent) (f .delivered) epsilon (now (delivery .entry))) ⌝ }
     ensures { λ r. ⌜ now (buf .exit) ≡ written (now (buf .entry)) at (tickLines (f .clock) (f .repair) (f .c) (f .taken) (f .sent) (f .delivered) epsilon (now (delivery .entry))) ⌝ }
 {
     let size = tick_size(f);
@@ -160,9 +160,9 @@ pub fn put_lines(buf: &mut [u8], at: usize, f: Figures, epsilon: u32, delivery: 
     put_gives(buf, end, delivery, epsilon as usize)
 }
 
-// Writes the line of a refusal, as put_lines does those of a tick.
+// Writes the line of a refusal, as `put_lines` does those of a tick.
 pub fn put_refused(buf: &mut [u8], at: usize, number: u8) -> usize
-    ensures { λ r. ⌜ r ≡ endOf (now (buf .entry)) at (refusedLine number) ⌝ }
+    ensures { λ r. ⌜ r ≡ textEnd (now (buf .entry)) at (refusedLine number) ⌝ }
     ensures { λ r. ⌜ now (buf .exit) ≡ written (now (buf .entry)) at (refusedLine number) ⌝ }
 {
     let x = number as usize;

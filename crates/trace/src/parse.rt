@@ -47,7 +47,7 @@ pub fn setup_number(s: &[u8]) -> u8
     0
 }
 
-// 01: "a two-byte count of ticks", at the start of s.
+// 01: "a two-byte count of ticks", at the start of `s`.
 pub fn tick_count(s: &[u8]) -> usize
     ensures { λ r. ⌜ r ≡ tickCount (now (s .entry)) ⌝ }
 {
@@ -67,7 +67,7 @@ pub fn one_before(modulus: usize, clock: usize) -> usize
     0
 }
 
-// Where the tick at the start of s ends; before all of it is there, the fewest bytes that it can
+// Where the tick at the start of `s` ends; before all of it is there, the fewest bytes that it can
 // have. Whoever reads up to there never reads past the tick.
 pub fn tick_end(s: &[u8]) -> usize
     ensures { λ r. ⌜ (r ≡ tickEnd (now (s .entry))) × (r ≤ longestTick) ⌝ }
@@ -82,50 +82,47 @@ pub fn tick_end(s: &[u8]) -> usize
     end
 }
 
-// What a tick's bytes ask for; payload and batch are payload_of's and batch_of's.
+// 0, or 5 where `s` is not one whole tick, or its send byte is neither 0 nor 1.
+fn tick_number(s: &[u8]) -> u8
+    ensures { λ r. ⌜ r ≡ tickNumber (now (s .entry)) ⌝ }
+{
+    let end = tick_end(s);
+    if end != s.len() {
+        return 5;
+    }
+    if 1 < byte_at(s, 2) {
+        return 5;
+    }
+    0
+}
+
+// What a tick's bytes ask for; `payload_of` and `batch_of` have the rest.
 pub struct Call {
-    // 0, or 5 where the bytes are not one tick
+    // what `tick_number` answers
     pub number: u8,
     pub clock: usize,
     pub send: bool,
 }
 
-// The tick that s is.
+// What the tick `s` asks for; where it is cut, what can be read of it.
 pub fn read_call(s: &[u8]) -> Call
     ensures { λ r. ⌜ (r .number ≡ tickNumber (now (s .entry))) × ((r .clock ≡ clockOf (now (s .entry))) × (r .send ≡ sendOf (now (s .entry)))) ⌝ }
 {
-    let clock = two_at(s, 0);
-    let send = byte_at(s, 2);
-    let end = tick_end(s);
-    if end != s.len() {
-        return Call {
-            number: 5,
-            clock,
-            send: send == 1,
-        };
-    }
-    if 1 < send {
-        return Call {
-            number: 5,
-            clock,
-            send: false,
-        };
-    }
     Call {
-        number: 0,
-        clock,
-        send: send == 1,
+        number: tick_number(s),
+        clock: two_at(s, 0),
+        send: byte_at(s, 2) == 1,
     }
 }
 
-// 01: the ticket, as a part of the tick's bytes.
+// The payload (01: ticket), as a part of the tick's bytes.
 pub fn payload_of(s: &[u8]) -> &[u8]
     ensures { λ r. ⌜ now r ≡ payloadOf (now (s .entry)) ⌝ }
 {
     part(s, 4, byte_at(s, 3) as usize)
 }
 
-// 01: the bundle, as a part of the tick's bytes.
+// The batch (01: bundle), as a part of the tick's bytes.
 pub fn batch_of(s: &[u8]) -> &[u8]
     ensures { λ r. ⌜ now r ≡ batchOf (now (s .entry)) ⌝ }
 {

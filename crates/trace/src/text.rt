@@ -1,4 +1,5 @@
-// The parts of a line, each written at a position where there is room for it; the answer is where it ends.
+// The parts of a line, each written at a position where there is room for it; the answer is where
+// it ends.
 use crate::digits::put_decimal;
 use crate::digits::put_digits;
 use splice::copy_into;
@@ -46,7 +47,7 @@ pub fn put_fields(
 }
 
 // Two digits for each byte.
-pub fn put_hex(buf: &mut [u8], at: usize, bytes: &[u8]) -> usize
+fn put_hex(buf: &mut [u8], at: usize, bytes: &[u8]) -> usize
     requires { ⌜ at + length (joined hexByte (now bytes)) ≤ length (now buf) ⌝ }
     ensures { λ r. ⌜ Put (now (buf .entry)) at (joined hexByte (now (bytes .entry))) (now (buf .exit)) r ⌝ }
 {
@@ -71,7 +72,7 @@ pub fn payload_size(payload: &[u8]) -> usize
 }
 
 // 01: "the ticket in hexadecimal … (`-` if empty)".
-pub fn put_payload(buf: &mut [u8], at: usize, payload: &[u8]) -> usize
+fn put_payload(buf: &mut [u8], at: usize, payload: &[u8]) -> usize
     requires { ⌜ at + length (payloadText (now payload)) ≤ length (now buf) ⌝ }
     ensures { λ r. ⌜ Put (now (buf .entry)) at (payloadText (now (payload .entry))) (now (buf .exit)) r ⌝ }
 {
@@ -82,7 +83,7 @@ pub fn put_payload(buf: &mut [u8], at: usize, payload: &[u8]) -> usize
 }
 
 // The payload, and the end of the line.
-pub fn put_tail(buf: &mut [u8], at: usize, payload: &[u8]) -> usize
+fn put_tail(buf: &mut [u8], at: usize, payload: &[u8]) -> usize
     requires { ⌜ at + length (payloadTail (now payload)) ≤ length (now buf) ⌝ }
     ensures { λ r. ⌜ Put (now (buf .entry)) at (payloadTail (now (payload .entry))) (now (buf .exit)) r ⌝ }
 {

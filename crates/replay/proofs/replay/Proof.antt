@@ -1,8 +1,7 @@
 -- `replay::replay` meets its contract. Assumes nothing.
-use mathlib.Core.Path.{sym, _∙_}
-use native.Mathlib.Omega.{arith}
-use lib.ListN.{take}
-use Rattle.replay.proofs.Refusals.{setup-most, setup-ready}
+use mathlib.Core.Path.{sym, ap, _∙_}
+use Rattle.replay.specs.Playing.{among, replayNumbers}
+use Rattle.replay.proofs.Refusals.{setup-among, run-among, setup-ready}
 use borrow.Author.Needs.{needs}
 use Rattle.replay.proofs.replay.Statement.{statement}
 use Rattle.replay.proofs.replay.Tie as tie
@@ -23,7 +22,7 @@ setup-number-requires : tie.Need-setup-number-requires
 setup-number-requires c κs = search needs
 
 returns : tie.Need-returns
-returns c = omega (arith, c .before .setup-number .ensures, setup-most (take (c .before .before .before .before .read-full .result) (c .before .before .before .before .read-full .last .1 .0)))
+returns c = ap (among replayNumbers) (c .before .setup-number .ensures) ∙ setup-among _
 
 array-share-prefix-head-2 : tie.Need-array-share-prefix-head-2
 array-share-prefix-head-2 c = search needs
@@ -38,7 +37,7 @@ run-requires : tie.Need-run-requires
 run-requires c κs = rw (c .read-setup .ensures) (setup-ready _ (sym (c .before .before .before .setup-number .ensures) ∙ c .before .before .if1 .left))
 
 returns-2 : tie.Need-returns-2
-returns-2 c = search needs
+returns-2 c = run-among _ (c .run .ensures)
 
 pub replay-spec : {M : Type 1} → statement M
 replay-spec =

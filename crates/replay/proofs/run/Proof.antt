@@ -1,16 +1,17 @@
 -- `replay::run` meets its contract. The invariant of its loop: the buffers are as long as they were. Assumes nothing.
 use Prim.Native.Nat.{ℕ, _-_, _≤_}
-use mathlib.Core.Path.{_≡_, sym, _∙_}
+use mathlib.Core.Path.{_≡_, refl, sym, _∙_}
 use native.Mathlib.Omega.{arith}
 use lib.ListN.{length, take, replicate}
 use lib.Seq.{length-take-le}
 use borrow.Author.Needs.{needs}
+use Rattle.laws.specs.Lists.{any}
 use Rattle.model.specs.Tick.{holdbackSize}
 use Rattle.lemmas.proofs.Questions.{limits-from}
 use Rattle.timestamp.specs.Views.{setupOf}
 use Rattle.trace.specs.Trace.{longestTick}
-use Rattle.replay.specs.Playing.{textRoom}
-use Rattle.replay.proofs.Turns.{result-within, result-most}
+use Rattle.replay.specs.Playing.{textRoom, among}
+use Rattle.replay.proofs.Turns.{result-within, result-among}
 use Rattle.replay.proofs.run.Statement.{statement}
 use Rattle.replay.proofs.run.Tie as tie
 
@@ -28,7 +29,8 @@ read-full-requires : tie.Need-read-full-requires Inv-loop μ-loop
 read-full-requires c κs = search needs
 
 returns : tie.Need-returns Inv-loop μ-loop
-returns c = search needs
+unfolding among any
+returns c = refl
 
 slice-aggregate-tick-count : tie.Need-slice-aggregate-tick-count Inv-loop μ-loop
 slice-aggregate-tick-count c = search needs
@@ -94,13 +96,20 @@ slice-reshare-prefix-play c = search needs
 slice-aggregate-play : tie.Need-slice-aggregate-play Inv-loop μ-loop
 slice-aggregate-play c = sym (length-take-le _ _ (c .before .before .before .before .before .before .read-tick .ensures .within))
 
+-- the start and the loop, from where a tick is played
+abbrev start : tie.After-play-arg3 Inv-loop μ-loop → tie.Start Inv-loop μ-loop
+start c = c .before .before .before .before .before .before .before .before .before .before .before .before .before .before .before .before .before .before .before .before .before .before .before .before .before
+
+abbrev at-loop : tie.After-play-arg3 Inv-loop μ-loop → tie.At-loop Inv-loop μ-loop
+at-loop c = c .before .before .before .before .before .before .before .before .before .before
+
 play-requires : tie.Need-play-requires Inv-loop μ-loop
-play-requires c κs =
-    let at-loop = c .before .before .before .before .before .before .before .before .before .before in
-    record { ready = c .before .before .before .before .before .before .before .before .before .before .before .before .before .before .before .before .before .before .before .before .before .before .before .before .before .pre; size = at-loop .loop .inv .0; room = at-loop .loop .inv .1 .1 }
+play-requires c κs = record { ready = start c .pre; size = at-loop c .loop .inv .0; room = at-loop c .loop .inv .1 .1 }
 
 returns-2 : tie.Need-returns-2 Inv-loop μ-loop
-returns-2 c = result-most _ _ _ _ _ _ (c .before .before .before .before .before .before .before .before .before .play .ensures)
+returns-2 c =
+    let played = c .before .before .before .before .before .before .before .before .before in
+    result-among _ _ _ _ _ _ (start (played .before) .pre) (at-loop (played .before) .loop .inv .0) (played .play .ensures)
 
 slice-reshare-prefix-write-all : tie.Need-slice-reshare-prefix-write-all Inv-loop μ-loop
 slice-reshare-prefix-write-all c = result-within _ _ _ (c .before .before .before .before .before .before .play .ensures)
@@ -112,7 +121,8 @@ write-all-requires : tie.Need-write-all-requires Inv-loop μ-loop
 write-all-requires c κs = search needs
 
 returns-3 : tie.Need-returns-3 Inv-loop μ-loop
-returns-3 c = search needs
+unfolding among any
+returns-3 c = refl
 
 add-i : tie.Need-add-i Inv-loop μ-loop
 add-i c = omega (arith, c .before .before .before .before .before .before .before .before .before .before .before .before .before .before .before .before .before .before .before .before .loop-test .taken, c .before .before .before .before .before .before .before .before .before .before .before .before .before .before .before .before .before .before .before .before .before .before .before .before .before .before .before .before .before .before .tick-count .ok)
@@ -133,10 +143,12 @@ read-full-requires-2 : tie.Need-read-full-requires-2 Inv-loop μ-loop
 read-full-requires-2 c κs = search needs
 
 returns-4 : tie.Need-returns-4 Inv-loop μ-loop
-returns-4 c = search needs
+unfolding among any
+returns-4 c = refl
 
 returns-5 : tie.Need-returns-5 Inv-loop μ-loop
-returns-5 c = search needs
+unfolding among any
+returns-5 c = refl
 
 pub run-spec : {M : Type 1} → statement M
 run-spec =

@@ -1,4 +1,4 @@
--- `splice::clear` meets its contract. The invariant of its loop: k zeros are pasted. The measure is how many are left. Assumes nothing.
+-- `splice::clear` meets its contract. The invariant of its loop: `k` zeros are pasted. The measure is how many are left. Assumes nothing.
 use borrow.Author.Needs.{needs}
 use mathlib.Core.Path.{sym}
 use Prim.Native.Nat.{_-_, zero-le}

@@ -1,4 +1,4 @@
--- `splice::copy_into` meets its contract. The invariant of its loop: the first i bytes of `src` are pasted. The measure is what is left of `src`.
+-- `splice::copy_into` meets its contract. The invariant of its loop: the first `i` bytes of `src` are pasted. The measure is what is left of `src`.
 -- Assumes nothing.
 use borrow.Author.Needs.{needs}
 use mathlib.Core.Path.{refl}

@@ -1,5 +1,5 @@
 -- `batch::walker::advance` meets its contract: a walk of its MIR, by hand. The struct is taken apart, `next_at` is called on the slice and the number, and a struct is made anew of the slice and the number that it answers.
--- The struct is Copy: what it owns is had three times, for the callee, for the exit, and, with the facts of the new number in the place of at's, for the result.
+-- The struct is Copy: what it owns is had three times, for the callee, for the exit, and, with the facts of the new number in the place of `at`'s, for the result.
 -- Assumes nothing.
 use mathlib.Core.Path.{_≡_, refl, ap}
 use Prim.Native.Nat.{ℕ, _<_, _^_}
@@ -73,7 +73,7 @@ module _ {M : Type 1} (𝓤 : URA M) (H : Heap 𝓤) (A : Atoms 𝓤) (W : Given
       qed W ((‵ (flft κ q) ⊛ ‵ ftrue) ∷ ‵ (Own κ d) ∷ []) ∵
       suffices ! _ (ends-at 𝓤 H A advance.ended stays (advance.clauses 𝓤 H A mem run) W (((κ, tt), (q, tt), tt, (d, tt), (mach ∷ [], tt)), tt) (T′.lowered (moved r)) (moved r) (tt, tt) (tt, tt)) $ says ! (ap moved e) $
       frame ! $ use1 W (‵ (Own κ d) ⊛ ‵ (Own κ d)) (twice 𝓤 H A W κ d) $ split ! $ nothing ! $ move ! (1 ∷ 0 ∷ []) $ fjoin ! $ frame ! $
-      -- [what the struct owns]: the number's facts take the place of at's
+      -- [what the struct owns]: the number's facts take the place of `at`'s
       owned ! usize (Is usize) (uint-makes 𝓤 H A W w64) r _ (refl, fits) $ move ! (1 ∷ 0 ∷ []) $ by ! (own-put 𝓤 H A W (D κ) (L κ) 1 (vd κ d) r mach)
 
   module _ (C : Calls 𝓤 H) (Λ : Loops 𝓤 H) (fm : FmC 𝓤 H (W .laws) C) (known : Triple 𝓤 (C #next-at) (NextAt 𝓤 H A mem run)) where

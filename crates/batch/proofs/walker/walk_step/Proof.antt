@@ -127,7 +127,7 @@ module _ {M : Type 1} (𝓤 : URA M) (H : Heap 𝓤) (A : Atoms 𝓤) (W : Given
       -- []: the two numbers' facts are what the result owns
       nothing ! $ owned ! usize (Is usize) (uint-makes 𝓤 H A W w64) (r .end) _ (refl, end) $ fjoin ! $ owned ! usize (Is usize) (uint-makes 𝓤 H A W w64) (r .start) _ (refl, start) $ fjoin ! $ by ! (own-shut 𝓤 H A W S.the-type S′.the-laws (r .start, (r .end, tt)))
 
-  -- the machine values of an answer of step and of advance, and what is known of their parts
+  -- the machine values of an answer of `step` and of `advance`, and what is known of their parts
   step-is : (r : Step) (u : Val) → Is S.the-row r (u ∷ []) → u ∷ [] ≡ S′.lowered r ∷ []
   step-is r u is = LL.tells S.the-type S′.the-laws r (u ∷ []) is
 

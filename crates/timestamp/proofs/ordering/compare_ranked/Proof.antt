@@ -1,4 +1,4 @@
--- `timestamp::ordering::compare_ranked` meets its contract: each answer that is not Same decides, and the one that stands last.
+-- `timestamp::ordering::compare_ranked` meets its contract: each answer that is not `Same` decides, and the one that stands last.
 -- Assumes nothing.
 use mathlib.Core.Path.{refl}
 use denote.Enum.Declared

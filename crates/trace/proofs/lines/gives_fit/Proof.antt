@@ -7,8 +7,8 @@ use lib.Dec.{leb}
 use lib.ListN.{length, drop}
 use borrow.Author.Tests.{le-leb}
 use Rattle.model.specs.Frame.{frameEnd}
-use Rattle.trace.specs.Text.{giveLine, giveLines, giveLinesFrom, frameAt}
-use Rattle.trace.proofs.Giving.{give-all, give-none, give-one, fit-one, fit-not}
+use Rattle.trace.specs.Text.{giveLine, giveLines, frameFrom}
+use Rattle.trace.proofs.Giving.{giveLinesFrom, give-all, give-none, give-one, fit-one, fit-not}
 use Rattle.trace.proofs.Ticks.{two-small}
 use native.Mathlib.Omega.{arith}
 use Rattle.trace.proofs.lines.gives_fit.Statement.{statement}
@@ -43,7 +43,7 @@ returns c =
     sym
     (at-loop .loop .inv .0
     ∙ ap (λ (l : List ℕ). leb (length l) (at-loop .loop .room-left)) lines
-    ∙ fit-not (giveLine (frameAt (args .epsilon) (args .delivery .now) (at-loop .loop .at))) (giveLinesFrom (args .epsilon) (args .delivery .now) (at-loop .loop .left - 1) next)
+    ∙ fit-not (giveLine (frameFrom (args .epsilon) (args .delivery .now) (at-loop .loop .at))) (giveLinesFrom (args .epsilon) (args .delivery .now) (at-loop .loop .left - 1) next)
     (c .before .give-size .result) (at-loop .loop .room-left) (c .before .give-size .ensures) (c .if1 .taken))
 
 next-frame-requires : tie.Need-next-frame-requires Inv-loop μ-loop
@@ -63,7 +63,7 @@ loop-again c =
     let lines = give-one (args .epsilon) (args .delivery .now) (at-loop .loop .left) (at-loop .loop .left - 1) (at-loop .loop .at) (c .next-frame .result) e (c .next-frame .ensures .0) in (
       at-loop .loop .inv .0
           ∙ ap (λ (l : List ℕ). leb (length l) (at-loop .loop .room-left)) lines
-          ∙ fit-one (giveLine (frameAt (args .epsilon) (args .delivery .now) (at-loop .loop .at))) (giveLinesFrom (args .epsilon) (args .delivery .now) (at-loop .loop .left - 1) (c .next-frame .result))
+          ∙ fit-one (giveLine (frameFrom (args .epsilon) (args .delivery .now) (at-loop .loop .at))) (giveLinesFrom (args .epsilon) (args .delivery .now) (at-loop .loop .left - 1) (c .next-frame .result))
           (c .before .before .give-size .result) (at-loop .loop .room-left) (c .before .before .give-size .ensures) (c .before .if1 .left),
       omega (arith, c .next-frame .ensures .1),
     )

@@ -4,9 +4,9 @@ use Rattle.model.specs.Frame.{frameEnd}
 use Prim.Native.Nat.{suc, _+_, _-_, _*_, _≤_}
 use mathlib.Core.Path.{_≡_, refl, sym, ap, _∙_}
 use Prim.Native.Nat.{ℕ}
-use Rattle.trace.specs.Text.{giveLine, giveLines, giveLinesFrom, frameAt, Put}
+use Rattle.trace.specs.Text.{giveLine, giveLines, frameFrom, Put}
 use Rattle.trace.proofs.Putting.{Ahead, ahead, ahead-first, ahead-next, ahead-as, put-nothing, put-length}
-use Rattle.trace.proofs.Giving.{give-all, give-none, give-one}
+use Rattle.trace.proofs.Giving.{giveLinesFrom, give-all, give-none, give-one}
 use Rattle.trace.proofs.Ticks.{two-small}
 use native.Mathlib.Omega.{arith}
 use Rattle.trace.proofs.lines.put_gives.Statement.{statement}
@@ -47,7 +47,7 @@ put-give-at-requires c κs =
     let e : at-loop .loop .left ≡ suc (at-loop .loop .left - 1) = omega arith in
     let lines = give-one (args .epsilon) (args .delivery .now) (at-loop .loop .left) (at-loop .loop .left - 1) (at-loop .loop .at) next e refl in (
       (omega arith, c .before .before .before .before .before .before .pre .0),
-      ahead-first (giveLine (frameAt (args .epsilon) (args .delivery .now) (at-loop .loop .at))) (giveLinesFrom (args .epsilon) (args .delivery .now) (at-loop .loop .left - 1) next)
+      ahead-first (giveLine (frameFrom (args .epsilon) (args .delivery .now) (at-loop .loop .at))) (giveLinesFrom (args .epsilon) (args .delivery .now) (at-loop .loop .left - 1) next)
           (ahead-as lines (at-loop .loop .inv .0)),
     )
 
@@ -66,7 +66,7 @@ loop-again c =
     let at-loop = c .before .before .before .before .before .before in
     let e : at-loop .loop .left ≡ suc (at-loop .loop .left - 1) = omega arith in
     let lines = give-one (args .epsilon) (args .delivery .now) (at-loop .loop .left) (at-loop .loop .left - 1) (at-loop .loop .at) (c .next-frame .result) e (c .next-frame .ensures .0) in (
-      ahead-next (giveLine (frameAt (args .epsilon) (args .delivery .now) (at-loop .loop .at))) (giveLinesFrom (args .epsilon) (args .delivery .now) (at-loop .loop .left - 1) (c .next-frame .result))
+      ahead-next (giveLine (frameFrom (args .epsilon) (args .delivery .now) (at-loop .loop .at))) (giveLinesFrom (args .epsilon) (args .delivery .now) (at-loop .loop .left - 1) (c .next-frame .result))
           (ahead-as lines (at-loop .loop .inv .0)) (c .before .before .before .put-give-at .ensures),
       omega (arith, c .next-frame .ensures .1),
     )
