@@ -65,14 +65,14 @@ module _ (epsilon : ℕ) (queue : List Frame) (rest : List ℕ) (wide : Wide eps
 -- ---- the first i of a list with one element more
 
 module _ {A : Type 0} where
-  pub take-insert-low : (p i : ℕ) (x : A) (l : List A) → i ≤ p → i ≤ length l → take i (insertAt p x l) ≡ take i l
+  take-insert-low : (p i : ℕ) (x : A) (l : List A) → i ≤ p → i ≤ length l → take i (insertAt p x l) ≡ take i l
   unfolding insertAt
   take-insert-low p zero x l h k = refl
   take-insert-low zero (suc i) x l h k = absurd (not-suc-le-zero h)
   take-insert-low (suc p) (suc i) x [] h k = absurd (not-suc-le-zero k)
   take-insert-low (suc p) (suc i) x (y ∷ l) h k = ap (λ (m : List A). y ∷ m) (take-insert-low p i x l (omega arith) (omega arith))
 
-  pub take-insert-high : (p i : ℕ) (x : A) (l : List A) → p ≤ i → take (suc i) (insertAt p x l) ≡ insertAt p x (take i l)
+  take-insert-high : (p i : ℕ) (x : A) (l : List A) → p ≤ i → take (suc i) (insertAt p x l) ≡ insertAt p x (take i l)
   unfolding insertAt
   take-insert-high zero i x l h = refl
   take-insert-high (suc p) zero x l h = absurd (not-suc-le-zero h)
@@ -123,7 +123,7 @@ module _ {epsilon : ℕ} {s : List ℕ} {count stop index at : ℕ} (known : Fig
         ∙ ap (λ (l : List ℕ). length (joined encode some) + length l) (encode-decode epsilon frame frame-clean well) in
         omega (arith, start-new (suc i) (omega arith), start-old i few)
 
-    pub count-behind : twoAt b 0 ≡ suc count
+    count-behind : twoAt b 0 ≡ suc count
     unfolding overlay
     count-behind =
         ap (λ (l : List ℕ). twoAt l 0) placed

@@ -34,7 +34,7 @@ module _ (f : ℕ → ℕ) (from : ℕ) (starts : List ℕ) where
   abbrev changedAt : ℕ → ℕ → ℕ
   changedAt to k = cond (ltb k from) (getD starts k 0) (cond (ltb k to) (f (getD starts k 0)) (getD starts k 0))
 
-  pub changed-at : (to : ℕ) {l : List ℕ} → l ≡ changed f from to starts → (k : ℕ) → k < startPlaces → getD l k 0 ≡ changedAt to k
+  changed-at : (to : ℕ) {l : List ℕ} → l ≡ changed f from to starts → (k : ℕ) → k < startPlaces → getD l k 0 ≡ changedAt to k
   unfolding changed
   changed-at to e k h = ap (λ (m : List ℕ). getD m k 0) e ∙ getD-tab startPlaces (changedAt to) k 0 h
 
@@ -97,7 +97,7 @@ all-front starts e =
 
 module _ (s : Setup) (v : ℕ) where
   -- a smaller sum comes before
-  pub smaller-before : (f g : Frame) → sumPlace s v f < sumPlace s v g → before (s .epsilon) (s .modulus) v f g ≡ true
+  smaller-before : (f g : Frame) → sumPlace s v f < sumPlace s v g → before (s .epsilon) (s .modulus) v f g ≡ true
   unfolding sumPlace
   smaller-before f g h = due-before (s .epsilon) (s .delta) (s .modulus) v f g (omega arith)
 
@@ -144,6 +144,9 @@ module _ (s : Setup) (v : ℕ) (queue : List ℕ) where
   unfolding startsOf
   starts-by {l} long each = eq-tab l startPlaces (startOf s v queue) 0 long each
 
+  below-most : (k : ℕ) → framesBelow s v queue k ≤ twoAt queue 0
+  below-most k = omega (arith, leading-le (λ f. ltb (sumPlace s v f) k) (held (s .epsilon) queue), length-held (s .epsilon) queue)
+
   -- the entry of frame i, or of the end
   pub start-at : {i at k : ℕ} → at ≡ frameStart (s .epsilon) queue i → i ≤ twoAt queue 0
       → ((j : ℕ) → j < i → sumPlace s v (frameAt (s .epsilon) queue j) < k) → (i < twoAt queue 0 → k ≤ sumPlace s v (frameAt (s .epsilon) queue i))
@@ -183,13 +186,10 @@ figures-small s queue i limits few formed =
     (most, omega (arith, start-most (s .epsilon) queue i formed))
 
 module _ (s : Setup) (v : ℕ) (queue : List ℕ) (limits : Limits s) (sound : soundHoldback s v queue ≡ true) where
-  below-most : (k : ℕ) → framesBelow s v queue k ≤ twoAt queue 0
-  below-most k = omega (arith, leading-le (λ f. ltb (sumPlace s v f) k) (held (s .epsilon) queue), length-held (s .epsilon) queue)
-
   below-small : (k : ℕ) → (framesBelow s v queue k ≤ 1792) × (frameStart (s .epsilon) queue (framesBelow s v queue k) < startUnit)
   below-small k =
       let i : ℕ = framesBelow s v queue k in
-      figures-small s queue i limits (omega (arith, below-most k, sound-few s v queue sound)) (sound-formed s v queue i (λ j l. sound-frames s v queue sound j (omega (arith, below-most k))))
+      figures-small s queue i limits (omega (arith, below-most s v queue k, sound-few s v queue sound)) (sound-formed s v queue i (λ j l. sound-frames s v queue sound j (omega (arith, below-most s v queue k))))
 
   pub moving : {step : ℕ} {starts : List ℕ} → starts ≡ startsOf s v queue → step < startLimit → Moving starts step
   unfolding startOf
@@ -204,7 +204,7 @@ module _ (s : Setup) (v : ℕ) (queue : List ℕ) (limits : Limits s) (sound : s
       let i : ℕ = framesBelow s v queue k in
       let frame : ℕ → Frame = frameAt (s .epsilon) queue in
       let low = below-small k .1 in
-      let most : i ≤ twoAt queue 0 = below-most k in
+      let most : i ≤ twoAt queue 0 = below-most s v queue k in
       let all : every (λ g. ltb (sumPlace s v g) k) (tab i frame) ≡ true =
       ap (every (λ g. ltb (sumPlace s v g) k)) (sym (ap (take i) (held-tab (s .epsilon) queue) ∙ take-tab i (twoAt queue 0) frame most)) ∙ every-leading (λ g. ltb (sumPlace s v g) k) (held (s .epsilon) queue) in
       let index : m / startUnit ≡ i = omega arith in
@@ -278,8 +278,7 @@ module _ (s : Setup) (v : ℕ) (queue queue′ : List ℕ) (f : Frame) (place si
       rw (← place-is) (leading-mono (λ g. before (s .epsilon) (s .modulus) v g f) below (held (s .epsilon) queue) (λ g l. lt-ltb (sumPlace s v g) k (omega (arith, before-smaller s v g f l)))) in
       let e : framesBelow s v queue′ k ≡ suc i =
       ap (leading below) held-is ∙ leading-grows below place f (held (s .epsilon) queue) high (lt-ltb (sumPlace s v f) k h) in
-      let most : i ≤ twoAt queue 0 = omega (arith, leading-le below (held (s .epsilon) queue), length-held (s .epsilon) queue) in
-      rw e (omega (arith, behind i high most))
+      rw e (omega (arith, behind i high (below-most s v queue k)))
 
   pub moved-table : {starts l : List ℕ} → starts ≡ startsOf s v queue → l ≡ movedStarts (sumPlace s v f + 1) (startUnit + size) starts → l ≡ startsOf s v queue′
   moved-table {starts} {l} old e =
