@@ -5,7 +5,7 @@ ghost use Prim.Native.Nat.{_≤_};
 ghost use lib.ListN.{length};
 ghost use Rattle.holdback.specs.Starts.{startPlaces, filled, movedStarts, Moving};
 
-// An entry is so many times a number of frames, and where the next one starts.
+// An entry is a number of frames times this, and where the next one starts, which is less.
 pub const START_UNIT: usize = 131072;
 
 // Places in the table of starts, one for each sum of a sound queue's frames.
