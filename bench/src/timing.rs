@@ -7,7 +7,7 @@ use std::hint::black_box;
 use std::time::Instant;
 
 /// Rounds of a workload whose calls are timed together, and of one whose calls are timed each.
-const ROUNDS: [usize; 2] = [10_000, 250];
+const ROUNDS: [usize; 2] = [600, 16];
 /// Shelves up to this length are small: their calls are too short to be timed each.
 const SMALL: usize = 8_192;
 

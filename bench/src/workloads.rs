@@ -1,4 +1,4 @@
-//! The calls that are timed. Each workload has 16 of them.
+//! The calls that are timed. Each workload has 256 of them: of a few the processor would learn which way their branches go.
 
 use crate::yard::Yard;
 use oracle::generate::{frames, Prng, TickCase};
@@ -7,7 +7,7 @@ use oracle::node::judge;
 use oracle::{batch, Setup};
 
 /// Calls of each workload.
-const CALLS: i64 = 16;
+const CALLS: i64 = 256;
 const LARGEST: Setup = Setup { n: 16, epsilon: 16, delta: 64, modulus: 65_535, own: 0 };
 const TYPICAL: Setup = Setup { n: 4, epsilon: 2, delta: 8, modulus: 65_535, own: 0 };
 

@@ -1,6 +1,6 @@
 // Changes to a byte buffer in place: copy into it, clear a part of it, insert into and cut from the
-// bytes in use, and write a two-byte number. And what stands at a position of any bytes, and a part of
-// them.
+// bytes in use, and write a two-byte number. And what stands at a position of any bytes, one of them,
+// two or eight as a number, and a part of them.
 //
 // Each contract is one equation: the buffer at exit is a definition of `specs/Bytes.antt` at the
 // buffer at entry. Each `requires` keeps the indices within the buffer; the callers are inside this
