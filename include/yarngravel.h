@@ -51,7 +51,7 @@ extern "C" {
 #define YARNGRAVEL_BAD_FORM 10u    /* a section's count is wrong, or something is left over */
 #define YARNGRAVEL_BAD_RANGE 11u   /* the station is not below n, or r not below B */
 #define YARNGRAVEL_BAD_STAMP 12u   /* the stamp is not sound */
-#define YARNGRAVEL_LATE 13u        /* r is more than delta + epsilon behind the clock, or epsilon or more ahead of it */
+#define YARNGRAVEL_LATE 13u        /* r is more than delta + epsilon behind the clock; one that is epsilon or more ahead is read as behind */
 #define YARNGRAVEL_EARLY 14u       /* the sum is more than epsilon - 1 past the clock */
 #define YARNGRAVEL_BAD_COUNT 15u   /* a count for this clock or later is above n - 1 */
 #define YARNGRAVEL_REPEAT 16u      /* that station and r is on the shelf already */

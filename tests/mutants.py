@@ -1,60 +1,129 @@
 #!/usr/bin/env python3
-"""Applies each tests/mutants/*.edit to a copy of the definitions, without their samples: each leaves them well-formed but another
-protocol, so what is proved of them (lemmas, theory) must be refused."""
-import os
+"""Tries the edits of the definitions (tests/mutants) and of the theorems' statements (crates/theory/must-fail).
+
+A mutant leaves the definitions well-formed but another protocol, so what is proved of them (lemmas, theory) must be refused. `rt ci`
+tries that of the statements' edits. A refusal alone says little, since a proof fits a text. So each mutant and each edit of a statement
+has a violation, tests/violations/NAME.proof: a refutation of one of the demands by computation on a concrete list of calls. Under the
+edit, and without the proofs of theory, it must be proved. What the same lists come to without an edit is proved in
+crates/violations/proofs/Unedited.antt. The harmless edits of crates/model/must-fail/controls are held to what is expected of them, and
+change nothing there.
+"""
+import re
 import shutil
-import subprocess
 import sys
 import tempfile
 from concurrent.futures import ThreadPoolExecutor
 from pathlib import Path
 
-from edits import ROOT, Edit, first_error, summary
+from edits import ROOT, Edit, controls_of, first_fact, run, summary, unknown_message
 
-CRATES = ("laws", "model", "lemmas", "theory")
-
-
-def copy_definitions(work):
-    """Copies the crates that a mutant is tried with."""
-    for crate in CRATES:
-        shutil.copytree(ROOT / "crates" / crate, work / "crates" / crate)
-    listed = (ROOT / "crates.txt").read_text(encoding="utf-8").splitlines()
-    (work / "crates.txt").write_text("".join(f"{line}\n" for line in listed if line.split(":")[0] in CRATES), encoding="utf-8")
-    proofs = work / "crates" / "model" / "proofs"
-    (proofs / "Samples.antt").unlink()
-    modules = (proofs / "Lib.antt").read_text(encoding="utf-8")
-    (proofs / "Lib.antt").write_text(modules.replace("pub mod Samples\n", ""), encoding="utf-8")
+VIOLATIONS = ROOT / "tests" / "violations"
+# what a violation states; without an edit it has no proof, since the demands are proved
+STATED = re.compile(r"^violated : Demand(3|2Any|2Fresh|2Codec) → ⊥$", re.M)
+SAMPLES, UNEDITED = "model/proofs/Samples.antt", "violations/proofs/Unedited.antt"
 
 
-def check(edits):
-    """What the check of a copy of the definitions says, after some edits."""
-    with tempfile.TemporaryDirectory() as name:
-        work = Path(name)
-        copy_definitions(work)
-        for edit in edits:
-            edit.apply(work / "crates" / "model")
-        # two mutants are tried at a time, so one prover for each; the lines of the log whole, for they are read
-        settings = {**os.environ, "RT_JOBS": "1", "RT_CUT": "0"}
-        return subprocess.run(["rt", "check", "theory"], cwd=work, env=settings, text=True, stdout=subprocess.PIPE, stderr=subprocess.STDOUT).stdout
+class Copy:
+    """A copy of some crates, without some of their modules or folders, proved once; edits are tried in copies of it."""
+
+    def __init__(self, crates, without):
+        self.work, self.last = Path(tempfile.mkdtemp()), crates[-1]
+        for crate in crates:
+            shutil.copytree(ROOT / "crates" / crate, self.work / "crates" / crate, ignore=shutil.ignore_patterns("must-fail"))
+        listed = [line.split() for line in (ROOT / "crates.txt").read_text(encoding="utf-8").splitlines()]
+        kept = [[words[0], *(w for w in words[1:] if w in crates)] for words in listed if words[0][:-1] in crates]
+        (self.work / "crates.txt").write_text("".join(" ".join(words) + "\n" for words in kept), encoding="utf-8")
+        for path in (self.work / "crates" / name for name in without):
+            leave_out(path)
+        if f"rt: {self.last} proved" not in self.check(self.work):
+            sys.exit(f"mutants: {self.last} is not proved without an edit")
+
+    def check(self, work):
+        return run(["rt", "check", self.last], work)
+
+    def under(self, crate, edit, module=None):
+        """What the check says under an edit of a crate, with a module of tests beside it."""
+        with tempfile.TemporaryDirectory() as name:
+            work = Path(name)
+            shutil.copytree(self.work, work, dirs_exist_ok=True)
+            edit.apply(work / "crates" / crate)
+            if module:
+                add(module, work / "crates" / "violations")
+            return self.check(work)
 
 
-def try_mutant(path):
-    """The line to print for a mutant, and 1 if it is not refused."""
-    edit = Edit(path, ROOT / "crates" / "model")
-    log = check([edit])
+def leave_out(path):
+    """Removes a folder, or a module and the line that declares it."""
+    if path.is_dir():
+        return shutil.rmtree(path)
+    path.unlink()
+    root = path.parent / "Lib.antt"
+    return root.write_text(root.read_text(encoding="utf-8").replace(f"pub mod {path.stem}\n", ""), encoding="utf-8")
+
+
+def add(name, crate):
+    """Adds a violation to the crate of the tests, or the module of it that was left out. A violation of an edit of a promise's own words
+    comes with the same edit of its test."""
+    files = [ROOT / "crates" / UNEDITED] if name == "Unedited" else [VIOLATIONS / f"{part}.proof" for part in ("Head", name)]
+    (crate / "proofs" / f"{name}.antt").write_text("".join(path.read_text(encoding="utf-8") for path in files), encoding="utf-8")
+    with (crate / "proofs" / "Lib.antt").open("a", encoding="utf-8") as root:
+        root.write(f"pub mod {name}\n")
+    same = VIOLATIONS / f"{name}.edit"
+    if same.exists():
+        Edit(same, crate).apply(crate)
+
+
+def against_theorems(copy, edit):
+    """What the theorems say to an edit of the definitions, and whether that is proved, refused or neither."""
+    log = copy.under("model", edit)
+    strange, where = unknown_message(log), first_fact(log)
     if "rt: model proved" not in log:
-        return [f"mutant {edit.name}: the definitions are not well-formed"], 1
-    where = first_error(log)
-    if "rt: theory proved" in log or where is None:
-        return [f"mutant {edit.name}: NOT REFUSED"], 1
-    return [f"mutant {edit.name}: refused at {where[:160]}"], 0
+        return "the definitions are not well-formed", None
+    if strange:
+        return f"unknown message: {strange}", None
+    if "rt: theory proved" in log:
+        return "proved", "proved"
+    return (f"refused at {where}", "refused") if where else (f"neither proved nor refused: {log[-200:]}", None)
+
+
+def try_definitions(copy, edit):
+    """The line to print for a mutant or a control, and 1 if it is not what is expected of it."""
+    said, found = against_theorems(copy, edit)
+    right = found == edit.expected
+    kind, fault = "control" if edit.control else "mutant", "" if right else f"NOT {edit.expected.upper()}; "
+    return [f"{kind} {edit.name}: {fault}{said[:160]}"], 0 if right else 1
+
+
+def try_tests(copy, crate, edit, module):
+    """The line to print for what the tests come to under an edit, and 1 if a module of them is not proved."""
+    right = f"rt: {copy.last} proved" in copy.under(crate, edit, module)
+    said = "the lists come to the same" if edit.control else "a demand is violated"
+    return [f"tests {edit.name}: {'' if right else 'NOT PROVED that '}{said}"], 0 if right else 1
 
 
 def main():
-    if "rt: theory proved" not in check([]):
-        sys.exit("mutants: the theorems are not proved without one")
+    model, theory = ROOT / "crates" / "model", ROOT / "crates" / "theory"
+    mutants = [Edit(path, model) for path in sorted((ROOT / "tests" / "mutants").glob("*.edit"))]
+    controls = controls_of(model)
+    statements = [Edit(path, theory) for path in sorted((theory / "must-fail").glob("*.edit"))]
+    strange = [path.stem for path in VIOLATIONS.glob("*.proof") if path.stem != "Head" and not STATED.search(path.read_text(encoding="utf-8"))]
+    alone = {path.stem for path in VIOLATIONS.glob("*.proof")} - {"Head", *(edit.name for edit in mutants + statements)}
+    if strange or alone:
+        sys.exit(f"mutants: violations that refute no demand: {strange}; without an edit: {sorted(alone)}")
     with ThreadPoolExecutor(2) as pool:
-        summary("mutants", pool.map(try_mutant, sorted((ROOT / "tests" / "mutants").glob("*.edit"))))
+        theorems, tests = pool.map(lambda parts: Copy(*parts), (
+            (("laws", "model", "lemmas", "theory"), (SAMPLES,)),
+            (("laws", "model", "theory", "violations"), (SAMPLES, "theory/proofs", UNEDITED)),
+        ))
+        answers = [pool.submit(try_definitions, theorems, edit) for edit in mutants + controls]
+        answers += [pool.submit(try_tests, tests, "model", edit, "Unedited") for edit in controls]
+        answers += [pool.submit(try_tests, tests, "model", edit, edit.name) for edit in mutants]
+        answers += [pool.submit(try_tests, tests, "theory", edit, edit.name) for edit in statements]
+        try:
+            summary("mutants, controls and their tests", (answer.result() for answer in answers))
+        finally:
+            shutil.rmtree(theorems.work)
+            shutil.rmtree(tests.work)
 
 
 main()

@@ -2,7 +2,7 @@
 use Prim.Native.Nat.{ℕ, zero, suc, _+_, _*_, _-_, _≤_, _<_}
 use native.Mathlib.Omega.{arith}
 use mathlib.Core.Path.{_≡_, refl, sym, ap, ap₂, _∙_}
-use mathlib.Core.Bool.{Bool, true, false, cond}
+use mathlib.Core.Bool.{Bool, true, false, _&&_, cond}
 use mathlib.Core.List.{List, [], _∷_, _++_, append-nil}
 use lib.Dec.{eqb}
 use lib.ListN.{length, take, drop, getD, set, length-drop, drop-of-length-le}
@@ -10,18 +10,18 @@ use lib.Seq.{take-all, length-take-le}
 use borrow.Author.Tests.{eq-eqb, ne-eqb}
 use Rattle.laws.specs.Lists.{padded, select}
 use Rattle.laws.proofs.Lists.{select-length-le}
-use Rattle.model.specs.Setup.{Setup, inLimits, width}
+use Rattle.model.specs.Setup.{Setup, inLimits, isMember, width, longestPayload}
 use Rattle.model.specs.Timestamp.{Timestamp, widened, countOwn}
 use Rattle.model.specs.Frame.{twoBytes, twoAt, encode, decode, payloadCountAt}
 use Rattle.model.specs.Batch.{batchEntries}
 use Rattle.model.specs.Question.{firstNo, askSetup, frameQuestions}
 use Rattle.model.specs.Codec.{ReadAnswer, readQuestions, readBy, read, frameOf, writeQuestions, writeBy, writeFrame, write}
-use Rattle.model.specs.Tick.{Input, Answer, Output, callQuestions, refusal, heardOf, newStamp, sentBytes, takenCount, deliveredOf, acceptance, tick}
+use Rattle.model.specs.Tick.{Input, Answer, Output, callQuestions, refusal, opening, heardOf, newStamp, sentBytes, takenCount, deliveredOf, acceptance, tick}
 use Rattle.lemmas.proofs.Bounds.{Limits, Sound, FrameOk}
-use Rattle.lemmas.proofs.Questions.{limits-from, first-yes, other-yes, read-number}
+use Rattle.lemmas.proofs.Questions.{setup-from, first-yes, other-yes, read-number}
 use Rattle.model.specs.Holdback.{passes}
 use Rattle.lemmas.proofs.RoundTrip.{formed-from, passes-decode, passes-formed}
-use Rattle.lemmas.proofs.OneTick.{Accepted, accepted-call, no-question-fails, tick-by, opening, new-sound, hear-length, delivered-most}
+use Rattle.lemmas.proofs.OneTick.{Accepted, accepted-call, no-question-fails, tick-by, new-sound, hear-length, delivered-most}
 use Rattle.splice.specs.Bytes.{pasted}
 use Rattle.batch.specs.Walk.{countOf}
 use Rattle.batch.proofs.Walk.{batch-count}
@@ -30,7 +30,7 @@ use Rattle.node.proofs.Finish.{Call, call-passed}
 use Rattle.frame.proofs.Asking.{room-of}
 use Rattle.frame.proofs.Laying.{length-frame}
 use Rattle.frame.specs.Lay.{Room}
-use Rattle.abi.specs.Packing.{tablesAt, tablesBytes, answerWord, placeOf, readWord, readTables, packed, returned}
+use Rattle.abi.specs.Packing.{tablesIn, tablesBytes, answerWord, placeOf, readWord, readTables, packed, returned}
 
 -- ---- the tables
 
@@ -41,8 +41,8 @@ padded-full n l e =
     rw none (append-nil l)
 
 pub tables-read : (s : List ℕ) (r c : ℕ) (kn : List ℕ) → length s ≡ 35 → r ≡ twoAt s 0 → c ≡ getD s 2 0 → kn ≡ padded 32 (take 32 (drop 3 s))
-    → record { r = r; c = c; kn = kn } ≡ tablesAt s
-unfolding tablesAt
+    → record { r = r; c = c; kn = kn } ≡ tablesIn s
+unfolding tablesIn
 tables-read s r c kn long er ec ek =
     let all : length (take 32 (drop 3 s)) ≡ 32 = length-take-le 32 (drop 3 s) (omega (arith, length-drop 3 s)) in
     rw (er, ec, ek, padded-full 32 (take 32 (drop 3 s)) all)
@@ -69,14 +69,14 @@ unfolding tablesBytes twoBytes
 tables-written s l₁ l₂ t long wide e₁ e₂ =
     e₂ ∙ (ap (λ (l : List ℕ). pasted (set l 2 (t .c)) 3 (t .kn)) e₁ ∙ written-parts s _ _ (t .c) (t .kn) (parts-of s long) wide)
 
-same-parts : (s : List ℕ) → Parts s → Bytes s → tablesBytes (tablesAt s) ≡ s
-unfolding tablesBytes tablesAt
+same-parts : (s : List ℕ) → Parts s → Bytes s → tablesBytes (tablesIn s) ≡ s
+unfolding tablesBytes tablesIn
 same-parts s (parts a b c rest long) bytes =
     let two : twoBytes (twoAt (a ∷ b ∷ c ∷ rest) 0) ≡ a ∷ b ∷ [] = sym (front-two (a ∷ b ∷ c ∷ rest) bytes (omega arith)) in
     ap₂ _++_ two (ap (λ (l : List ℕ). c ∷ l) (take-all 32 rest (omega arith)))
 
 -- tables that were read from bytes, written back
-pub tables-same : (s : List ℕ) → length s ≡ 35 → Bytes s → tablesBytes (tablesAt s) ≡ s
+pub tables-same : (s : List ℕ) → length s ≡ 35 → Bytes s → tablesBytes (tablesIn s) ≡ s
 tables-same s long bytes = same-parts s (parts-of s long) bytes
 
 -- ---- the tick's answer
@@ -93,8 +93,8 @@ sent-most : (i : Input) → Accepted i → length (sentBytes i) < 256
 unfolding sentBytes
 sent-most i a = go (i .send)
   where
-    go : (b : Bool) → length (cond b (encode (frameOf (i .setup .epsilon) (i .setup .own) (newStamp i) (i .payload))) []) < 256
-    go true = omega (arith, length-frame (i .setup .epsilon) (i .setup .own) (newStamp i) (i .payload), a .payload-short, a .limits .epsilon-most)
+    go : (b : Bool) → length (cond b (encode (frameOf (i .setup .epsilon) (i .own) (newStamp i) (i .payload))) []) < 256
+    go true = omega (arith, length-frame (i .setup .epsilon) (i .own) (newStamp i) (i .payload), a .payload-short, a .limits .epsilon-most)
     go false = omega arith
 
 pub answer-small : (i : Input) (o : Output) → o ≡ tick i → o .answer .number ≡ 0 → getD (i .batch) 0 0 < 256 → Small (o .answer)
@@ -162,70 +162,71 @@ accepted-packed i o word tables e ew et =
 refused-number-word : (k x : ℕ) → suc k ≡ suc k + 256 * (0 + 256 * (cond (eqb (suc k) 0) x 0 + 65536 * 0))
 refused-number-word k x = rw (ne-eqb (suc k) 0 (λ e. omega arith)) (omega arith)
 
-module _ (s : Setup) (bytes : List ℕ) where
+module _ (s : Setup) (own : ℕ) (bytes : List ℕ) where
   -- what an accepted frame has
   pub record Fair : Type 0 where
-    pub station-small : read s bytes .station < 256
-    pub r-small : read s bytes .stamp .r < 65536
-    pub c-small : read s bytes .stamp .c < 256
-    pub narrow : s .epsilon ≤ 16
-    pub payload-short : length (read s bytes .payload) ≤ 32
-    pub place : length bytes ≡ 7 + 2 * s .epsilon + length (read s bytes .payload)
+    pub station-small : read s own bytes .station < 256
+    pub r-small : read s own bytes .stamp .r < 65536
+    pub c-small : read s own bytes .stamp .c < 256
+    pub front-short : payloadCountAt (s .epsilon) + 1 < 65536
+    pub payload-short : length (read s own bytes .payload) ≤ longestPayload
+    pub place : length bytes ≡ payloadCountAt (s .epsilon) + 1 + length (read s own bytes .payload)
 
-  pub fair : read s bytes .number ≡ 0 → Fair
+  pub fair : read s own bytes .number ≡ 0 → Fair
   unfolding readQuestions askSetup read widened passes decode payloadCountAt width
   fair e =
-      let q = read-number s bytes e in
-      let lim : Limits s = limits-from s (first-yes (inLimits s) 0 (frameQuestions s bytes) q) in
-      let rest : firstNo (frameQuestions s bytes) ≡ 0 = other-yes (inLimits s) 0 (frameQuestions s bytes) q in
+      let q = read-number s own bytes e in
+      let valid : Bool = inLimits s && isMember s own in
+      let lim : Limits s = setup-from s own (first-yes valid 0 (frameQuestions s bytes) q) .0 in
+      let rest : firstNo (frameQuestions s bytes) ≡ 0 = other-yes valid 0 (frameQuestions s bytes) q in
       let passed : passes s bytes ≡ true = eq-eqb (firstNo (frameQuestions s bytes)) 0 rest in
       let ok : FrameOk s (decode (s .epsilon) bytes) = passes-decode s bytes lim passed in
       let shape = formed-from (s .epsilon) bytes (passes-formed s bytes passed) in
-      let is : read s bytes ≡ readBy 0 (decode (s .epsilon) bytes) = ap (λ (m : ℕ). readBy m (decode (s .epsilon) bytes)) q in
-      let long : length (decode (s .epsilon) bytes .payload) ≡ length bytes - (6 + 2 * s .epsilon + 1) = length-drop (6 + 2 * s .epsilon + 1) bytes in
+      let is : read s own bytes ≡ readBy 0 (decode (s .epsilon) bytes) = ap (λ (m : ℕ). readBy m (decode (s .epsilon) bytes)) q in
+      let long : length (decode (s .epsilon) bytes .payload) ≡ length bytes - (payloadCountAt (s .epsilon) + 1) = length-drop (payloadCountAt (s .epsilon) + 1) bytes in
       let station-is = ap (λ (a : ReadAnswer). a .station) is in
       let r-is = ap (λ (a : ReadAnswer). a .stamp .r) is in
       let c-is = ap (λ (a : ReadAnswer). a .stamp .c) is in
-      let payload-is : length (read s bytes .payload) ≡ length (decode (s .epsilon) bytes .payload) = ap (λ (a : ReadAnswer). length (a .payload)) is in
+      let payload-is : length (read s own bytes .payload) ≡ length (decode (s .epsilon) bytes .payload) = ap (λ (a : ReadAnswer). length (a .payload)) is in
       record {
         station-small = omega (arith, ok .station-below, lim .n-most);
         r-small = omega (arith, ok .r-below, lim .modulus-most);
         c-small = omega (arith, ok .sound .close, lim .epsilon-most);
-        narrow = lim .epsilon-most;
+        front-short = omega (arith, lim .epsilon-most);
         payload-short = omega (arith, ok .short);
         place = omega arith;
       }
 
-  pub read-refused-word : (number : ℕ) → number ≡ read s bytes .number → (number ≡ 0 → ⊥) → number ≡ readWord (s .epsilon) (read s bytes)
+  pub read-refused-word : (number : ℕ) → number ≡ read s own bytes .number → (number ≡ 0 → ⊥) → number ≡ readWord (s .epsilon) (read s own bytes)
   unfolding readWord placeOf read
-  read-refused-word number e h = go (firstNo (readQuestions s bytes)) e
+  read-refused-word number e h = go (firstNo (readQuestions s own bytes)) e
     where
       go : (k : ℕ) → number ≡ readBy k (decode (s .epsilon) bytes) .number → number ≡ readWord (s .epsilon) (readBy k (decode (s .epsilon) bytes))
       go zero q = absurd (h q)
       go (suc k) q = q ∙ refused-number-word k (payloadCountAt (s .epsilon) + 1)
 
-  pub read-refused-tables : (tables : List ℕ) (number : ℕ) → number ≡ read s bytes .number → (number ≡ 0 → ⊥) → tables ≡ readTables (read s bytes) tables
+  pub read-refused-tables : (tables : List ℕ) (number : ℕ) → number ≡ read s own bytes .number → (number ≡ 0 → ⊥) → tables ≡ readTables (read s own bytes) tables
   unfolding readTables
-  read-refused-tables tables number e h = rw (ne-eqb (read s bytes .number) 0 (λ z. h (e ∙ z)))
+  read-refused-tables tables number e h = rw (ne-eqb (read s own bytes .number) 0 (λ z. h (e ∙ z)))
 
-  pub read-word : read s bytes .number ≡ 0 → (station size at : ℕ) → station ≡ read s bytes .station → at ≡ 7 + 2 * s .epsilon → size ≡ length (read s bytes .payload)
-      → 256 * (station + 256 * (at + 65536 * size)) ≡ readWord (s .epsilon) (read s bytes)
-  unfolding readWord placeOf payloadCountAt width
+  pub read-word : read s own bytes .number ≡ 0 → (station size at : ℕ) → station ≡ read s own bytes .station → at ≡ payloadCountAt (s .epsilon) + 1 → size ≡ length (read s own bytes .payload)
+      → 256 * (station + 256 * (at + 65536 * size)) ≡ readWord (s .epsilon) (read s own bytes)
+  unfolding readWord placeOf
   read-word e station size at es ea ep =
-      rw (eq-eqb (read s bytes .number) 0 e) (omega (arith, e, es, ea, ep))
+      rw (eq-eqb (read s own bytes .number) 0 e) (omega (arith, e, es, ea, ep))
 
-  pub read-tables : (tables tables′ : List ℕ) → read s bytes .number ≡ 0 → tables′ ≡ tablesBytes (read s bytes .stamp) → tables′ ≡ readTables (read s bytes) tables
+  pub read-tables : (tables tables′ : List ℕ) → read s own bytes .number ≡ 0 → tables′ ≡ tablesBytes (read s own bytes .stamp) → tables′ ≡ readTables (read s own bytes) tables
   unfolding readTables
-  read-tables tables tables′ e h = rw (eq-eqb (read s bytes .number) 0 e) h
+  read-tables tables tables′ e h = rw (eq-eqb (read s own bytes .number) 0 e) h
 
 -- ---- the writer's answer
 
-pub write-small : (s : Setup) (station : ℕ) (t : Timestamp) (payload buffer : List ℕ) → write s station t payload buffer .size < 65536
+pub write-small : (s : Setup) (own station : ℕ) (t : Timestamp) (payload buffer : List ℕ) → write s own station t payload buffer .size < 65536
 unfolding writeFrame
-write-small s station t payload buffer = go (firstNo (writeQuestions s station t payload buffer)) refl
+write-small s own station t payload buffer = go (firstNo (writeQuestions s own station t payload buffer)) refl
   where
-    go : (k : ℕ) → firstNo (writeQuestions s station t payload buffer) ≡ k → writeBy k (frameOf (s .epsilon) station t payload) buffer .size < 65536
+    go : (k : ℕ) → firstNo (writeQuestions s own station t payload buffer) ≡ k → writeBy k (frameOf (s .epsilon) station t payload) buffer .size < 65536
     go zero q =
-        let room : Room (s .epsilon) station t payload buffer = room-of s station t payload buffer q in
+        let room : Room (s .epsilon) station t payload buffer = room-of s own station t payload buffer q in
         omega (arith, length-frame (s .epsilon) station t payload, room .narrow, room .payload-fits)
     go (suc k) q = omega arith

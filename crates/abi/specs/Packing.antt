@@ -16,24 +16,25 @@ abbrev pub tablesLength : ℕ
 tablesLength = 35
 
 -- the tables that stand in those bytes
-unfoldable pub tablesAt : List ℕ → Timestamp
-tablesAt s = record { r = twoAt s 0; c = getD s 2 0; kn = take widest (drop 3 s) }
+unfoldable pub tablesIn : List ℕ → Timestamp
+tablesIn s = record { r = twoAt s 0; c = getD s 2 0; kn = take widest (drop 3 s) }
 
 -- the bytes of tables
 unfoldable pub tablesBytes : Timestamp → List ℕ
 tablesBytes t = twoBytes (t .r) ++ (t .c ∷ t .kn)
 
 -- a setup of the numbers of a call
-abbrev pub setupBy : ℕ → ℕ → ℕ → ℕ → ℕ → Setup
-setupBy n epsilon delta modulus own = record { n = n; epsilon = epsilon; delta = delta; modulus = modulus; own = own }
+abbrev pub setupBy : ℕ → ℕ → ℕ → ℕ → Setup
+setupBy n epsilon delta modulus = record { n = n; epsilon = epsilon; delta = delta; modulus = modulus }
 
 -- the arguments of a tick
-abbrev pub inputBy : Setup → ℕ → List ℕ → List ℕ → List ℕ → Bool → List ℕ → List ℕ → List ℕ → List ℕ → Input
-inputBy setup clock tables holdback batch send payload outgoing verdicts delivery =
+abbrev pub inputBy : Setup → ℕ → ℕ → List ℕ → List ℕ → List ℕ → Bool → List ℕ → List ℕ → List ℕ → List ℕ → Input
+inputBy setup own clock tables holdback batch send payload outgoing verdicts delivery =
     record {
       setup = setup;
+      own = own;
       clock = clock;
-      tables = tablesAt tables;
+      tables = tablesIn tables;
       holdback = holdback;
       batch = batch;
       send = send;

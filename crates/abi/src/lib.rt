@@ -8,11 +8,11 @@ use packing::pack_reading;
 use packing::pack_written;
 use packing::put_tables;
 use packing::tables_of;
-use timestamp::Setup;
+use setup::Setup;
 ghost use mathlib.Core.Path.{_≡_};
 ghost use Rattle.model.specs.Codec as codec;
 ghost use Rattle.model.specs.Tick as model;
-ghost use Rattle.abi.specs.Packing.{setupBy, inputBy, tablesAt, returned, packed, readWord, readTables, writeWord};
+ghost use Rattle.abi.specs.Packing.{setupBy, inputBy, tablesIn, returned, packed, readWord, readTables, writeWord};
 
 // One tick. The number in bits 0 to 7, 01's mend in 8 to 15, frames taken in 16 to 23, the outgoing length in 24 to 31,
 // frames handed out in 32 to 47. A refusal is the number alone, and changes nothing.
@@ -34,7 +34,7 @@ pub extern "C" fn yarngravel_tick(
     delivery: &mut [u8],
 ) -> u64
     ensures { λ r. ⌜ returned r (now (tables .exit)) (now (holdback .exit)) (now (outgoing .exit)) (now (verdicts .exit)) (now (delivery .exit))
-        ≡ packed (model.tick (inputBy (setupBy n epsilon delta modulus own) clock (now (tables .entry)) (now (holdback .entry))
+        ≡ packed (model.tick (inputBy (setupBy n epsilon delta modulus) own clock (now (tables .entry)) (now (holdback .entry))
         (now (batch .entry)) send (now (payload .entry)) (now (outgoing .entry)) (now (verdicts .entry)) (now (delivery .entry)))) ⌝ }
 {
     let setup = Setup {
@@ -42,11 +42,11 @@ pub extern "C" fn yarngravel_tick(
         epsilon,
         delta,
         modulus,
-        own,
     };
     let given = tables_of(tables);
     let answer = tick(
         setup,
+        own,
         clock as usize,
         given,
         holdback,
@@ -77,24 +77,23 @@ pub extern "C" fn yarngravel_read(
     frame: &[u8],
     tables: &mut [u8; 35],
 ) -> u64
-    ensures { λ r. ⌜ r ≡ readWord epsilon (codec.read (setupBy n epsilon delta modulus own) (now (frame .entry))) ⌝ }
+    ensures { λ r. ⌜ r ≡ readWord epsilon (codec.read (setupBy n epsilon delta modulus) own (now (frame .entry))) ⌝ }
     ensures { λ _. ⌜ now (tables .exit)
-        ≡ readTables (codec.read (setupBy n epsilon delta modulus own) (now (frame .entry))) (now (tables .entry)) ⌝ }
+        ≡ readTables (codec.read (setupBy n epsilon delta modulus) own (now (frame .entry))) (now (tables .entry)) ⌝ }
 {
     let setup = Setup {
         n,
         epsilon,
         delta,
         modulus,
-        own,
     };
-    let reading = frame::read(setup, frame);
+    let reading = frame::read(setup, own, frame);
     if reading.number != 0 {
         return reading.number as u64;
     }
     let stamp = reading.stamp;
     put_tables(tables, stamp);
-    let payload = frame::payload_of(setup, frame);
+    let payload = frame::payload_of(setup, own, frame);
     let size = payload.len();
     pack_reading(reading.station, frame.len() - size, size)
 }
@@ -112,19 +111,18 @@ pub extern "C" fn yarngravel_write(
     payload: &[u8],
     out: &mut [u8],
 ) -> u64
-    ensures { λ r. ⌜ r ≡ writeWord (codec.write (setupBy n epsilon delta modulus own) station
-        (tablesAt (now (tables .entry))) (now (payload .entry)) (now (out .entry))) ⌝ }
-    ensures { λ _. ⌜ now (out .exit) ≡ codec.write (setupBy n epsilon delta modulus own) station
-        (tablesAt (now (tables .entry))) (now (payload .entry)) (now (out .entry)) .buffer ⌝ }
+    ensures { λ r. ⌜ r ≡ writeWord (codec.write (setupBy n epsilon delta modulus) own station
+        (tablesIn (now (tables .entry))) (now (payload .entry)) (now (out .entry))) ⌝ }
+    ensures { λ _. ⌜ now (out .exit) ≡ codec.write (setupBy n epsilon delta modulus) own station
+        (tablesIn (now (tables .entry))) (now (payload .entry)) (now (out .entry)) .buffer ⌝ }
 {
     let setup = Setup {
         n,
         epsilon,
         delta,
         modulus,
-        own,
     };
     let stamp = tables_of(tables);
-    let written = frame::write(setup, station as usize, stamp, payload, out);
+    let written = frame::write(setup, own, station as usize, stamp, payload, out);
     pack_written(written.number, written.size)
 }

@@ -7,15 +7,15 @@ ghost use Prim.Native.Nat.{_+_, _*_, _<_};
 ghost use lib.ListN.{length};
 ghost use Rattle.timestamp.specs.Views.{stampOf};
 ghost use Rattle.node.specs.Answers.{answerOf};
-ghost use Rattle.abi.specs.Packing.{tablesLength, tablesAt, tablesBytes, answerWord};
+ghost use Rattle.abi.specs.Packing.{tablesLength, tablesIn, tablesBytes, answerWord};
 
 // The tables that stand in the bytes: r in two, the low one first, c, and 32 counts. Written back they are those bytes.
 pub fn tables_of(s: &[u8]) -> Timestamp
     requires { ⌜ length (now s) ≡ tablesLength ⌝ }
-    ensures { λ r. ⌜ stampOf r ≡ tablesAt (now (s .entry)) ⌝ }
+    ensures { λ r. ⌜ stampOf r ≡ tablesIn (now (s .entry)) ⌝ }
     ensures { λ r. ⌜ tablesBytes (stampOf r) ≡ now (s .entry) ⌝ }
 {
-    let kn = counts_of(s, 3, 32);
+    let kn = counts_of(s, 3, Timestamp::WIDTH);
     let r = splice::two_at(s, 0);
     let c = s[2] as usize;
     Timestamp { r, c, kn }

@@ -24,5 +24,5 @@ unfoldable pub stepAt : List ℕ → ℕ → Step
 stepAt s at = record { start = min (at + 1) (length s); end = nextAt s at }
 
 -- the walker at the next entry
-abbrev pub advanced : Walker → Walker
-advanced w = record { src = w .src; at = nextAt (now (w .src)) (w .at) }
+abbrev pub movedOn : Walker → Walker
+movedOn w = record { src = w .src; at = nextAt (now (w .src)) (w .at) }

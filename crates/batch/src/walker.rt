@@ -3,7 +3,7 @@ use crate::Step;
 use crate::next_at;
 use crate::step_at;
 ghost use mathlib.Core.Path.{_≡_};
-ghost use Rattle.batch.specs.Walk.{stepAt, advanced};
+ghost use Rattle.batch.specs.Walk.{stepAt, movedOn};
 
 // 01: "A walk over a bundle remembers the bundle and its position".
 pub struct Walker<'a> {
@@ -20,7 +20,7 @@ pub fn step<'a>(w: Walker<'a>) -> Step
 
 // At the next entry.
 pub fn advance<'a>(w: Walker<'a>) -> Walker<'a>
-    ensures { λ r. ⌜ r ≡ advanced (w .entry) ⌝ }
+    ensures { λ r. ⌜ r ≡ movedOn (w .entry) ⌝ }
 {
     let at = next_at(w.src, w.at);
     Walker { src: w.src, at }

@@ -1,6 +1,6 @@
 -- The questions of reader and writer, one by one: a question that gets a yes is passed over, one that gets a no answers. Assumes nothing.
 use mathlib.Core.Path.{_≡_, refl, ap, _∙_}
-use mathlib.Core.Bool.{true, false, _&&_}
+use mathlib.Core.Bool.{Bool, true, false, _&&_}
 use mathlib.Core.List.{List, [], _∷_}
 use Prim.Native.Nat.{ℕ, zero, suc, _+_, _*_, _-_, _≤_, _<_}
 use native.Mathlib.Omega.{arith}
@@ -10,27 +10,31 @@ use lib.Seq.{take-all}
 use borrow.Author.Tests.{lt-ltb, le-ltb, lt-leb, le-leb, ltb-true, leb-true}
 use Rattle.laws.specs.Lists.{overlay}
 use Rattle.laws.proofs.Numbers.{and-left, and-right}
-use Rattle.model.specs.Setup.{Setup, inLimits, width}
+use Rattle.model.specs.Setup.{Setup, inLimits, isMember, width}
 use Rattle.model.specs.Timestamp.{Timestamp, soundTimestamp, trimmed, widened}
-use Rattle.model.specs.Frame.{Frame, wellFormed, decode, encode, payloadCountAt}
+use Rattle.model.specs.Frame.{Frame, wellFormed, countsOf, decode, encode, payloadCountAt}
 use Rattle.model.specs.Question.{Question, ask, firstNo, askSetup, askForm, askRange, askStamp, frameQuestions}
 use Rattle.model.specs.Codec.{readQuestions, noTimestamp, readBy, read, frameOf, askPayload, writeFrameQuestions, writeBy, writeFrame, writeQuestions}
 use Rattle.lemmas.proofs.Bounds.{Limits}
-use Rattle.lemmas.proofs.Questions.{yes-cons, no-cons, limits-from}
+use Rattle.lemmas.proofs.Questions.{yes-cons, no-cons, setup-from}
 use Rattle.lemmas.proofs.Counts.{trimmed-widened}
 use Rattle.lemmas.proofs.RoundTrip.{none-no, formed-from, decode-wide}
-use Rattle.timestamp.specs.Views.{counted}
+use Rattle.timestamp.specs.Views.{ofCounts}
 use Rattle.frame.specs.Lay.{Room}
 use Rattle.frame.proofs.Laying.{length-frame}
 
 -- ---- 1
 
-module _ (s : Setup) (qs : List Question) where
-  pub setup-no : inLimits s ≡ false → firstNo (askSetup s ∷ qs) ≡ 1
+-- the setup and the own number in their limits
+abbrev pub valid : Setup → ℕ → Bool
+valid s own = inLimits s && isMember s own
+
+module _ (s : Setup) (own : ℕ) (qs : List Question) where
+  pub setup-no : valid s own ≡ false → firstNo (askSetup s own ∷ qs) ≡ 1
   unfolding askSetup
   setup-no h = no-cons _ 1 qs h
 
-  pub setup-right : inLimits s ≡ true → firstNo (askSetup s ∷ qs) ≡ firstNo qs
+  pub setup-right : valid s own ≡ true → firstNo (askSetup s own ∷ qs) ≡ firstNo qs
   unfolding askSetup
   setup-right h = yes-cons _ 1 qs h
 
@@ -72,7 +76,7 @@ module _ (s : Setup) (bytes : List ℕ) where
 
 -- the counts of a frame, as the code lends them
 pub counts-part : (epsilon : ℕ) (s : List ℕ) → take (6 + 2 * epsilon - 6) (drop 6 s) ≡ decode epsilon s .stamp .kn
-unfolding decode width
+unfolding decode countsOf width
 counts-part epsilon s = let e : 6 + 2 * epsilon - 6 ≡ 2 * epsilon = omega arith in ap (λ (n : ℕ). take n (drop 6 s)) e
 
 -- they are all of its counts
@@ -82,7 +86,7 @@ counts-long epsilon s w = ap length (counts-part epsilon s) ∙ decode-wide epsi
 
 -- and with c they decide whether its stamp is sound
 pub counts-sound : (n epsilon c : ℕ) (s : List ℕ) → c ≡ decode epsilon s .stamp .c
-    → soundTimestamp n epsilon (counted c (take (6 + 2 * epsilon - 6) (drop 6 s))) ≡ soundTimestamp n epsilon (decode epsilon s .stamp)
+    → soundTimestamp n epsilon (ofCounts c (take (6 + 2 * epsilon - 6) (drop 6 s))) ≡ soundTimestamp n epsilon (decode epsilon s .stamp)
 unfolding soundTimestamp
 counts-sound n epsilon c s e = rw (counts-part epsilon s, e)
 
@@ -93,21 +97,21 @@ stamp-kept epsilon s h w = trimmed-widened epsilon (decode epsilon s .stamp) h (
 
 -- ---- the reader
 
-module _ (s : Setup) (bytes : List ℕ) where
+module _ (s : Setup) (own : ℕ) (bytes : List ℕ) where
   -- what an accepted frame has
-  pub read-passed : firstNo (readQuestions s bytes) ≡ 0 → (inLimits s ≡ true) × (wellFormed (s .epsilon) bytes ≡ true)
+  pub read-passed : firstNo (readQuestions s own bytes) ≡ 0 → (inLimits s ≡ true) × (wellFormed (s .epsilon) bytes ≡ true)
   unfolding readQuestions askSetup frameQuestions askForm
   read-passed e =
-      let p = none-no (inLimits s) 0 (frameQuestions s bytes) e in
-      (p .0, none-no (wellFormed (s .epsilon) bytes) 9 (askRange s (decode (s .epsilon) bytes) ∷ askStamp s (decode (s .epsilon) bytes) ∷ []) (p .1) .0)
+      let p = none-no (valid s own) 0 (frameQuestions s bytes) e in
+      (and-left (inLimits s) (isMember s own) (p .0), none-no (wellFormed (s .epsilon) bytes) 9 (askRange s (decode (s .epsilon) bytes) ∷ askStamp s (decode (s .epsilon) bytes) ∷ []) (p .1) .0)
 
-  module _ (number : ℕ) (e : number ≡ firstNo (readQuestions s bytes)) where
+  module _ (number : ℕ) (e : number ≡ firstNo (readQuestions s own bytes)) where
     pub read-accepted : number ≡ 0
-        → read s bytes ≡ record { number = 0; station = decode (s .epsilon) bytes .station; stamp = widened (decode (s .epsilon) bytes .stamp); payload = decode (s .epsilon) bytes .payload }
+        → read s own bytes ≡ record { number = 0; station = decode (s .epsilon) bytes .station; stamp = widened (decode (s .epsilon) bytes .stamp); payload = decode (s .epsilon) bytes .payload }
     unfolding read
     read-accepted z = rw (← e, z)
 
-    pub read-refused : (number ≡ 0 → ⊥) → read s bytes ≡ record { number = number; station = 0; stamp = noTimestamp; payload = [] }
+    pub read-refused : (number ≡ 0 → ⊥) → read s own bytes ≡ record { number = number; station = 0; stamp = noTimestamp; payload = [] }
     unfolding read
     read-refused z = rw (← e) (go number z)
       where
@@ -124,7 +128,7 @@ payload-part epsilon s =
 
 -- ---- the writer: its questions from each on
 
-module _ (s : Setup) (f : Frame) (buffer : List ℕ) where
+module _ (s : Setup) (own : ℕ) (f : Frame) (buffer : List ℕ) where
   abbrev pub fromRoom : List Question
   fromRoom = ask (leb (length (encode f)) (length buffer)) 6 ∷ []
 
@@ -134,18 +138,18 @@ module _ (s : Setup) (f : Frame) (buffer : List ℕ) where
   abbrev pub fromRange : List Question
   fromRange = askRange s f ∷ fromStamp
 
-  pub limits-no : inLimits s ≡ false → firstNo (writeFrameQuestions s f buffer) ≡ 1
+  pub limits-no : valid s own ≡ false → firstNo (writeFrameQuestions s own f buffer) ≡ 1
   unfolding writeFrameQuestions
-  limits-no h = setup-no s (askPayload (f .payload) ∷ fromRange) h
+  limits-no h = setup-no s own (askPayload (f .payload) ∷ fromRange) h
 
-  module _ (h : inLimits s ≡ true) where
-    pub payload-no : 32 < length (f .payload) → firstNo (writeFrameQuestions s f buffer) ≡ 4
+  module _ (h : valid s own ≡ true) where
+    pub payload-no : 32 < length (f .payload) → firstNo (writeFrameQuestions s own f buffer) ≡ 4
     unfolding writeFrameQuestions askPayload
-    payload-no k = setup-right s (askPayload (f .payload) ∷ fromRange) h ∙ no-cons _ 4 fromRange (lt-leb (length (f .payload)) 32 k)
+    payload-no k = setup-right s own (askPayload (f .payload) ∷ fromRange) h ∙ no-cons _ 4 fromRange (lt-leb (length (f .payload)) 32 k)
 
-    pub payload-right : length (f .payload) ≤ 32 → firstNo (writeFrameQuestions s f buffer) ≡ firstNo fromRange
+    pub payload-right : length (f .payload) ≤ 32 → firstNo (writeFrameQuestions s own f buffer) ≡ firstNo fromRange
     unfolding writeFrameQuestions askPayload
-    payload-right k = setup-right s (askPayload (f .payload) ∷ fromRange) h ∙ yes-cons _ 4 fromRange (le-leb (length (f .payload)) 32 k)
+    payload-right k = setup-right s own (askPayload (f .payload) ∷ fromRange) h ∙ yes-cons _ 4 fromRange (le-leb (length (f .payload)) 32 k)
 
   pub room-no : length buffer < length (encode f) → firstNo fromRoom ≡ 6
   room-no k = no-cons _ 6 [] (lt-leb (length (encode f)) (length buffer) k)
@@ -155,13 +159,13 @@ module _ (s : Setup) (f : Frame) (buffer : List ℕ) where
   room-right k = yes-cons _ 6 [] (le-leb (length (encode f)) (length buffer) k)
 
   -- its answers
-  module _ (number : ℕ) (e : number ≡ firstNo (writeFrameQuestions s f buffer)) where
+  module _ (number : ℕ) (e : number ≡ firstNo (writeFrameQuestions s own f buffer)) where
     pub write-accepted : number ≡ 0
-        → writeFrame s f buffer ≡ record { number = 0; size = length (encode f); buffer = overlay (encode f) buffer }
+        → writeFrame s own f buffer ≡ record { number = 0; size = length (encode f); buffer = overlay (encode f) buffer }
     unfolding writeFrame
     write-accepted z = rw (← e, z)
 
-    pub write-refused : (number ≡ 0 → ⊥) → writeFrame s f buffer ≡ record { number = number; size = 0; buffer = buffer }
+    pub write-refused : (number ≡ 0 → ⊥) → writeFrame s own f buffer ≡ record { number = number; size = 0; buffer = buffer }
     unfolding writeFrame
     write-refused z = rw (← e) (go number z)
       where
@@ -170,17 +174,17 @@ module _ (s : Setup) (f : Frame) (buffer : List ℕ) where
         go (suc k) h = refl
 
 -- what an accepted writer can lay down
-pub room-of : (s : Setup) (station : ℕ) (t : Timestamp) (payload buffer : List ℕ)
-    → firstNo (writeQuestions s station t payload buffer) ≡ 0 → Room (s .epsilon) station t payload buffer
+pub room-of : (s : Setup) (own station : ℕ) (t : Timestamp) (payload buffer : List ℕ)
+    → firstNo (writeQuestions s own station t payload buffer) ≡ 0 → Room (s .epsilon) station t payload buffer
 unfolding writeFrameQuestions askSetup askPayload askRange askStamp frameOf trimmed soundTimestamp
-room-of s station t payload buffer e =
+room-of s own station t payload buffer e =
     let f = frameOf (s .epsilon) station t payload in
-    let p1 = none-no (inLimits s) 0 (askPayload payload ∷ fromRange s f buffer) e in
-    let p4 = none-no (leb (length payload) 32) 3 (fromRange s f buffer) (p1 .1) in
-    let p11 = none-no (ltb station (s .n) && ltb (t .r) (s .modulus)) 10 (fromStamp s f buffer) (p4 .1) in
-    let p12 = none-no (soundTimestamp (s .n) (s .epsilon) (f .stamp)) 11 (fromRoom s f buffer) (p11 .1) in
+    let p1 = none-no (valid s own) 0 (askPayload payload ∷ fromRange s own f buffer) e in
+    let p4 = none-no (leb (length payload) 32) 3 (fromRange s own f buffer) (p1 .1) in
+    let p11 = none-no (ltb station (s .n) && ltb (t .r) (s .modulus)) 10 (fromStamp s own f buffer) (p4 .1) in
+    let p12 = none-no (soundTimestamp (s .n) (s .epsilon) (f .stamp)) 11 (fromRoom s own f buffer) (p11 .1) in
     let p6 = none-no (leb (length (encode f)) (length buffer)) 5 [] (p12 .1) in
-    let l : Limits s = limits-from s (p1 .0) in
+    let l : Limits s = setup-from s own (p1 .0) .0 in
     let h4 : length payload ≤ 32 = leb-true (length payload) 32 (p4 .0) in
     let hs : station < s .n = ltb-true station (s .n) (and-left (ltb station (s .n)) (ltb (t .r) (s .modulus)) (p11 .0)) in
     let hr : t .r < s .modulus = ltb-true (t .r) (s .modulus) (and-right (ltb station (s .n)) (ltb (t .r) (s .modulus)) (p11 .0)) in

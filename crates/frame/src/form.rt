@@ -1,8 +1,10 @@
 // The form of a frame and its questions 10 to 12: where its counts say that it ends, whether they are right, and what stands at its fixed places.
 // Any bytes get an answer; a place past the end reads as 0.
+use setup::LONGEST_PAYLOAD;
+use setup::Setup;
 use splice::byte_at;
+use splice::part;
 use splice::two_at;
-use timestamp::Setup;
 use timestamp::Timestamp;
 use timestamp::counts_of;
 use timestamp::sound_counts;
@@ -10,17 +12,35 @@ ghost use mathlib.Core.Path.{_≡_};
 ghost use mathlib.Core.Bool.{true};
 ghost use Prim.Native.Nat.{ℕ, _≤_};
 ghost use Rattle.model.specs.Setup.{inLimits};
-ghost use Rattle.model.specs.Frame.{frameEnd, wellFormed, decode};
+ghost use lib.ListN.{length};
+ghost use Rattle.model.specs.Frame.{frameEnd, wellFormed, countsOf, payloadCountAt, decode};
 ghost use Rattle.model.specs.Timestamp.{widened};
 ghost use Rattle.model.specs.Question.{firstNo, frameQuestions};
-ghost use Rattle.timestamp.specs.Views.{setupOf, stampOf};
+ghost use Rattle.setup.specs.Views.{setupOf};
+ghost use Rattle.timestamp.specs.Views.{stampOf};
+
+// What a frame has, byte by byte: 01's three sections, each after its one-byte count. No other crate knows this.
+// The first section: how many bytes follow its count, the station, and r.
+pub const NODE_SIZE: u8 = 3;
+
+pub const STATION_AT: usize = 1;
+
+pub const R_AT: usize = 2;
+// The second: its count, c, and the 2ε counts.
+pub const STAMP_AT: usize = 4;
+
+pub const C_AT: usize = 5;
+
+pub const COUNTS_AT: usize = 6;
+// The bytes of a frame beside its 2ε counts and its payload; the payload stands behind all of them.
+pub const OVERHEAD: usize = 7;
 
 // Where its counts say that the frame at the start of `s` ends.
 pub fn frame_end(epsilon: usize, s: &[u8]) -> usize
     requires { ⌜ epsilon ≤ 16 ⌝ }
     ensures { λ r. ⌜ r ≡ frameEnd epsilon (now (s .entry)) ⌝ }
 {
-    let at = 6 + 2 * epsilon;
+    let at = COUNTS_AT + 2 * epsilon;
     at + 1 + byte_at(s, at) as usize
 }
 
@@ -29,13 +49,13 @@ fn well_formed(epsilon: usize, s: &[u8]) -> bool
     requires { ⌜ epsilon ≤ 16 ⌝ }
     ensures { λ r. ⌜ r ≡ wellFormed epsilon (now (s .entry)) ⌝ }
 {
-    if byte_at(s, 0) != 3 {
+    if byte_at(s, 0) != NODE_SIZE {
         return false;
     }
-    if byte_at(s, 4) as usize != 1 + 2 * epsilon {
+    if byte_at(s, STAMP_AT) as usize != 1 + 2 * epsilon {
         return false;
     }
-    if 32 < byte_at(s, 6 + 2 * epsilon) {
+    if LONGEST_PAYLOAD < byte_at(s, COUNTS_AT + 2 * epsilon) as usize {
         return false;
     }
     s.len() == frame_end(epsilon, s)
@@ -45,21 +65,29 @@ fn well_formed(epsilon: usize, s: &[u8]) -> bool
 pub fn station_of(s: &[u8]) -> usize
     ensures { λ r. ⌜ ((epsilon : ℕ) → r ≡ decode epsilon (now (s .entry)) .station) ⌝ }
 {
-    byte_at(s, 1) as usize
+    byte_at(s, STATION_AT) as usize
 }
 
 // 01: r of the stamp.
 pub fn r_of(s: &[u8]) -> usize
     ensures { λ r. ⌜ ((epsilon : ℕ) → r ≡ decode epsilon (now (s .entry)) .stamp .r) ⌝ }
 {
-    two_at(s, 2)
+    two_at(s, R_AT)
 }
 
 // 01: c of the stamp.
 pub fn c_of(s: &[u8]) -> usize
     ensures { λ r. ⌜ ((epsilon : ℕ) → r ≡ decode epsilon (now (s .entry)) .stamp .c) ⌝ }
 {
-    byte_at(s, 5) as usize
+    byte_at(s, C_AT) as usize
+}
+
+// 01: the counts of the stamp, from offset −ε up: a part of the frame.
+pub fn counts_part(epsilon: usize, s: &[u8]) -> &[u8]
+    requires { ⌜ (epsilon ≤ 16) × (payloadCountAt epsilon ≤ length (now s)) ⌝ }
+    ensures { λ r. ⌜ now r ≡ countsOf epsilon (now (s .entry)) ⌝ }
+{
+    &s[COUNTS_AT..COUNTS_AT + 2 * epsilon]
 }
 
 // 01: the stamp of a well-formed frame, by value; the places past its 2ε counts are 0.
@@ -67,10 +95,18 @@ pub fn stamp_of(epsilon: usize, s: &[u8]) -> Timestamp
     requires { ⌜ (epsilon ≤ 16) × (wellFormed epsilon (now s) ≡ true) ⌝ }
     ensures { λ r. ⌜ stampOf r ≡ widened (decode epsilon (now (s .entry)) .stamp) ⌝ }
 {
-    let kn = counts_of(s, 6, 2 * epsilon);
+    let kn = counts_of(s, COUNTS_AT, 2 * epsilon);
     let r = r_of(s);
     let c = c_of(s);
     Timestamp { r, c, kn }
+}
+
+// 01: the ticket, a part of the frame: all that follows its count.
+pub fn payload_part(epsilon: usize, s: &[u8]) -> &[u8]
+    requires { ⌜ epsilon ≤ 16 ⌝ }
+    ensures { λ r. ⌜ now r ≡ decode epsilon (now (s .entry)) .payload ⌝ }
+{
+    part(s, OVERHEAD + 2 * epsilon, s.len())
 }
 
 // 01, 10 to 12: the number of the first no, or 0.
@@ -91,7 +127,7 @@ pub fn check(setup: Setup, s: &[u8]) -> u8
         return 11;
     }
     let c = c_of(s);
-    if !sound_counts(&s[6..6 + 2 * epsilon], c, n, epsilon) {
+    if !sound_counts(&s[COUNTS_AT..COUNTS_AT + 2 * epsilon], c, n, epsilon) {
         return 12;
     }
     0

@@ -5,7 +5,9 @@ mod writer;
 
 pub use form::c_of;
 pub use form::check;
+pub use form::counts_part;
 pub use form::frame_end;
+pub use form::payload_part;
 pub use form::r_of;
 pub use form::stamp_of;
 pub use form::station_of;

@@ -1,14 +1,15 @@
 // The reader alone: any setup and any bytes get an answer.
+use crate::form::OVERHEAD;
 use crate::form::check;
 use crate::form::stamp_of;
 use crate::form::station_of;
-use timestamp::Setup;
+use setup::Setup;
+use setup::valid_for;
 use timestamp::Timestamp;
-use timestamp::in_limits;
 ghost use mathlib.Core.Path.{_≡_};
 ghost use Rattle.model.specs.Question.{firstNo};
 ghost use Rattle.model.specs.Codec as codec;
-ghost use Rattle.timestamp.specs.Views.{setupOf};
+ghost use Rattle.setup.specs.Views.{setupOf};
 ghost use Rattle.frame.specs.Answers.{readAnswer};
 
 // What the reader answers, by value; the payload (01: the ticket) is the answer of `payload_of`.
@@ -20,21 +21,21 @@ pub struct Reading {
 }
 
 // 01: "the reader asks 1, 10, 11, 12": the number of the first no, or 0.
-fn check_read(setup: Setup, frame: &[u8]) -> u8
-    ensures { λ r. ⌜ r ≡ firstNo (codec.readQuestions (setupOf setup) (now (frame .entry))) ⌝ }
+fn check_read(setup: Setup, own: u32, frame: &[u8]) -> u8
+    ensures { λ r. ⌜ r ≡ firstNo (codec.readQuestions (setupOf setup) own (now (frame .entry))) ⌝ }
 {
-    if !in_limits(setup) {
+    if !valid_for(setup, own) {
         return 1;
     }
     check(setup, frame)
 }
 
 // The answer of the reader.
-pub fn read(setup: Setup, frame: &[u8]) -> Reading
-    ensures { λ r. ⌜ readAnswer r (codec.read (setupOf setup) (now (frame .entry)) .payload)
-        ≡ codec.read (setupOf setup) (now (frame .entry)) ⌝ }
+pub fn read(setup: Setup, own: u32, frame: &[u8]) -> Reading
+    ensures { λ r. ⌜ readAnswer r (codec.read (setupOf setup) own (now (frame .entry)) .payload)
+        ≡ codec.read (setupOf setup) own (now (frame .entry)) ⌝ }
 {
-    let number = check_read(setup, frame);
+    let number = check_read(setup, own, frame);
     if number != 0 {
         let kn = [0u8; Timestamp::WIDTH];
         let stamp = Timestamp { r: 0, c: 0, kn };
@@ -53,12 +54,12 @@ pub fn read(setup: Setup, frame: &[u8]) -> Reading
 }
 
 // The payload: the very bytes of the frame. Of a refused frame an empty part.
-pub fn payload_of(setup: Setup, frame: &[u8]) -> &[u8]
-    ensures { λ r. ⌜ now r ≡ codec.read (setupOf setup) (now (frame .entry)) .payload ⌝ }
+pub fn payload_of(setup: Setup, own: u32, frame: &[u8]) -> &[u8]
+    ensures { λ r. ⌜ now r ≡ codec.read (setupOf setup) own (now (frame .entry)) .payload ⌝ }
 {
-    if check_read(setup, frame) != 0 {
+    if check_read(setup, own, frame) != 0 {
         return &frame[..0];
     }
-    let at = 7 + 2 * setup.epsilon as usize;
+    let at = OVERHEAD + 2 * setup.epsilon as usize;
     &frame[at..]
 }

@@ -1,7 +1,15 @@
 // The writer alone: any setup, numbers, payload and buffer get an answer; a refusal writes nothing.
-use timestamp::Setup;
+use crate::form::C_AT;
+use crate::form::COUNTS_AT;
+use crate::form::NODE_SIZE;
+use crate::form::OVERHEAD;
+use crate::form::R_AT;
+use crate::form::STAMP_AT;
+use crate::form::STATION_AT;
+use setup::LONGEST_PAYLOAD;
+use setup::Setup;
+use setup::valid_for;
 use timestamp::Timestamp;
-use timestamp::in_limits;
 ghost use mathlib.Core.Path.{_≡_};
 ghost use mathlib.Core.List.{_∷_};
 ghost use Prim.Native.Nat.{_+_, _*_, _≤_, _<_};
@@ -13,7 +21,8 @@ ghost use Rattle.model.specs.Question.{firstNo};
 ghost use Rattle.model.specs.Codec.{frameOf, writeQuestions};
 ghost use Rattle.model.specs.Codec as codec;
 ghost use Rattle.splice.specs.Bytes.{pasted};
-ghost use Rattle.timestamp.specs.Views.{setupOf, stampOf};
+ghost use Rattle.setup.specs.Views.{setupOf};
+ghost use Rattle.timestamp.specs.Views.{stampOf};
 ghost use Rattle.frame.specs.Lay.{Room, Laid};
 ghost use Rattle.frame.specs.Answers.{writeAnswer};
 
@@ -22,9 +31,9 @@ fn put_node(out: &mut [u8], station: usize, r: usize)
     requires { ⌜ (4 ≤ length (now out)) × ((station < 256) × (r < 65536)) ⌝ }
     ensures { λ _. ⌜ now (out .exit) ≡ overlay (section (station ∷ twoBytes r)) (now (out .entry)) ⌝ }
 {
-    out[0] = 3;
-    out[1] = station as u8;
-    splice::put_u16(out, 2, r);
+    out[0] = NODE_SIZE;
+    out[STATION_AT] = station as u8;
+    splice::put_u16(out, R_AT, r);
 }
 
 // 01: the second section, "1 + 2ε (c, then counts from offset −ε up)", laid down after the first.
@@ -34,9 +43,9 @@ fn put_stamp(out: &mut [u8], epsilon: usize, stamp: Timestamp)
 {
     let width = 2 * epsilon;
     let kn = stamp.kn;
-    out[4] = (1 + width) as u8;
-    out[5] = stamp.c as u8;
-    splice::copy_into(out, 6, &kn[..width]);
+    out[STAMP_AT] = (1 + width) as u8;
+    out[C_AT] = stamp.c as u8;
+    splice::copy_into(out, COUNTS_AT, &kn[..width]);
 }
 
 // 01: the third section, "0 to 32 (ticket)", laid down at the front of what is left of the outgoing buffer.
@@ -61,7 +70,7 @@ pub fn lay(
 {
     put_node(out, station, stamp.r);
     put_stamp(out, epsilon, stamp);
-    let at = 6 + 2 * epsilon;
+    let at = COUNTS_AT + 2 * epsilon;
     put_payload(&mut out[at..], payload);
     at + 1 + payload.len()
 }
@@ -75,16 +84,23 @@ pub struct Written {
 }
 
 // 01: "the writer asks 1, 4, 11, 12, then 6 if its buffer is shorter than this frame": the number of the first no, or 0.
-fn check_write(setup: Setup, station: usize, stamp: Timestamp, payload: &[u8], out: &[u8]) -> u8
-    ensures { λ r. ⌜ r ≡ firstNo (writeQuestions (setupOf setup) station (stampOf stamp) (now (payload .entry)) (now (out .entry))) ⌝ }
+fn check_write(
+    setup: Setup,
+    own: u32,
+    station: usize,
+    stamp: Timestamp,
+    payload: &[u8],
+    out: &[u8],
+) -> u8
+    ensures { λ r. ⌜ r ≡ firstNo (writeQuestions (setupOf setup) own station (stampOf stamp) (now (payload .entry)) (now (out .entry))) ⌝ }
 {
-    if !in_limits(setup) {
+    if !valid_for(setup, own) {
         return 1;
     }
     let n = setup.n as usize;
     let epsilon = setup.epsilon as usize;
     let modulus = setup.modulus as usize;
-    if 32 < payload.len() {
+    if LONGEST_PAYLOAD < payload.len() {
         return 4;
     }
     if n <= station {
@@ -96,7 +112,7 @@ fn check_write(setup: Setup, station: usize, stamp: Timestamp, payload: &[u8], o
     if !stamp.is_sound(n, epsilon) {
         return 12;
     }
-    if out.len() < 7 + 2 * epsilon + payload.len() {
+    if out.len() < OVERHEAD + 2 * epsilon + payload.len() {
         return 6;
     }
     0
@@ -105,15 +121,16 @@ fn check_write(setup: Setup, station: usize, stamp: Timestamp, payload: &[u8], o
 // The writer.
 pub fn write(
     setup: Setup,
+    own: u32,
     station: usize,
     stamp: Timestamp,
     payload: &[u8],
     out: &mut [u8],
 ) -> Written
     ensures { λ r. ⌜ writeAnswer r (now (out .exit))
-        ≡ codec.write (setupOf setup) station (stampOf stamp) (now (payload .entry)) (now (out .entry)) ⌝ }
+        ≡ codec.write (setupOf setup) own station (stampOf stamp) (now (payload .entry)) (now (out .entry)) ⌝ }
 {
-    let number = check_write(setup, station, stamp, payload, out);
+    let number = check_write(setup, own, station, stamp, payload, out);
     if number != 0 {
         return Written { number, size: 0 };
     }

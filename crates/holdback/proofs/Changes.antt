@@ -14,7 +14,7 @@ use Rattle.splice.specs.Bytes.{pasted, part, cleared, inserted, cutOut, zeros}
 use Rattle.splice.proofs.Laws.{pasted-pieces, inserted-pieces, cutOut-cleared, pasted-right, pasted-left}
 use Rattle.model.specs.Frame.{Frame, twoBytes, twoAt, encode, decode, wellFormed}
 use Rattle.model.specs.Holdback.{heldBytes, held, encodeFrames, encodeHoldback}
-use Rattle.holdback.specs.Queue.{frameStart, bytesAt, frameAt, Figures}
+use Rattle.holdback.specs.Queue.{frameStart, bytesAt, frameAt, Spans}
 use Rattle.holdback.proofs.RoundTrip.{Bytes, encode-decode}
 use Rattle.holdback.proofs.Frames.{heldBytes-tab, held-tab, FormedUpTo, take-start, start-within}
 use Rattle.holdback.proofs.Judging.{every-tab-at}
@@ -98,7 +98,7 @@ module _ (epsilon : ℕ) (s : List ℕ) (k : ℕ) (p : Pieces epsilon s k) where
   abbrev end : ℕ
   end = frameStart epsilon s (twoAt s 0)
 
-  pub put-made : (f : Frame) (src l : List ℕ) → encode f ≡ src
+  put-made : (f : Frame) (src l : List ℕ) → encode f ≡ src
       → l ≡ pasted (inserted s end (frameStart epsilon s k) src) 0 (twoBytes (twoAt s 0 + 1))
       → l ≡ overlay (encodeFrames (insertAt k f q)) s
   unfolding overlay encodeFrames twoBytes
@@ -134,7 +134,7 @@ module _ (epsilon : ℕ) (s : List ℕ) (k : ℕ) (p : Pieces epsilon s k) where
       ∙ take-at others (drop end s) n (omega (arith, p .back))
 
   -- written to the delivery
-  pub delivery-made : (d l : List ℕ) → k ≤ twoAt s 0
+  delivery-made : (d l : List ℕ) → k ≤ twoAt s 0
       → l ≡ pasted (pasted d 0 (twoBytes k)) 2 (take (frameStart epsilon s k - 2) (drop 2 s))
       → l ≡ overlay (encodeFrames (take k q)) d
   unfolding overlay encodeFrames
@@ -147,7 +147,7 @@ module _ (epsilon : ℕ) (s : List ℕ) (k : ℕ) (p : Pieces epsilon s k) where
       ∙ ap (λ (n : ℕ). (twoBytes n ++ first) ++ drop (length (twoBytes n ++ first)) d) (sym count)
 
   -- the others moved to the front, zeros behind them
-  pub cut-made : (l : List ℕ) → k ≤ twoAt s 0 → 2 ≤ length s
+  cut-made : (l : List ℕ) → k ≤ twoAt s 0 → 2 ≤ length s
       → l ≡ pasted (pasted s 2 (part s (frameStart epsilon s k) (end - frameStart epsilon s k) ++ zeros (length s - (2 + (end - frameStart epsilon s k))))) 0 (twoBytes (twoAt s 0 - k))
       → l ≡ encodeHoldback (length s) (drop k q)
   unfolding encodeHoldback encodeFrames padded
@@ -183,56 +183,56 @@ all-cleared s =
     ∙ ap₂ _++_ (ap zeros (sub-zero (length s))) (drop-of-length-le s long)
     ∙ append-nil (zeros (length s))
 
-pub emptied : (s : List ℕ) → 2 ≤ length s → cleared s 0 (length s) ≡ encodeHoldback (length s) []
+pub cleared-empty : (s : List ℕ) → 2 ≤ length s → cleared s 0 (length s) ≡ encodeHoldback (length s) []
 unfolding encodeHoldback encodeFrames padded twoBytes joined
-emptied s h = all-cleared s ∙ zeros-from (length s) h
+cleared-empty s h = all-cleared s ∙ zeros-from (length s) h
 
 -- ---- the same, as the code goes
 
-module _ {epsilon : ℕ} {s : List ℕ} {count stop index at : ℕ} (known : Figures epsilon s count stop index at) (bytes : Bytes s) where
-  pub figures-pieces : Pieces epsilon s index
-  figures-pieces =
-      pieces epsilon s bytes (known .two) (formed-frames epsilon s (known .formed)) index (omega (arith, known .counted, known .inside))
+module _ {epsilon : ℕ} {s : List ℕ} {count stop index at : ℕ} (known : Spans epsilon s count stop index at) (bytes : Bytes s) where
+  spans-pieces : Pieces epsilon s index
+  spans-pieces =
+      pieces epsilon s bytes (known .two) (formed-frames epsilon s (known .formed)) index (omega (arith, known .count-is, known .inside))
 
   stop-is : stop ≡ frameStart epsilon s (twoAt s 0)
-  stop-is = known .ends ∙ ap (frameStart epsilon s) (known .counted)
+  stop-is = known .ends ∙ ap (frameStart epsilon s) (known .count-is)
 
   index-in : index ≤ twoAt s 0
-  index-in = omega (arith, known .counted, known .inside)
+  index-in = omega (arith, known .count-is, known .inside)
 
   pub located : (2 ≤ at) × ((at ≤ stop) × (stop ≤ length s))
   located =
-      let p = figures-pieces in
+      let p = spans-pieces in
       (omega (arith, p .front, known .starts), (omega (arith, p .back, known .starts, stop-is), omega (arith, p .ends, stop-is)))
 
   pub put-placed : (frame a l : List ℕ) → Bytes frame → wellFormed epsilon frame ≡ true → a ≡ inserted s stop at frame
       → l ≡ pasted a 0 (twoBytes (count + 1)) → l ≡ overlay (encodeFrames (insertAt index (decode epsilon frame) (held epsilon s))) s
   unfolding twoBytes
-  put-placed frame a l clean well moved counted =
-      put-made epsilon s index figures-pieces (decode epsilon frame) frame l (encode-decode epsilon frame clean well)
-      (counted
+  put-placed frame a l clean well moved count-is =
+      put-made epsilon s index spans-pieces (decode epsilon frame) frame l (encode-decode epsilon frame clean well)
+      (count-is
       ∙ ap₂ (λ (r : List ℕ) (n : ℕ). pasted r 0 (twoBytes (n + 1)))
-      (moved ∙ ap₂ (λ (n m : ℕ). inserted s n m frame) stop-is (known .starts)) (known .counted))
+      (moved ∙ ap₂ (λ (n m : ℕ). inserted s n m frame) stop-is (known .starts)) (known .count-is))
 
   pub prefix-written : (d a l : List ℕ) → a ≡ pasted d 0 (twoBytes index) → l ≡ pasted a 2 (take (at - 2) (drop 2 s))
       → l ≡ overlay (encodeFrames (take index (held epsilon s))) d
   unfolding twoBytes
-  prefix-written d a l counted copied =
-      delivery-made epsilon s index figures-pieces d l index-in
-      (copied ∙ ap₂ (λ (r : List ℕ) (n : ℕ). pasted r 2 (take (n - 2) (drop 2 s))) counted (known .starts))
+  prefix-written d a l count-is copied =
+      delivery-made epsilon s index spans-pieces d l index-in
+      (copied ∙ ap₂ (λ (r : List ℕ) (n : ℕ). pasted r 2 (take (n - 2) (drop 2 s))) count-is (known .starts))
 
   pub prefix-cut : (a b l : List ℕ) → a ≡ cutOut s stop 2 (at - 2) → b ≡ cleared a stop (length s)
       → l ≡ pasted b 0 (twoBytes (count - index)) → l ≡ encodeHoldback (length s) (drop index (held epsilon s))
   unfolding twoBytes
-  prefix-cut a b l cut-out emptied counted =
+  prefix-cut a b l cut-out emptied count-is =
       let (low, (below, inside)) = located in
       let from : 2 + (at - 2) ≡ at = omega arith in
       let free : at - 2 + (length s - stop) ≡ length s - (2 + (stop - at)) = omega arith in
-      cut-made epsilon s index figures-pieces l index-in (known .two)
-      (counted
+      cut-made epsilon s index spans-pieces l index-in (known .two)
+      (count-is
       ∙ ap₂ (λ (r : List ℕ) (n : ℕ). pasted r 0 (twoBytes (n - index)))
       (emptied
       ∙ ap (λ (r : List ℕ). cleared r stop (length s)) cut-out
       ∙ cutOut-cleared s stop 2 (at - 2) (omega arith) inside (length s) inside
-      ∙ ap₂ (λ (n m : ℕ). pasted s 2 (part s n (stop - n) ++ zeros m)) from free) (known .counted)
+      ∙ ap₂ (λ (n m : ℕ). pasted s 2 (part s n (stop - n) ++ zeros m)) from free) (known .count-is)
       ∙ ap₂ (λ (n m : ℕ). pasted (pasted s 2 (part s m (n - m) ++ zeros (length s - (2 + (n - m))))) 0 (twoBytes (twoAt s 0 - index))) stop-is (known .starts))

@@ -14,8 +14,8 @@ use Rattle.model.specs.Frame.{Frame, twoAt, wellFormed}
 use Rattle.model.specs.Holdback.{heldBytes, held, passes, soundHoldback}
 use Rattle.model.specs.Tick.{dueNow}
 use Rattle.lemmas.proofs.Bounds.{Limits}
-use Rattle.timestamp.proofs.InLimits.{depth-most}
-use Rattle.holdback.specs.Queue.{frameStart, Figures, Stands}
+use Rattle.setup.proofs.InLimits.{depth-most}
+use Rattle.holdback.specs.Queue.{frameStart, Spans, Stands}
 use Rattle.holdback.proofs.RoundTrip.{passing}
 use Rattle.holdback.proofs.Judging.{sound-few, sound-passes, sound-ordered, sound-overdue}
 use Rattle.holdback.proofs.Changes.{length-held}
@@ -27,13 +27,13 @@ module _ (s : Setup) (v : ℕ) (b : List ℕ) (sound : soundHoldback s v b ≡ t
   count-small count limits e =
       omega (arith, sound-few s v b sound, depth-most (s .n) (s .epsilon) (s .delta) (limits .n-most) (limits .epsilon-most) (limits .delta-most))
 
-  pub sound-figures : (p : Frame → Bool) (count stop index at : ℕ) → 2 ≤ length b → count ≡ twoAt b 0 → stop ≡ frameStart (s .epsilon) b count
-      → Stands (s .epsilon) b (leading p (held (s .epsilon) b)) index at → Figures (s .epsilon) b count stop index at
-  sound-figures p count stop index at two counted ends stands =
+  pub sound-spans : (p : Frame → Bool) (count stop index at : ℕ) → 2 ≤ length b → count ≡ twoAt b 0 → stop ≡ frameStart (s .epsilon) b count
+      → Stands (s .epsilon) b (leading p (held (s .epsilon) b)) index at → Spans (s .epsilon) b count stop index at
+  sound-spans p count stop index at two count-is ends stands =
       record {
         formed = every-mono (passes s) (wellFormed (s .epsilon)) (heldBytes (s .epsilon) b) (λ x h. passing s x h .well) (sound-passes s v b sound);
         two = two;
-        counted = counted;
+        count-is = count-is;
         ends = ends;
         inside = omega (arith, stands .frames, leading-le p (held (s .epsilon) b), length-held (s .epsilon) b);
         starts = stands .starts;

@@ -8,16 +8,15 @@ use mathlib.Core.Bool.{Bool, true, false}
 use mathlib.Core.Logic.{inl, inr}
 use mathlib.Core.List.{List, [], _∷_, _++_, map, append-assoc, append-nil}
 use lib.ListN.{length, take, drop, getD, length-take, length-drop, List·getD-eq-default}
-use lib.Seq.{drop-drop, getD-drop, getD-take, take-add, take-take}
+use lib.Seq.{drop-drop, getD-drop, getD-take, take-add, take-take, take-all}
 use Rattle.laws.specs.Lists.{tab, leading, joined}
 use Rattle.laws.proofs.Numbers.{lt-or-ge}
 use Rattle.laws.proofs.Lists.{length-tab, getD-tab, tab-ext, tab-suc, map-tab, take-tab, every-tab, leading-unique, joined-append}
-use Rattle.model.specs.Setup.{width}
-use Rattle.model.specs.Frame.{Frame, twoAt, twoBytes, encode, wellFormed, payloadCountAt, frameEnd, decode}
+use Rattle.model.specs.Setup.{width, longestFrame}
+use Rattle.model.specs.Frame.{Frame, twoAt, twoBytes, encode, countsOf, wellFormed, payloadCountAt, frameEnd, decode}
 use Rattle.model.specs.Holdback.{cutFrames, heldBytes, held}
-use Rattle.frame.proofs.Asking.{counts-part}
+use Rattle.lemmas.proofs.RoundTrip.{formed-from}
 use Rattle.holdback.specs.Queue.{frameStart, bytesAt, frameAt, countsAt}
-use Rattle.holdback.proofs.Shapes.{formed}
 use Rattle.holdback.proofs.RoundTrip.{Bytes, encode-decode, front-two}
 
 pub start-zero : (epsilon : ℕ) (s : List ℕ) → frameStart epsilon s 0 ≡ 2
@@ -84,10 +83,19 @@ end-of-bytes epsilon t =
 
 -- well-formed bytes are as long as they say
 formed-size : (epsilon : ℕ) (t : List ℕ) → wellFormed epsilon t ≡ true → length t ≡ frameEnd epsilon t
-unfolding frameEnd payloadCountAt width
-formed-size epsilon t h = let o = formed epsilon t h in omega arith
+unfolding frameEnd payloadCountAt
+formed-size epsilon t h = omega (arith, formed-from epsilon t h .size)
 
-pub formed-inside : (epsilon : ℕ) (t : List ℕ) → wellFormed epsilon (take (frameEnd epsilon t) t) ≡ true → frameEnd epsilon t ≤ length t
+-- and not longer than the longest
+formed-longest : (epsilon : ℕ) (t : List ℕ) → wellFormed epsilon t ≡ true → length t ≤ longestFrame epsilon
+unfolding longestFrame
+formed-longest epsilon t h = let o = formed-from epsilon t h in omega arith
+
+-- their counts end within them
+pub counts-end : (epsilon : ℕ) (t : List ℕ) → wellFormed epsilon t ≡ true → payloadCountAt epsilon ≤ length t
+counts-end epsilon t h = omega (arith, formed-size epsilon t h, end-past epsilon t)
+
+formed-inside : (epsilon : ℕ) (t : List ℕ) → wellFormed epsilon (take (frameEnd epsilon t) t) ≡ true → frameEnd epsilon t ≤ length t
 formed-inside epsilon t h =
     omega (arith, formed-size epsilon (take (frameEnd epsilon t) t) h, end-of-bytes epsilon t, length-take (frameEnd epsilon t) t)
 
@@ -109,39 +117,51 @@ module _ (epsilon : ℕ) (s : List ℕ) (k : ℕ) (ok : wellFormed epsilon (byte
       let p : payloadCountAt epsilon < frameEnd epsilon rest = end-past epsilon rest in
       omega (arith, start-suc epsilon s k, length-drop (frameStart epsilon s k) s)
 
--- the counts of frame k, from where it starts
+-- ---- the counts of a frame
+
+-- those of a front that they end within
+counts-front : (epsilon n : ℕ) (t : List ℕ) → payloadCountAt epsilon ≤ n → countsOf epsilon (take n t) ≡ countsOf epsilon t
+unfolding countsOf payloadCountAt
+counts-front epsilon n t h = inner-part _ (width epsilon) n t h
+
+-- they are those of the decoded frame
+pub counts-decoded : (epsilon : ℕ) (t : List ℕ) {kn : List ℕ} → kn ≡ countsOf epsilon t → kn ≡ decode epsilon t .stamp .kn
+unfolding decode
+counts-decoded epsilon t e = e
+
+-- those of frame k, from where it starts
 pub counts-at : (epsilon : ℕ) (s : List ℕ) (k at : ℕ) → at ≡ frameStart epsilon s k → countsAt epsilon s at ≡ frameAt epsilon s k .stamp .kn
-unfolding frameAt bytesAt frameEnd payloadCountAt width
+unfolding frameAt bytesAt decode
 counts-at epsilon s k at e =
-    let from : ℕ = frameStart epsilon s k in
-    let n : ℕ = frameEnd epsilon (drop from s) in
-    let size : 6 + 2 * epsilon - 6 ≡ 2 * epsilon = omega arith in
+    let rest : List ℕ = drop (frameStart epsilon s k) s in
     ap (countsAt epsilon s) e
-    ∙ ap (take (2 * epsilon)) (sym (drop-drop 6 from s))
-    ∙ sym (inner-part 6 (2 * epsilon) n (drop from s) (omega arith))
-    ∙ ap (λ (m : ℕ). take m (drop 6 (take n (drop from s)))) (sym size)
-    ∙ counts-part epsilon (take n (drop from s))
+    ∙ sym (counts-front epsilon (frameEnd epsilon rest) rest (omega (arith, end-past epsilon rest)))
+
+-- where there are 2ε of them, they end within the bytes
+pub counts-inside : (epsilon : ℕ) (t : List ℕ) → 1 ≤ epsilon → 2 * epsilon ≤ length (countsOf epsilon t) → payloadCountAt epsilon ≤ length t
+unfolding countsOf payloadCountAt width
+counts-inside epsilon t h long = omega (arith, rw (length-take, length-drop) at long)
 
 -- each of the first k frames is well-formed
 abbrev pub FormedUpTo : ℕ → List ℕ → ℕ → Type 0
 FormedUpTo epsilon s k = (i : ℕ) → i < k → wellFormed epsilon (bytesAt epsilon s i) ≡ true
 
 -- a frame is at most as long as the longest
-pub start-longest : (epsilon : ℕ) (s : List ℕ) (k : ℕ) → wellFormed epsilon (bytesAt epsilon s k) ≡ true
-    → frameStart epsilon s (suc k) ≤ frameStart epsilon s k + (39 + 2 * epsilon)
+start-longest : (epsilon : ℕ) (s : List ℕ) (k : ℕ) → wellFormed epsilon (bytesAt epsilon s k) ≡ true
+    → frameStart epsilon s (suc k) ≤ frameStart epsilon s k + longestFrame epsilon
 unfolding bytesAt
 start-longest epsilon s k ok =
     let rest : List ℕ = drop (frameStart epsilon s k) s in
-    let o = formed epsilon (take (frameEnd epsilon rest) rest) ok in
-    omega (arith, start-suc epsilon s k, formed-size epsilon (take (frameEnd epsilon rest) rest) ok, end-of-bytes epsilon rest)
+    let own : List ℕ = take (frameEnd epsilon rest) rest in
+    omega (arith, start-suc epsilon s k, formed-size epsilon own ok, formed-longest epsilon own ok, end-of-bytes epsilon rest)
 
 -- k frames are not longer than k of the longest
-pub start-most : (epsilon : ℕ) (s : List ℕ) (k : ℕ) → FormedUpTo epsilon s k → frameStart epsilon s k ≤ 2 + k * (39 + 2 * epsilon)
+pub start-most : (epsilon : ℕ) (s : List ℕ) (k : ℕ) → FormedUpTo epsilon s k → frameStart epsilon s k ≤ 2 + k * longestFrame epsilon
 start-most epsilon s zero ok = omega (arith, start-zero epsilon s)
 start-most epsilon s (suc k) ok =
     let before-it = start-most epsilon s k (λ i l. ok i (omega arith)) in
     let this = start-longest epsilon s k (ok k (omega arith)) in
-    omega (arith, suc-mul k (39 + 2 * epsilon))
+    omega (arith, suc-mul k (longestFrame epsilon))
 
 pub bytes-drop : (n : ℕ) (s : List ℕ) → Bytes s → Bytes (drop n s)
 bytes-drop n s b i = rw (getD-drop n s i 0) (b (n + i))
@@ -155,10 +175,15 @@ bytes-take n s b i =
           rw (List·getD-eq-default (take n s) 0 {n = i} k) (omega arith)
     ]
 
+-- the counts of a frame are bytes; they start where the payload's count would stand if there were none
+pub counts-bytes : (epsilon : ℕ) (t : List ℕ) → Bytes t → Bytes (countsOf epsilon t)
+unfolding countsOf payloadCountAt width
+counts-bytes epsilon t b = bytes-take (width epsilon) (drop (payloadCountAt 0) t) (bytes-drop (payloadCountAt 0) t b)
+
 -- ---- the bytes up to frame k, as they are written
 
 module _ (epsilon : ℕ) (s : List ℕ) (bytes : Bytes s) where
-  pub encode-frame : (k : ℕ) → wellFormed epsilon (bytesAt epsilon s k) ≡ true → encode (frameAt epsilon s k) ≡ bytesAt epsilon s k
+  encode-frame : (k : ℕ) → wellFormed epsilon (bytesAt epsilon s k) ≡ true → encode (frameAt epsilon s k) ≡ bytesAt epsilon s k
   unfolding frameAt bytesAt
   encode-frame k ok =
       encode-decode epsilon (bytesAt epsilon s k)
@@ -189,4 +214,28 @@ start-within epsilon s (suc k) h ok = start-inside epsilon s k (ok k (omega arit
 -- a frame's end is near its start, whatever its bytes are
 pub end-small : (epsilon : ℕ) (t : List ℕ) → epsilon ≤ 16 → Bytes t → frameEnd epsilon t < 512
 unfolding frameEnd payloadCountAt width
-end-small epsilon t h b = omega (arith, b (6 + 2 * epsilon))
+end-small epsilon t h b = omega (arith, b (payloadCountAt epsilon))
+
+-- ---- where a frame stands, by the code's numbers
+
+-- the bytes from a position on, as the code lends them
+abbrev pub lent : List ℕ → ℕ → List ℕ
+lent b at = take (length b - at) (drop at b)
+
+pub lent-is : (b : List ℕ) (at : ℕ) → lent b at ≡ drop at b
+lent-is b at = take-all (length b - at) (drop at b) (omega (arith, length-drop at b))
+
+-- where the frame at `at` ends
+pub next-start : (epsilon : ℕ) (b : List ℕ) (k at size : ℕ) → at ≡ frameStart epsilon b k → size ≡ frameEnd epsilon (lent b at)
+    → at + size ≡ frameStart epsilon b (suc k)
+next-start epsilon b k at size ea es =
+    let e : size ≡ frameEnd epsilon (drop at b) = es ∙ ap (frameEnd epsilon) (lent-is b at) in
+    ap₂ _+_ ea (e ∙ ap (λ (n : ℕ). frameEnd epsilon (drop n b)) ea) ∙ sym (start-suc epsilon b k)
+
+-- its bytes
+pub bytes-part : (epsilon : ℕ) (b : List ℕ) (k at next : ℕ) → at ≡ frameStart epsilon b k → next ≡ frameStart epsilon b (suc k)
+    → take (next - at) (drop at b) ≡ bytesAt epsilon b k
+unfolding bytesAt
+bytes-part epsilon b k at next ea en =
+    let size : next - at ≡ frameEnd epsilon (drop (frameStart epsilon b k) b) = omega (arith, start-suc epsilon b k) in
+    ap₂ (λ (n m : ℕ). take n (drop m b)) size ea

@@ -124,7 +124,7 @@ module _ (s : Setup) (v : ℕ) (b : List ℕ) where
       let epsilon : ℕ = s .epsilon in
       rw (heldBytes-tab epsilon b, held-tab epsilon b, le-leb n (depth (s .n) epsilon (s .delta)) few)
       (and-intro (every-tab (passes s) n (bytesAt epsilon b) (λ k h. fit k (each k h) .passed))
-      (and-intro (chained-tab (before epsilon (s .modulus) v) n frame (λ k h. frame-follows (suc k) (each (suc k) h)))
+      (and-intro (chained-tab (before s v) n frame (λ k h. frame-follows (suc k) (each (suc k) h)))
       (and-intro
       (apart-tab sameOrigin n frame
       (λ i j h l.
@@ -137,7 +137,7 @@ module _ (s : Setup) (v : ℕ) (b : List ℕ) where
     abbrev rest : Bool
     rest =
         every (passes s) (heldBytes (s .epsilon) b)
-        && (chained (before (s .epsilon) (s .modulus) v) (held (s .epsilon) b) && (apart sameOrigin (held (s .epsilon) b)
+        && (chained (before s v) (held (s .epsilon) b) && (apart sameOrigin (held (s .epsilon) b)
         && (every (notEarly s v) (held (s .epsilon) b) && every (notOverdue s v) (held (s .epsilon) b))))
 
     pub sound-few : twoAt b 0 ≤ depth (s .n) (s .epsilon) (s .delta)
@@ -149,26 +149,26 @@ module _ (s : Setup) (v : ℕ) (b : List ℕ) where
     unfolding soundHoldback
     sound-passes = and-left _ _ (and-right (leb (twoAt b 0) (depth (s .n) (s .epsilon) (s .delta))) rest h)
 
-    rest-2 : (chained (before (s .epsilon) (s .modulus) v) (held (s .epsilon) b) && (apart sameOrigin (held (s .epsilon) b)
+    rest-2 : (chained (before s v) (held (s .epsilon) b) && (apart sameOrigin (held (s .epsilon) b)
         && (every (notEarly s v) (held (s .epsilon) b) && every (notOverdue s v) (held (s .epsilon) b)))) ≡ true
     unfolding soundHoldback
     rest-2 =
         and-right (every (passes s) (heldBytes (s .epsilon) b)) _ (and-right (leb (twoAt b 0) (depth (s .n) (s .epsilon) (s .delta))) rest h)
 
-    pub sound-ordered : chained (before (s .epsilon) (s .modulus) v) (held (s .epsilon) b) ≡ true
+    pub sound-ordered : chained (before s v) (held (s .epsilon) b) ≡ true
     sound-ordered = and-left _ _ rest-2
 
     rest-3 : (apart sameOrigin (held (s .epsilon) b)
         && (every (notEarly s v) (held (s .epsilon) b) && every (notOverdue s v) (held (s .epsilon) b))) ≡ true
-    rest-3 = and-right (chained (before (s .epsilon) (s .modulus) v) (held (s .epsilon) b)) _ rest-2
+    rest-3 = and-right (chained (before s v) (held (s .epsilon) b)) _ rest-2
 
-    pub sound-single : apart sameOrigin (held (s .epsilon) b) ≡ true
+    sound-single : apart sameOrigin (held (s .epsilon) b) ≡ true
     sound-single = and-left _ _ rest-3
 
     rest-4 : (every (notEarly s v) (held (s .epsilon) b) && every (notOverdue s v) (held (s .epsilon) b)) ≡ true
     rest-4 = and-right (apart sameOrigin (held (s .epsilon) b)) _ rest-3
 
-    pub sound-early : every (notEarly s v) (held (s .epsilon) b) ≡ true
+    sound-early : every (notEarly s v) (held (s .epsilon) b) ≡ true
     sound-early = and-left _ _ rest-4
 
     pub sound-overdue : every (notOverdue s v) (held (s .epsilon) b) ≡ true
@@ -179,7 +179,7 @@ module _ (s : Setup) (v : ℕ) (b : List ℕ) where
     unfolding follows
     follows-at zero l = refl
     follows-at (suc k) l =
-        chained-tab-at (before (s .epsilon) (s .modulus) v) (twoAt b 0) frame (rw (held-tab (s .epsilon) b) at sound-ordered) k l
+        chained-tab-at (before s v) (twoAt b 0) frame (rw (held-tab (s .epsilon) b) at sound-ordered) k l
 
     new-at : (k : ℕ) → k < twoAt b 0 → isNew s b k ≡ true
     unfolding isNew

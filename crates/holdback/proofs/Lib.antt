@@ -1,10 +1,9 @@
--- The form of a frame.
-pub mod Shapes
 -- What is written reads back the same.
 pub mod RoundTrip
--- The frames of a queue by their index, and soundness frame by frame.
+-- The frames of a queue by their index, soundness frame by frame, and a search in a sound queue.
 pub mod Frames
 pub mod Judging
+pub mod Searching
 -- The table of origins, the order of frames.
 pub mod Seen
 pub mod Order

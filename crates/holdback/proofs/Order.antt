@@ -13,50 +13,54 @@ use Rattle.laws.proofs.Lists.{every-mem}
 use Rattle.laws.proofs.Lex.{isLess-lt, lt-isLess, lex-head-lt, lex-lt-cases}
 use Rattle.laws.proofs.Sorted.{Sorted, sorted-of-chained, select-prefix, select-suffix}
 use Rattle.model.specs.Setup.{Setup}
-use Rattle.model.specs.Timestamp.{sum, near}
+use Rattle.model.specs.Timestamp.{sum}
 use Rattle.model.specs.Frame.{Frame}
-use Rattle.model.specs.Order.{key, keyNear, compareFrames, before, due, dueNear, countsDown}
+use Rattle.model.specs.Order.{readingOf, countsDown, keyBy, key, keyNear, compareFrames, before, due, dueNear}
 use Rattle.model.specs.Holdback.{notOverdue}
 use Rattle.model.specs.Tick.{dueNow}
 
+-- what the order looks at behind the sum
+abbrev tail : Setup → ℕ → Frame → List ℕ
+tail s v f = countsDown (s .epsilon) (f .stamp) ++ (f .station ∷ readingOf s v f ∷ [])
+
 -- a frame that comes before another is due no later
-pub due-first : (epsilon delta modulus v : ℕ) (f g : Frame) → before epsilon modulus v f g ≡ true → dueNear epsilon delta modulus v f ≤ dueNear epsilon delta modulus v g
-unfolding before compareFrames keyNear key dueNear due
-due-first epsilon delta modulus v f g h =
-    let a : ℕ = sum (near epsilon modulus v (f .stamp .r)) (f .stamp .c) in
-    let b : ℕ = sum (near epsilon modulus v (g .stamp .r)) (g .stamp .c) in
-    elim (lex-lt-cases a b (countsDown epsilon (f .stamp) ++ (f .station ∷ near epsilon modulus v (f .stamp .r) ∷ [])) (countsDown epsilon (g .stamp) ++ (g .station ∷ near epsilon modulus v (g .stamp .r) ∷ [])) (isLess-lt _ h)) [
+pub due-first : (s : Setup) (v : ℕ) (f g : Frame) → before s v f g ≡ true → dueNear s v f ≤ dueNear s v g
+unfolding before compareFrames keyNear key keyBy dueNear due
+due-first s v f g h =
+    let a : ℕ = sum (readingOf s v f) (f .stamp .c) in
+    let b : ℕ = sum (readingOf s v g) (g .stamp .c) in
+    elim (lex-lt-cases a b (tail s v f) (tail s v g) (isLess-lt _ h)) [
       | inl l ↦ omega arith
       | inr e ↦ omega (arith, e .0)
     ]
 
 -- and one that is due sooner comes before
-pub due-before : (epsilon delta modulus v : ℕ) (f g : Frame) → dueNear epsilon delta modulus v f < dueNear epsilon delta modulus v g → before epsilon modulus v f g ≡ true
-unfolding before compareFrames keyNear key dueNear due
-due-before epsilon delta modulus v f g h =
-    let a : ℕ = sum (near epsilon modulus v (f .stamp .r)) (f .stamp .c) in
-    let b : ℕ = sum (near epsilon modulus v (g .stamp .r)) (g .stamp .c) in
+pub due-before : (s : Setup) (v : ℕ) (f g : Frame) → dueNear s v f < dueNear s v g → before s v f g ≡ true
+unfolding before compareFrames keyNear key keyBy dueNear due
+due-before s v f g h =
+    let a : ℕ = sum (readingOf s v f) (f .stamp .c) in
+    let b : ℕ = sum (readingOf s v g) (g .stamp .c) in
     let l : a < b = omega arith in
-    lt-isLess (lex-head-lt a b (countsDown epsilon (f .stamp) ++ (f .station ∷ near epsilon modulus v (f .stamp .r) ∷ [])) (countsDown epsilon (g .stamp) ++ (g .station ∷ near epsilon modulus v (g .stamp .r) ∷ [])) l)
+    lt-isLess (lex-head-lt a b (tail s v f) (tail s v g) l)
 
-module _ (s : Setup) (v : ℕ) (queue : List Frame) (ordered : chained (before (s .epsilon) (s .modulus) v) queue ≡ true) (kept : every (notOverdue s v) queue ≡ true) where
-  sorted : Sorted (keyNear (s .epsilon) (s .modulus) v) queue
+module _ (s : Setup) (v : ℕ) (queue : List Frame) (ordered : chained (before s v) queue ≡ true) (kept : every (notOverdue s v) queue ≡ true) where
+  sorted : Sorted (keyNear s v) queue
   unfolding before compareFrames
-  sorted = sorted-of-chained (keyNear (s .epsilon) (s .modulus) v) queue ordered
+  sorted = sorted-of-chained (keyNear s v) queue ordered
 
   -- a frame before one that is due is due
-  due-down : (y z : Frame) → List·Memᴰ y queue → List·Memᴰ z queue → dueNow s v y ≡ true → before (s .epsilon) (s .modulus) v z y ≡ true → dueNow s v z ≡ true
+  due-down : (y z : Frame) → List·Memᴰ y queue → List·Memᴰ z queue → dueNow s v y ≡ true → before s v z y ≡ true → dueNow s v z ≡ true
   unfolding dueNow notOverdue
   due-down y z m n d l =
-      let e : dueNear (s .epsilon) (s .delta) (s .modulus) v y ≡ s .modulus = eqb-true (dueNear (s .epsilon) (s .delta) (s .modulus) v y) (s .modulus) d in
-      let o : s .modulus ≤ dueNear (s .epsilon) (s .delta) (s .modulus) v z = leb-true (s .modulus) (dueNear (s .epsilon) (s .delta) (s .modulus) v z) (every-mem (notOverdue s v) kept n) in
-      let f = due-first (s .epsilon) (s .delta) (s .modulus) v z y l in
-      eq-eqb (dueNear (s .epsilon) (s .delta) (s .modulus) v z) (s .modulus) (omega arith)
+      let e : dueNear s v y ≡ s .modulus = eqb-true (dueNear s v y) (s .modulus) d in
+      let o : s .modulus ≤ dueNear s v z = leb-true (s .modulus) (dueNear s v z) (every-mem (notOverdue s v) kept n) in
+      let f = due-first s v z y l in
+      eq-eqb (dueNear s v z) (s .modulus) (omega arith)
 
   pub due-prefix : select (dueNow s v) queue ≡ take (leading (dueNow s v) queue) queue
   unfolding before compareFrames
-  due-prefix = select-prefix (keyNear (s .epsilon) (s .modulus) v) (dueNow s v) queue sorted due-down
+  due-prefix = select-prefix (keyNear s v) (dueNow s v) queue sorted due-down
 
   pub due-rest : select (λ f. not (dueNow s v f)) queue ≡ drop (leading (dueNow s v) queue) queue
   unfolding before compareFrames
-  due-rest = select-suffix (keyNear (s .epsilon) (s .modulus) v) (dueNow s v) queue sorted due-down
+  due-rest = select-suffix (keyNear s v) (dueNow s v) queue sorted due-down

@@ -14,7 +14,7 @@ use Rattle.model.specs.Setup.{width}
 use Rattle.model.specs.Frame.{Frame, twoBytes, twoAt, encode, decode, wellFormed, frameEnd}
 use Rattle.model.specs.Holdback.{held, encodeFrames}
 use Rattle.lemmas.proofs.RoundTrip.{frame-end, two-at-encode}
-use Rattle.holdback.specs.Queue.{frameStart, endOf, frameAt, Figures}
+use Rattle.holdback.specs.Queue.{frameStart, endOf, frameAt, Spans}
 use Rattle.holdback.proofs.RoundTrip.{Bytes, encode-decode}
 use Rattle.holdback.proofs.Frames.{start-zero, start-suc}
 use Rattle.holdback.proofs.Changes.{pieces, formed-frames, length-held}
@@ -48,7 +48,7 @@ module _ (epsilon : ℕ) (queue : List Frame) (rest : List ℕ) (wide : Wide eps
       ∙ ap (frameEnd epsilon) (drop-at (count ++ x) (encode f ++ (y ++ rest)) (frameStart epsilon bytes k) (length-append count x ∙ sym e))
       ∙ frame-end epsilon f (y ++ rest) (wide f (mem-getD queue k d h))
 
-  pub written-start : (k : ℕ) → k ≤ length queue → frameStart epsilon bytes k ≡ 2 + length (joined encode (take k queue))
+  written-start : (k : ℕ) → k ≤ length queue → frameStart epsilon bytes k ≡ 2 + length (joined encode (take k queue))
   unfolding joined
   written-start zero h = start-zero epsilon bytes
   written-start (suc k) h =
@@ -89,7 +89,7 @@ length-joined-insert p f l =
 
 -- ---- a queue with a frame put at its place
 
-module _ {epsilon : ℕ} {s : List ℕ} {count stop index at : ℕ} (known : Figures epsilon s count stop index at) (clean : Bytes s)
+module _ {epsilon : ℕ} {s : List ℕ} {count stop index at : ℕ} (known : Spans epsilon s count stop index at) (clean : Bytes s)
     (frame : List ℕ) (frame-clean : Bytes frame) (well : wellFormed epsilon frame ≡ true) where
   abbrev more : List Frame
   more = insertAt index (decode epsilon frame) (held epsilon s)
@@ -97,20 +97,20 @@ module _ {epsilon : ℕ} {s : List ℕ} {count stop index at : ℕ} (known : Fig
   module _ (wide : Wide epsilon more) (b : List ℕ) (placed : b ≡ overlay (encodeFrames more) s) where
     start-old : (i : ℕ) → i ≤ count → frameStart epsilon s i ≡ 2 + length (joined encode (take i (held epsilon s)))
     start-old i h =
-        pieces epsilon s clean (known .two) (formed-frames epsilon s (known .formed)) i (omega (arith, known .counted)) .front
+        pieces epsilon s clean (known .two) (formed-frames epsilon s (known .formed)) i (omega (arith, known .count-is)) .front
 
     start-new : (i : ℕ) → i ≤ count + 1 → frameStart epsilon b i ≡ 2 + length (joined encode (take i more))
     unfolding overlay
     start-new i h =
         ap (λ (l : List ℕ). frameStart epsilon l i) placed
         ∙ written-start epsilon more (drop (length (encodeFrames more)) s) wide i
-        (omega (arith, length-insertAt index (decode epsilon frame) (held epsilon s), length-held epsilon s, known .counted))
+        (omega (arith, length-insertAt index (decode epsilon frame) (held epsilon s), length-held epsilon s, known .count-is))
 
     pub start-before : (i : ℕ) → i ≤ index → frameStart epsilon b i ≡ frameStart epsilon s i
     start-before i h =
         let few : i ≤ count = omega (arith, known .inside) in
         start-new i (omega arith)
-        ∙ ap (λ (l : List Frame). 2 + length (joined encode l)) (take-insert-low index i (decode epsilon frame) (held epsilon s) h (omega (arith, length-held epsilon s, known .counted)))
+        ∙ ap (λ (l : List Frame). 2 + length (joined encode l)) (take-insert-low index i (decode epsilon frame) (held epsilon s) h (omega (arith, length-held epsilon s, known .count-is)))
         ∙ sym (start-old i few)
 
     pub start-behind : (i : ℕ) → index ≤ i → i ≤ count → frameStart epsilon b (suc i) ≡ frameStart epsilon s i + length frame
@@ -128,7 +128,7 @@ module _ {epsilon : ℕ} {s : List ℕ} {count stop index at : ℕ} (known : Fig
     count-behind =
         ap (λ (l : List ℕ). twoAt l 0) placed
         ∙ two-at-encode more (drop (length (encodeFrames more)) s)
-        ∙ omega (arith, length-insertAt index (decode epsilon frame) (held epsilon s), length-held epsilon s, known .counted)
+        ∙ omega (arith, length-insertAt index (decode epsilon frame) (held epsilon s), length-held epsilon s, known .count-is)
 
     pub end-behind : endOf epsilon b ≡ stop + length frame
     end-behind =

@@ -1,6 +1,6 @@
 -- The table of origins: looking up, marking, and the empty table.
 -- Assumes nothing.
-use Prim.Native.Nat.{ℕ, _+_, _<_}
+use Prim.Native.Nat.{ℕ, _<_}
 use native.Mathlib.Omega.{arith}
 use mathlib.Core.Path.{_≡_, refl, sym, ap, _∙_}
 use mathlib.Core.Bool.{Bool, true, false, _||_, cond}
@@ -12,24 +12,23 @@ use Rattle.laws.specs.Lists.{any, insertAt}
 use Rattle.laws.proofs.Numbers.{and-intro, and-left, and-right, same-test, eqb-sym}
 use Rattle.laws.proofs.Lists.{length-tab, getD-tab, set-tab, tab-ext, replicate-tab, any-ext, any-insertAt}
 use Rattle.model.specs.Setup.{Setup}
-use Rattle.model.specs.Timestamp.{near}
 use Rattle.model.specs.Frame.{Frame, decode}
-use Rattle.model.specs.Judge.{readingOf}
+use Rattle.model.specs.Order.{readingOf}
 use Rattle.model.specs.Holdback.{sameOrigin}
 use Rattle.timestamp.specs.declared.ordering.Rank.{Rank}
 use Rattle.holdback.specs.Queue.{rankOf}
-use Rattle.holdback.specs.Seen.{InWindow, Within, tableLength, rankSlot, slotOf, seenTable, marked}
+use Rattle.holdback.specs.Seen.{Placeable, Within, tableLength, rankSlot, slotOf, seenTable, marked}
 use Rattle.lemmas.proofs.Bounds.{Limits}
 use Rattle.holdback.proofs.RoundTrip.{passing}
-use Rattle.lemmas.proofs.Queue.{overdue-from}
-use Rattle.lemmas.proofs.Reading.{near-high, near-injective}
+use Rattle.lemmas.proofs.Queue.{overdue-from, reading-high}
+use Rattle.lemmas.proofs.Reading.{near-injective}
 use Rattle.splice.specs.Bytes.{cleared, zeros}
 use Rattle.holdback.proofs.Changes.{all-cleared}
 use Rattle.holdback.proofs.Judging.{Fitting}
 
 -- a frame that a sound queue can have is one
-pub fitting-window : (s : Setup) (v : ℕ) (bytes : List ℕ) → Fitting s v bytes → InWindow s v (decode (s .epsilon) bytes)
-fitting-window s v bytes fit =
+pub fitting-placeable : (s : Setup) (v : ℕ) (bytes : List ℕ) → Fitting s v bytes → Placeable s v (decode (s .epsilon) bytes)
+fitting-placeable s v bytes fit =
     let p = passing s bytes (fit .passed) in
     let o = overdue-from s v (decode (s .epsilon) bytes) (fit .overdue) in
     record { station-below = p .station-below; r-below = p .r-below; not-before = omega arith }
@@ -43,40 +42,36 @@ unfolding slotOf
 rank-slot s v f rank e = ap (rankSlot s) e
 
 module _ (s : Setup) (v : ℕ) (limits : Limits s) (below : v < s .modulus) where
-  reading-high : (f : Frame) → readingOf s v f < s .modulus + s .epsilon
-  unfolding readingOf
-  reading-high f = near-high (s .epsilon) (s .modulus) v (f .stamp .r) (limits .epsilon-pos) (omega arith)
-
   -- a frame's rank has a place if the frame has one
-  pub within : (f : Frame) (rank : Rank) → InWindow s v f → rank ≡ rankOf s v f → Within s rank
+  pub within : (f : Frame) (rank : Rank) → Placeable s v f → rank ≡ rankOf s v f → Within s rank
   within f rank w e =
       let er : rank .reading ≡ readingOf s v f = ap (λ (q : Rank). q .reading) e in
       let es : rank .station ≡ f .station = ap (λ (q : Rank). q .station) e in
-      let h = reading-high f in
+      let h = reading-high s v f limits in
       record { station-below = omega (arith, w .station-below); not-before = omega (arith, w .not-before); not-past = omega arith }
 
-  slot-below : (f : Frame) → InWindow s v f → slotOf s v f < tableLength
+  slot-below : (f : Frame) → Placeable s v f → slotOf s v f < tableLength
   unfolding slotOf
   slot-below f w = rank-below s limits (rankOf s v f) (within f (rankOf s v f) w refl)
 
-  same-reading : (f g : Frame) → InWindow s v f → InWindow s v g → readingOf s v f ≡ readingOf s v g → f .stamp .r ≡ g .stamp .r
+  same-reading : (f g : Frame) → Placeable s v f → Placeable s v g → readingOf s v f ≡ readingOf s v g → f .stamp .r ≡ g .stamp .r
   unfolding readingOf
   same-reading f g w x e =
       near-injective (s .epsilon) (s .modulus) v (f .stamp .r) (g .stamp .r) (limits .epsilon-pos) (omega arith) below (w .r-below) (x .r-below) e
 
   same-near : (f g : Frame) → f .stamp .r ≡ g .stamp .r → readingOf s v f ≡ readingOf s v g
   unfolding readingOf
-  same-near f g e = ap (near (s .epsilon) (s .modulus) v) e
+  same-near f g e = rw e
 
   -- one place, one origin
-  pub same-slot : (f g : Frame) → InWindow s v f → InWindow s v g → eqb (slotOf s v g) (slotOf s v f) ≡ sameOrigin f g
+  same-slot : (f g : Frame) → Placeable s v f → Placeable s v g → eqb (slotOf s v g) (slotOf s v f) ≡ sameOrigin f g
   unfolding slotOf sameOrigin
   same-slot f g w x =
       same-test (eqb (slotOf s v g) (slotOf s v f)) (sameOrigin f g)
       (λ e.
       let one : slotOf s v g ≡ slotOf s v f = eqb-true (slotOf s v g) (slotOf s v f) e in
-      let h = reading-high f in
-      let k = reading-high g in
+      let h = reading-high s v f limits in
+      let k = reading-high s v g limits in
       let station : f .station ≡ g .station = omega arith in
       let reading : readingOf s v f ≡ readingOf s v g = omega arith in
       and-intro (eq-eqb (f .station) (g .station) station) (eq-eqb (f .stamp .r) (g .stamp .r) (same-reading f g w x reading)))
@@ -87,7 +82,7 @@ module _ (s : Setup) (v : ℕ) (limits : Limits s) (below : v < s .modulus) wher
       eq-eqb (slotOf s v g) (slotOf s v f) (omega arith))
 
   -- question 16 is one look-up
-  pub seen-at : (queue : List Frame) (f : Frame) → ((g : Frame) → List·Memᴰ g queue → InWindow s v g) → InWindow s v f
+  pub seen-at : (queue : List Frame) (f : Frame) → ((g : Frame) → List·Memᴰ g queue → Placeable s v g) → Placeable s v f
       → getD (seenTable s v queue) (slotOf s v f) 0 ≡ cond (any (sameOrigin f) queue) 1 0
   unfolding seenTable
   seen-at queue f all w =

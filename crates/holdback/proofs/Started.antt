@@ -13,18 +13,19 @@ use borrow.Author.Tests.{lt-ltb, le-ltb, ltb-true, leb-true, eq-eqb, ne-eqb}
 use Rattle.laws.specs.Lists.{tab, every, leading, insertAt}
 use Rattle.laws.proofs.Numbers.{lt-or-ge, eq-or-ne, true-or-false, cond-same}
 use Rattle.laws.proofs.Lists.{length-tab, getD-tab, tab-getD, eq-tab, tab-ext, set-tab, replicate-tab, take-tab, leading-le, every-leading}
-use Rattle.model.specs.Setup.{Setup, depth}
+use Rattle.model.specs.Setup.{Setup, width, longestFrame, depth}
 use Rattle.model.specs.Timestamp.{sum}
 use Rattle.model.specs.Frame.{Frame, twoAt, decode}
 use Rattle.model.specs.Order.{due, dueNear, before}
 use Rattle.model.specs.Holdback.{held, soundHoldback, notEarly}
 use Rattle.lemmas.proofs.Bounds.{Limits}
-use Rattle.timestamp.proofs.InLimits.{depth-most}
+use Rattle.setup.proofs.InLimits.{depth-most}
 use Rattle.holdback.specs.Queue.{frameStart, frameAt}
-use Rattle.holdback.specs.Sound.{fits, follows, frameSound, Led}
+use Rattle.holdback.specs.Sound.{fits, follows, frameSound}
 use Rattle.holdback.specs.Starts.{startUnit, startLimit, startPlaces, front, allFront, sumPlace, framesBelow, startOf, startsOf, changed, filled, movedStarts, Moving}
 use Rattle.holdback.proofs.Frames.{start-zero, start-most, held-tab, leading-held, FormedUpTo}
 use Rattle.holdback.proofs.Judging.{every-tab-at, fitting, frame-follows, sound-few, sound-frames, sound-formed}
+use Rattle.holdback.proofs.Searching.{Led}
 use Rattle.holdback.proofs.Order.{due-first, due-before}
 use Rattle.holdback.proofs.Changes.{length-held}
 
@@ -97,14 +98,14 @@ all-front starts e =
 
 module _ (s : Setup) (v : ℕ) where
   -- a smaller sum comes before
-  smaller-before : (f g : Frame) → sumPlace s v f < sumPlace s v g → before (s .epsilon) (s .modulus) v f g ≡ true
+  smaller-before : (f g : Frame) → sumPlace s v f < sumPlace s v g → before s v f g ≡ true
   unfolding sumPlace
-  smaller-before f g h = due-before (s .epsilon) (s .delta) (s .modulus) v f g (omega arith)
+  smaller-before f g h = due-before s v f g (omega arith)
 
   -- what comes before has no larger one
-  before-smaller : (f g : Frame) → before (s .epsilon) (s .modulus) v f g ≡ true → sumPlace s v f ≤ sumPlace s v g
+  before-smaller : (f g : Frame) → before s v f g ≡ true → sumPlace s v f ≤ sumPlace s v g
   unfolding sumPlace
-  before-smaller f g h = omega (arith, due-first (s .epsilon) (s .delta) (s .modulus) v f g h)
+  before-smaller f g h = omega (arith, due-first s v f g h)
 
   pub place-inside : Limits s → (bytes : List ℕ) → fits s v bytes ≡ true → sumPlace s v (decode (s .epsilon) bytes) < startPlaces
   unfolding sumPlace notEarly dueNear due sum
@@ -177,19 +178,19 @@ module _ (s : Setup) (v : ℕ) (queue : List ℕ) where
 -- ---- how large they are
 
 -- a number of frames, and where they end
-pub figures-small : (s : Setup) (queue : List ℕ) (i : ℕ) → Limits s → i ≤ depth (s .n) (s .epsilon) (s .delta) → FormedUpTo (s .epsilon) queue i → (i ≤ 1792) × (frameStart (s .epsilon) queue i < startUnit)
-unfolding depth
-figures-small s queue i limits few formed =
+pub spans-small : (s : Setup) (queue : List ℕ) (i : ℕ) → Limits s → i ≤ depth (s .n) (s .epsilon) (s .delta) → FormedUpTo (s .epsilon) queue i → (i ≤ 1792) × (frameStart (s .epsilon) queue i < startUnit)
+unfolding depth longestFrame width
+spans-small s queue i limits few formed =
     let most : i ≤ 1792 = omega (arith, depth-most (s .n) (s .epsilon) (s .delta) (limits .n-most) (limits .epsilon-most) (limits .delta-most)) in
-    let wide : 39 + 2 * s .epsilon ≤ 71 = omega (arith, limits .epsilon-most) in
-    let all : i * (39 + 2 * s .epsilon) ≤ 1792 * 71 = mul-le-mul most wide in
+    let wide : longestFrame (s .epsilon) ≤ 71 = omega (arith, limits .epsilon-most) in
+    let all : i * longestFrame (s .epsilon) ≤ 1792 * 71 = mul-le-mul most wide in
     (most, omega (arith, start-most (s .epsilon) queue i formed))
 
 module _ (s : Setup) (v : ℕ) (queue : List ℕ) (limits : Limits s) (sound : soundHoldback s v queue ≡ true) where
   below-small : (k : ℕ) → (framesBelow s v queue k ≤ 1792) × (frameStart (s .epsilon) queue (framesBelow s v queue k) < startUnit)
   below-small k =
       let i : ℕ = framesBelow s v queue k in
-      figures-small s queue i limits (omega (arith, below-most s v queue k, sound-few s v queue sound)) (sound-formed s v queue i (λ j l. sound-frames s v queue sound j (omega (arith, below-most s v queue k))))
+      spans-small s queue i limits (omega (arith, below-most s v queue k, sound-few s v queue sound)) (sound-formed s v queue i (λ j l. sound-frames s v queue sound j (omega (arith, below-most s v queue k))))
 
   pub moving : {step : ℕ} {starts : List ℕ} → starts ≡ startsOf s v queue → step < startLimit → Moving starts step
   unfolding startOf
@@ -198,9 +199,9 @@ module _ (s : Setup) (v : ℕ) (queue : List ℕ) (limits : Limits s) (sound : s
 
   -- a search that starts at an entry
   pub start-leads : {count k m : ℕ} (f : Frame) → 2 ≤ length queue → count ≡ twoAt queue 0 → m ≡ startOf s v queue k → k ≡ sumPlace s v f
-      → Led (λ g. before (s .epsilon) (s .modulus) v g f) s v queue count (m / startUnit) (m % startUnit)
+      → Led (λ g. before s v g f) s v queue count (m / startUnit) (m % startUnit)
   unfolding startOf
-  start-leads {count} {k} {m} f two counted e own =
+  start-leads {count} {k} {m} f two count-is e own =
       let i : ℕ = framesBelow s v queue k in
       let frame : ℕ → Frame = frameAt (s .epsilon) queue in
       let low = below-small k .1 in
@@ -212,7 +213,7 @@ module _ (s : Setup) (v : ℕ) (queue : List ℕ) (limits : Limits s) (sound : s
       record {
         sound = sound;
         two = two;
-        counted = counted;
+        count-is = count-is;
         starts = next ∙ ap (frameStart (s .epsilon) queue) (sym index);
         most = omega arith;
         ahead = λ j h. smaller-before s v (frame j) f (omega (arith, ltb-true (sumPlace s v (frame j)) k (every-tab-at (λ g. ltb (sumPlace s v g) k) i frame all j (omega arith)), own));
@@ -253,7 +254,7 @@ module _ {A : Type 0} where
       ]
 
 module _ (s : Setup) (v : ℕ) (queue queue′ : List ℕ) (f : Frame) (place size : ℕ)
-    (place-is : leading (λ g. before (s .epsilon) (s .modulus) v g f) (held (s .epsilon) queue) ≡ place)
+    (place-is : leading (λ g. before s v g f) (held (s .epsilon) queue) ≡ place)
     (held-is : held (s .epsilon) queue′ ≡ insertAt place f (held (s .epsilon) queue))
     (ahead : (i : ℕ) → i ≤ place → frameStart (s .epsilon) queue′ i ≡ frameStart (s .epsilon) queue i)
     (behind : (i : ℕ) → place ≤ i → i ≤ twoAt queue 0 → frameStart (s .epsilon) queue′ (suc i) ≡ frameStart (s .epsilon) queue i + size) where
@@ -263,7 +264,7 @@ module _ (s : Setup) (v : ℕ) (queue queue′ : List ℕ) (f : Frame) (place si
   entry-stays k h =
       let below : Frame → Bool = λ g. ltb (sumPlace s v g) k in
       let low : framesBelow s v queue k ≤ place =
-      rw (← place-is) (leading-mono below (λ g. before (s .epsilon) (s .modulus) v g f) (held (s .epsilon) queue) (λ g l. smaller-before s v g f (omega (arith, ltb-true (sumPlace s v g) k l)))) in
+      rw (← place-is) (leading-mono below (λ g. before s v g f) (held (s .epsilon) queue) (λ g l. smaller-before s v g f (omega (arith, ltb-true (sumPlace s v g) k l)))) in
       let e : framesBelow s v queue′ k ≡ framesBelow s v queue k =
       ap (leading below) held-is ∙ leading-stays below place f (held (s .epsilon) queue) low (le-ltb (sumPlace s v f) k h) in
       rw e (ap (λ (n : ℕ). framesBelow s v queue k * startUnit + n) (sym (ahead (framesBelow s v queue k) low)))
@@ -275,7 +276,7 @@ module _ (s : Setup) (v : ℕ) (queue queue′ : List ℕ) (f : Frame) (place si
       let below : Frame → Bool = λ g. ltb (sumPlace s v g) k in
       let i : ℕ = framesBelow s v queue k in
       let high : place ≤ i =
-      rw (← place-is) (leading-mono (λ g. before (s .epsilon) (s .modulus) v g f) below (held (s .epsilon) queue) (λ g l. lt-ltb (sumPlace s v g) k (omega (arith, before-smaller s v g f l)))) in
+      rw (← place-is) (leading-mono (λ g. before s v g f) below (held (s .epsilon) queue) (λ g l. lt-ltb (sumPlace s v g) k (omega (arith, before-smaller s v g f l)))) in
       let e : framesBelow s v queue′ k ≡ suc i =
       ap (leading below) held-is ∙ leading-grows below place f (held (s .epsilon) queue) high (lt-ltb (sumPlace s v f) k h) in
       rw e (omega (arith, behind i high (below-most s v queue k)))

@@ -1,6 +1,6 @@
 -- The tests of one frame, and of two, as the code makes them.
 -- Assumes nothing.
-use Prim.Native.Nat.{ℕ, _+_, _*_, _-_, _≤_, _<_, _^_, Ordering, Ordering·lt, Ordering·eq, Ordering·gt}
+use Prim.Native.Nat.{ℕ, _+_, _-_, _≤_, _<_, _^_, Ordering, Ordering·lt, Ordering·eq, Ordering·gt}
 use native.Mathlib.Omega.{arith}
 use mathlib.Core.Path.{_≡_, refl, sym, ap, ap₂, _∙_}
 use mathlib.Core.Bool.{Bool, true, false}
@@ -11,12 +11,11 @@ use lib.ListN.{length}
 use borrow.Author.Tests.{le-leb, lt-leb, leb-true, eq-eqb, ne-eqb}
 use Rattle.laws.specs.Lex.{lexCompare, isLess}
 use Rattle.laws.proofs.Numbers.{and-left, and-right}
-use Rattle.model.specs.Setup.{Setup}
+use Rattle.model.specs.Setup.{Setup, width}
 use Rattle.model.specs.Timestamp.{sum}
 use Rattle.model.specs.Frame.{Frame, decode}
 use Rattle.model.specs.Question.{firstNo, frameQuestions}
-use Rattle.model.specs.Order.{key, keyNear, compareFrames, before, due, dueNear, countsDown}
-use Rattle.model.specs.Judge.{readingOf}
+use Rattle.model.specs.Order.{readingOf, countsDown, keyBy, key, keyNear, compareFrames, before, due, dueNear}
 use Rattle.model.specs.Holdback.{passes, notEarly, notOverdue}
 use Rattle.model.specs.Tick.{dueNow}
 use Rattle.timestamp.specs.declared.ordering.Order.{Order}
@@ -25,8 +24,7 @@ use Rattle.timestamp.specs.Ranks.{orderOf, rankedFrame, Ranked}
 use Rattle.lemmas.proofs.Bounds.{Limits}
 use Rattle.lemmas.proofs.Queue.{reading-high}
 use Rattle.timestamp.proofs.Ordered.{Tags}
-use Rattle.frame.proofs.Asking.{counts-part, counts-long}
-use Rattle.holdback.proofs.Shapes.{formed}
+use Rattle.lemmas.proofs.RoundTrip.{formed-from, decode-wide}
 use Rattle.holdback.specs.Queue.{rankOf, rankBefore}
 use Rattle.holdback.specs.Sound.{fits, timely, Summed}
 use Rattle.holdback.specs.Starts.{rankPlace, sumPlace}
@@ -72,11 +70,11 @@ fits-passes s v bytes h = and-left (passes s bytes) _ h
 
 -- a frame that passes 10 to 12 fits if its rank is timely
 pub fits-by : (s : Setup) (v : ℕ) (bytes : List ℕ) (rank : Rank) → passes s bytes ≡ true → rank ≡ rankOf s v (decode (s .epsilon) bytes) → timely s rank ≡ fits s v bytes
-unfolding fits timely notEarly notOverdue dueNear readingOf
+unfolding fits timely notEarly notOverdue dueNear
 fits-by s v bytes rank ok e = ap (timely s) e ∙ rw ok
 
 pub due-tested : (s : Setup) (v : ℕ) (f : Frame) (r : ℕ) → Summed s v f r → eqb (r + s .delta + s .epsilon) (s .modulus) ≡ dueNow s v f
-unfolding dueNow dueNear due readingOf sum
+unfolding dueNow dueNear due sum
 due-tested s v f r total = rw (total .is-sum)
 
 -- the place of a sum
@@ -85,16 +83,16 @@ unfolding timely due sum
 rank-past s rank h = leb-true _ _ (and-right (leb (rank .reading + rank .c) (s .modulus + (s .epsilon - 1))) _ h)
 
 pub rank-placed : (s : Setup) (v : ℕ) (f : Frame) (rank : Rank) → rank ≡ rankOf s v f → rankPlace s rank ≡ sumPlace s v f
-unfolding rankPlace sumPlace dueNear readingOf
+unfolding rankPlace sumPlace dueNear
 rank-placed s v f rank e = ap (rankPlace s) e
 
 -- ---- the order of two
 
 key-ranked : (s : Setup) (v : ℕ) (f : Frame) (rank : Rank) (kn : List ℕ) → rank ≡ rankOf s v f → kn ≡ f .stamp .kn
-    → key (s .epsilon) (rank .reading) (rankedFrame rank kn) ≡ keyNear (s .epsilon) (s .modulus) v f
-unfolding keyNear key countsDown readingOf
+    → keyBy (s .epsilon) (rank .reading) (rankedFrame rank kn) ≡ keyNear s v f
+unfolding keyNear key keyBy countsDown
 key-ranked s v f rank kn er ek =
-    ap₂ (λ (q : Rank) (l : List ℕ). key (s .epsilon) (q .reading) (rankedFrame q l)) er ek
+    ap₂ (λ (q : Rank) (l : List ℕ). keyBy (s .epsilon) (q .reading) (rankedFrame q l)) er ek
 
 less-first : (tags : Tags) (o : Order) (x : Ordering) → o ≡ orderOf x → tags .tag o ≡ 0 → true ≡ isLess x
 less-first tags o Ordering·lt e t = refl
@@ -109,26 +107,24 @@ less-not tags o Ordering·eq e t = refl
 less-not tags o Ordering·gt e t = refl
 
 module _ (tags : Tags) (epsilon : ℕ) (f g : Rank) (kf kg : List ℕ) (o : Order)
-    (e : o ≡ orderOf (lexCompare (key epsilon (f .reading) (rankedFrame f kf)) (key epsilon (g .reading) (rankedFrame g kg)))) where
+    (e : o ≡ orderOf (lexCompare (keyBy epsilon (f .reading) (rankedFrame f kf)) (keyBy epsilon (g .reading) (rankedFrame g kg)))) where
   pub is-before : tags .tag o ≡ 0 → true ≡ rankBefore epsilon f kf g kg
   unfolding rankBefore
-  is-before t = less-first tags o (lexCompare (key epsilon (f .reading) (rankedFrame f kf)) (key epsilon (g .reading) (rankedFrame g kg))) e t
+  is-before t = less-first tags o (lexCompare (keyBy epsilon (f .reading) (rankedFrame f kf)) (keyBy epsilon (g .reading) (rankedFrame g kg))) e t
 
   pub not-before : (tags .tag o ≡ 1) ⊎ (tags .tag o ≡ 2) → false ≡ rankBefore epsilon f kf g kg
   unfolding rankBefore
-  not-before t = less-not tags o (lexCompare (key epsilon (f .reading) (rankedFrame f kf)) (key epsilon (g .reading) (rankedFrame g kg))) e t
-
-pub counts-end : (s : Setup) (bytes : List ℕ) → passes s bytes ≡ true → 6 + 2 * s .epsilon ≤ length bytes
-counts-end s bytes ok = let o = formed (s .epsilon) bytes (passing s bytes ok .well) in omega arith
+  not-before t = less-not tags o (lexCompare (keyBy epsilon (f .reading) (rankedFrame f kf)) (keyBy epsilon (g .reading) (rankedFrame g kg))) e t
 
 pub ranked : (s : Setup) (v : ℕ) (bytes kn : List ℕ) (rank : Rank) → Limits s → passes s bytes ≡ true → kn ≡ decode (s .epsilon) bytes .stamp .kn → rank ≡ rankOf s v (decode (s .epsilon) bytes)
     → Ranked (s .epsilon) rank kn
+unfolding width
 ranked s v bytes kn rank limits ok ek e =
     let p = passing s bytes ok in
     let h = reading-high s v (decode (s .epsilon) bytes) limits in
     let ec : rank .c ≡ decode (s .epsilon) bytes .stamp .c = ap (λ (q : Rank). q .c) e in
     let er : rank .reading ≡ readingOf s v (decode (s .epsilon) bytes) = ap (λ (q : Rank). q .reading) e in
-    let wide : length kn ≡ 2 * s .epsilon = ap length (ek ∙ sym (counts-part (s .epsilon) bytes)) ∙ counts-long (s .epsilon) bytes (p .well) in
+    let wide : length kn ≡ width (s .epsilon) = ap length ek ∙ decode-wide (s .epsilon) bytes (formed-from (s .epsilon) bytes (p .well)) in
     record {
       lead = omega arith;
       small = omega arith;
@@ -145,12 +141,12 @@ rank-fits s v bytes rank limits h e =
 
 -- by ranks and counts as by the frames themselves
 pub before-by : (s : Setup) (v : ℕ) (f g : Frame) (rf rg : Rank) (kf kg : List ℕ) → rf ≡ rankOf s v f → kf ≡ f .stamp .kn → rg ≡ rankOf s v g → kg ≡ g .stamp .kn
-    → rankBefore (s .epsilon) rf kf rg kg ≡ before (s .epsilon) (s .modulus) v f g
+    → rankBefore (s .epsilon) rf kf rg kg ≡ before s v f g
 unfolding rankBefore before compareFrames
 before-by s v f g rf rg kf kg ef ek eg el =
     ap₂ (λ (k l : List ℕ). isLess (lexCompare k l)) (key-ranked s v f rf kf ef ek) (key-ranked s v g rg kg eg el)
 
 -- the same, of a test of the first
 pub before-rank : (s : Setup) (v : ℕ) (f g : Frame) (rank : Rank) (kn : List ℕ) → rank ≡ rankOf s v g → kn ≡ g .stamp .kn → {t : Bool} → t ≡ rankBefore (s .epsilon) (rankOf s v f) (f .stamp .kn) rank kn
-    → t ≡ before (s .epsilon) (s .modulus) v f g
+    → t ≡ before s v f g
 before-rank s v f g rank kn er ek e = e ∙ before-by s v f g (rankOf s v f) rank (f .stamp .kn) kn refl refl er ek

@@ -9,103 +9,82 @@ use mathlib.Core.Bool.{Bool, true, false, _||_, not, cond}
 use mathlib.Core.Logic.{_⊎_, inl, inr}
 use mathlib.Core.List.{List, [], _∷_, List·Memᴰ}
 use lib.Dec.{eqb}
-use lib.ListN.{length, take, drop, getD, length-take, length-drop, length-replicate}
-use lib.Seq.{take-all}
+use lib.ListN.{length, take, drop, getD, length-drop, length-replicate}
 use borrow.Author.Tests.{eq-eqb, ne-eqb}
-use Rattle.laws.specs.Lists.{tab, any, leading}
+use Rattle.laws.specs.Lists.{tab, any}
 use Rattle.laws.proofs.Numbers.{clash, lt-or-ge, false-of-no, false-of-not, true-of-not, not-of-true, not-of-false, and-intro}
 use Rattle.laws.proofs.Lists.{length-tab, getD-tab, tab-suc, any-append, index-of-mem}
 use Rattle.model.specs.Setup.{Setup, depth}
-use Rattle.model.specs.Frame.{Frame, twoAt, decode, frameEnd, wellFormed}
+use Rattle.model.specs.Frame.{Frame, twoAt, countsOf, decode, payloadCountAt, frameEnd, wellFormed}
 use Rattle.model.specs.Question.{firstNo, frameQuestions}
-use Rattle.model.specs.Holdback.{held, passes, sameOrigin, soundHoldback}
+use Rattle.model.specs.Holdback.{passes, sameOrigin, soundHoldback}
+use Rattle.model.specs.Tick.{openingQueue}
 use Rattle.lemmas.proofs.Bounds.{Limits}
 use Rattle.timestamp.specs.declared.ordering.Rank.{Rank}
 use Rattle.timestamp.specs.Ranks.{Ranked}
 use Rattle.holdback.specs.declared.soundness.Judged.{Judged}
 use Rattle.holdback.specs.declared.soundness.Walk.{Walk}
-use Rattle.holdback.specs.Queue.{frameStart, bytesAt, frameAt, rankOf, rankBefore, newestLess, countsAt, Stands}
-use Rattle.holdback.specs.Sound.{fits, follows, isNew, frameSound, timely, rankFollows, Compared, unsound, judgedAt, Walking, Starting, openedQueue, emptied, Opened, Led}
-use Rattle.holdback.specs.Seen.{InWindow, Within, rankSlot, hasMark, withMark, marked, seenTable, tableLength}
+use Rattle.holdback.specs.Queue.{frameStart, bytesAt, frameAt, rankOf, rankBefore, newestLess, countsAt}
+use Rattle.holdback.specs.Sound.{fits, follows, isNew, frameSound, timely, rankFollows, Compared, unsound, judgedAt, Walking, Starting, emptied, Walked}
+use Rattle.holdback.specs.Seen.{Placeable, Within, rankSlot, hasMark, withMark, marked, seenTable, tableLength}
 use Rattle.holdback.specs.Starts.{startUnit, startPlaces, front, allFront, rankPlace, sumPlace, startOf, startsOf, filled}
-use Rattle.holdback.proofs.Newest.{part-bytes, newest-before}
-use Rattle.holdback.proofs.RoundTrip.{passing}
-use Rattle.holdback.proofs.Frames.{start-zero, start-suc, start-inside, start-within, counts-at, held-tab, leading-held, FormedUpTo}
+use Rattle.holdback.proofs.RoundTrip.{Bytes, passing}
+use Rattle.holdback.proofs.Frames.{start-zero, start-suc, start-inside, start-within, counts-at, counts-inside, counts-bytes, bytes-drop, held-tab, FormedUpTo, lent, lent-is, next-start, bytes-part}
 use Rattle.holdback.proofs.Judging.{fitting, frame-fits, frame-follows, frame-new, sound-by, sound-few, sound-frames, sound-formed}
-use Rattle.holdback.proofs.Started.{changed-long, place-inside, sums-rise, starts-by, start-at, filled-more, figures-small}
-use Rattle.holdback.proofs.Seen.{fitting-window, within, rank-slot, seen-at, seen-more, length-seen}
+use Rattle.holdback.proofs.Started.{changed-long, place-inside, sums-rise, starts-by, start-at, filled-more, spans-small}
+use Rattle.holdback.proofs.Seen.{fitting-placeable, within, rank-slot, seen-at, seen-more, length-seen}
+use Rattle.holdback.proofs.Newest.{newest-before}
 use Rattle.holdback.proofs.Testing.{check-yes, unfit-passes, fits-by, ranked, rank-fits, rank-placed, before-by}
 
--- ---- where a frame stands, by the code's numbers
+-- ---- two frames compared, by the counts that the code lends
 
--- where the frame at `at` ends
-pub next-start : (epsilon : ℕ) (b : List ℕ) (k at size : ℕ) → at ≡ frameStart epsilon b k
-    → size ≡ frameEnd epsilon (take (length b - at) (drop at b)) → at + size ≡ frameStart epsilon b (suc k)
-next-start epsilon b k at size ea es =
-    let whole : take (length b - at) (drop at b) ≡ drop at b = take-all (length b - at) (drop at b) (omega (arith, length-drop at b)) in
-    let e : size ≡ frameEnd epsilon (drop at b) = es ∙ ap (frameEnd epsilon) whole in
-    ap₂ _+_ ea (e ∙ ap (λ (n : ℕ). frameEnd epsilon (drop n b)) ea) ∙ sym (start-suc epsilon b k)
+-- a frame with 2ε counts: it starts within the queue, and they end within it
+counts-there : (epsilon : ℕ) (b : List ℕ) (at : ℕ) (rank : Rank) → Ranked epsilon rank (countsAt epsilon b at)
+    → (at ≤ length b) × (payloadCountAt epsilon ≤ length (lent b at))
+unfolding payloadCountAt
+counts-there epsilon b at rank r =
+    let inside : payloadCountAt epsilon ≤ length (drop at b) = counts-inside epsilon (drop at b) (omega (arith, r .lead)) (r .long) in
+    (omega (arith, length-drop at b), rw (lent-is b at) inside)
 
--- its bytes
-pub bytes-part : (epsilon : ℕ) (b : List ℕ) (k at next : ℕ) → at ≡ frameStart epsilon b k → next ≡ frameStart epsilon b (suc k)
-    → take (next - at) (drop at b) ≡ bytesAt epsilon b k
-unfolding bytesAt
-bytes-part epsilon b k at next ea en =
-    let size : next - at ≡ frameEnd epsilon (drop (frameStart epsilon b k) b) = omega (arith, start-suc epsilon b k) in
-    ap₂ (λ (n m : ℕ). take n (drop m b)) size ea
+-- its counts as they are lent
+lent-counts : (epsilon : ℕ) (b : List ℕ) (at : ℕ) {kn : List ℕ} → kn ≡ countsOf epsilon (lent b at) → kn ≡ countsAt epsilon b at
+lent-counts epsilon b at e = e ∙ ap (countsOf epsilon) (lent-is b at)
 
--- ---- two frames compared, by the code's numbers
+lent-ranked : (epsilon : ℕ) (b : List ℕ) (at : ℕ) {kn : List ℕ} (rank : Rank) → kn ≡ countsOf epsilon (lent b at) → Ranked epsilon rank (countsAt epsilon b at) → Ranked epsilon rank kn
+lent-ranked epsilon b at rank e r = rw (lent-counts epsilon b at e) r
 
--- the counts end within the queue
-counts-inside : (epsilon : ℕ) (b : List ℕ) (at : ℕ) (rank : Rank) → Ranked epsilon rank (countsAt epsilon b at) → at + (6 + 2 * epsilon) ≤ length b
-counts-inside epsilon b at rank r =
-    omega (arith, r .long, r .lead, length-take (2 * epsilon) (drop (at + 6) b), length-drop (at + 6) b)
-
--- as they are lent
-counts-lent : (epsilon : ℕ) (b : List ℕ) (at : ℕ) (rank : Rank) → Ranked epsilon rank (countsAt epsilon b at)
-    → Ranked epsilon rank (take (at + (6 + 2 * epsilon) - (at + 6)) (drop (at + 6) b))
-counts-lent epsilon b at rank r =
-    let size : at + (6 + 2 * epsilon) - (at + 6) ≡ 2 * epsilon = omega arith in
-    rw size r
+lent-bytes : (epsilon : ℕ) (b : List ℕ) (at : ℕ) {kn : List ℕ} → kn ≡ countsOf epsilon (lent b at) → Bytes b → Bytes kn
+lent-bytes epsilon b at e clean = rw (lent-counts epsilon b at e) (counts-bytes epsilon (drop at b) (bytes-drop at b clean))
 
 module _ {epsilon : ℕ} {b : List ℕ} {i prev : ℕ} {last : Rank} {at : ℕ} {rank : Rank} (two : Compared epsilon b i prev last at rank) where
-  pub own-inside : at + (6 + 2 * epsilon) ≤ length b
-  own-inside = counts-inside epsilon b at rank (two .own)
+  pub own-there : (at ≤ length b) × (payloadCountAt epsilon ≤ length (lent b at))
+  own-there = counts-there epsilon b at rank (two .own)
 
-  pub previous-inside : (i ≡ 0 → ⊥) → prev + (6 + 2 * epsilon) ≤ length b
-  previous-inside n = counts-inside epsilon b prev last (two .previous n)
+  module _ (n : i ≡ 0 → ⊥) where
+    pub previous-there : (prev ≤ length b) × (payloadCountAt epsilon ≤ length (lent b prev))
+    previous-there = counts-there epsilon b prev last (two .previous n)
 
-  pub both-lent : (i ≡ 0 → ⊥)
-      → Ranked epsilon last (take (prev + (6 + 2 * epsilon) - (prev + 6)) (drop (prev + 6) b)) × Ranked epsilon rank (take (at + (6 + 2 * epsilon) - (at + 6)) (drop (at + 6) b))
-  both-lent n = (counts-lent epsilon b prev last (two .previous n), counts-lent epsilon b at rank (two .own))
+    module _ {kb ko : List ℕ} (eb : kb ≡ countsOf epsilon (lent b prev)) (eo : ko ≡ countsOf epsilon (lent b at)) where
+      pub both-ranked : Ranked epsilon last kb × Ranked epsilon rank ko
+      both-ranked = (lent-ranked epsilon b prev last eb (two .previous n), lent-ranked epsilon b at rank eo (two .own))
 
-module _ (epsilon : ℕ) (b : List ℕ) (i prev : ℕ) (last : Rank) (at : ℕ) (rank : Rank) where
-  pub follows-none : i ≡ 0 → true ≡ rankFollows epsilon b i prev last at rank
-  unfolding rankFollows
-  follows-none e = rw (eq-eqb i 0 e)
+      pub follows-some : {t : Bool} → t ≡ rankBefore epsilon last kb rank ko → t ≡ rankFollows epsilon b i prev last at rank
+      unfolding rankFollows
+      follows-some h =
+          rw (ne-eqb i 0 n) (h ∙ ap₂ (λ (x y : List ℕ). rankBefore epsilon last x rank y) (lent-counts epsilon b prev eb) (lent-counts epsilon b at eo))
 
-  pub follows-some : (i ≡ 0 → ⊥) → {t : Bool}
-      → t ≡ rankBefore epsilon last (take (prev + (6 + 2 * epsilon) - (prev + 6)) (drop (prev + 6) b)) rank (take (at + (6 + 2 * epsilon) - (at + 6)) (drop (at + 6) b))
-      → t ≡ rankFollows epsilon b i prev last at rank
-  unfolding rankFollows
-  follows-some n h =
-      let size : prev + (6 + 2 * epsilon) - (prev + 6) ≡ 2 * epsilon = omega arith in
-      let size′ : at + (6 + 2 * epsilon) - (at + 6) ≡ 2 * epsilon = omega arith in
-      rw (ne-eqb i 0 n)
-      (h ∙ ap₂ (λ (x y : ℕ). rankBefore epsilon last (take x (drop (prev + 6) b)) rank (take y (drop (at + 6) b))) size size′)
+      pub follows-newest : Bytes b → newestLess epsilon last kb rank ko ≡ true → true ≡ rankFollows epsilon b i prev last at rank
+      follows-newest clean h =
+          follows-some (sym (newest-before epsilon last rank kb ko (lent-bytes epsilon b prev eb clean) (lent-bytes epsilon b at eo clean) h))
 
-  pub follows-newest : (i ≡ 0 → ⊥) → ((j : ℕ) → getD b j 0 < 256)
-      → newestLess epsilon last (take (prev + (6 + 2 * epsilon) - (prev + 6)) (drop (prev + 6) b)) rank (take (at + (6 + 2 * epsilon) - (at + 6)) (drop (at + 6) b)) ≡ true
-      → true ≡ rankFollows epsilon b i prev last at rank
-  follows-newest n bytes h =
-      follows-some n
-      (sym (newest-before epsilon last rank (take (prev + (6 + 2 * epsilon) - (prev + 6)) (drop (prev + 6) b)) (take (at + (6 + 2 * epsilon) - (at + 6)) (drop (at + 6) b))
-      (part-bytes b (prev + 6) (prev + (6 + 2 * epsilon) - (prev + 6)) bytes) (part-bytes b (at + 6) (at + (6 + 2 * epsilon) - (at + 6)) bytes) h))
+pub follows-none : (epsilon : ℕ) (b : List ℕ) (i prev : ℕ) (last : Rank) (at : ℕ) (rank : Rank) → i ≡ 0 → true ≡ rankFollows epsilon b i prev last at rank
+unfolding rankFollows
+follows-none epsilon b i prev last at rank e = rw (eq-eqb i 0 e)
 
 -- ---- one frame judged
 
 -- a mark is 1
-pub one-is : (t : Bool) → eqb (cond t 1 0) 1 ≡ t
+one-is : (t : Bool) → eqb (cond t 1 0) 1 ≡ t
 one-is true = refl
 one-is false = refl
 
@@ -130,7 +109,7 @@ module _ {s : Setup} {v : ℕ} {b table : List ℕ} {i prev : ℕ} {last : Rank}
 
   -- an entry has room for it
   pub at-low-enough : Limits s → i ≤ depth (s .n) (s .epsilon) (s .delta) → (i ≤ 1792) × (at < startUnit)
-  at-low-enough limits few = rw (walk .starts) (figures-small s b i limits few formed-so-far)
+  at-low-enough limits few = rw (walk .starts) (spans-small s b i limits few formed-so-far)
 
   pub table-long : length table ≡ tableLength
   table-long = ap length (walk .table-is) ∙ length-seen s v (tab i (frameAt (s .epsilon) b))
@@ -155,11 +134,11 @@ module _ {s : Setup} {v : ℕ} {b table : List ℕ} {i prev : ℕ} {last : Rank}
   ranked-before limits (suc k) e n =
       ranked s v (bytesAt (s .epsilon) b k) (countsAt (s .epsilon) b prev) last limits (passed-before k (omega arith)) (counts-before k e) (rank-before k e)
 
-  module _ (size : ℕ) (es : size ≡ frameEnd (s .epsilon) (take (length b - at) (drop at b))) where
-    pub next-is : at + size ≡ frameStart (s .epsilon) b (suc i)
+  module _ (size : ℕ) (es : size ≡ frameEnd (s .epsilon) (lent b at)) where
+    next-is : at + size ≡ frameStart (s .epsilon) b (suc i)
     next-is = next-start (s .epsilon) b i at size (walk .starts) es
 
-    pub part-is : take (at + size - at) (drop at b) ≡ bytesAt (s .epsilon) b i
+    part-is : take (at + size - at) (drop at b) ≡ bytesAt (s .epsilon) b i
     part-is = bytes-part (s .epsilon) b i at (at + size) (walk .starts) next-is
 
     -- it does not end within the queue
@@ -203,7 +182,7 @@ module _ {s : Setup} {v : ℕ} {b table : List ℕ} {i prev : ℕ} {last : Rank}
       rank-small limits = let o = own-ranked limits in (o .small, o .lead)
 
       pub compared : Limits s → Compared (s .epsilon) b i prev last at rank
-      compared limits = record { own = own-ranked limits; previous = λ n. ranked-before limits i refl n }
+      compared limits = record { narrow = limits .epsilon-most; own = own-ranked limits; previous = λ n. ranked-before limits i refl n }
 
       timely-is : timely s rank ≡ fits s v (bytesAt (s .epsilon) b i)
       unfolding frameAt
@@ -232,21 +211,21 @@ module _ {s : Setup} {v : ℕ} {b table : List ℕ} {i prev : ℕ} {last : Rank}
 
       -- the look-up
       module _ (fit : fits s v (bytesAt (s .epsilon) b i) ≡ true) (limits : Limits s) (below : v < s .modulus) where
-        own-window : InWindow s v (frameAt (s .epsilon) b i)
+        own-placeable : Placeable s v (frameAt (s .epsilon) b i)
         unfolding frameAt
-        own-window = fitting-window s v (bytesAt (s .epsilon) b i) (fitting s v (bytesAt (s .epsilon) b i) fit)
+        own-placeable = fitting-placeable s v (bytesAt (s .epsilon) b i) (fitting s v (bytesAt (s .epsilon) b i) fit)
 
         pub own-within : Within s rank
-        own-within = within s v limits below (frameAt (s .epsilon) b i) rank own-window own-rank
+        own-within = within s v limits below (frameAt (s .epsilon) b i) rank own-placeable own-rank
 
-        windows : (g : Frame) → List·Memᴰ g (tab i (frameAt (s .epsilon) b)) → InWindow s v g
+        all-placeable : (g : Frame) → List·Memᴰ g (tab i (frameAt (s .epsilon) b)) → Placeable s v g
         unfolding frameAt
-        windows g m =
+        all-placeable g m =
             let frame : ℕ → Frame = frameAt (s .epsilon) b in
             let r = index-of-mem (frame 0) m in
             let l : r .0 < i = rw (length-tab i frame) at (r .1) in
             let e : frame (r .0) ≡ g = sym (getD-tab i frame (r .0) (frame 0) l) ∙ r .2 in
-            rw (← e) (fitting-window s v (bytesAt (s .epsilon) b (r .0)) (fitting s v (bytesAt (s .epsilon) b (r .0)) (frame-fits s v b (r .0) (walk .each (r .0) l))))
+            rw (← e) (fitting-placeable s v (bytesAt (s .epsilon) b (r .0)) (fitting s v (bytesAt (s .epsilon) b (r .0)) (frame-fits s v b (r .0) (walk .each (r .0) l))))
 
         looked-up : (t : Bool) → t ≡ hasMark table (rankSlot s rank) → isNew s b i ≡ not t
         unfolding isNew
@@ -255,7 +234,7 @@ module _ {s : Setup} {v : ℕ} {b table : List ℕ} {i prev : ℕ} {last : Rank}
             let queue : List Frame = tab i (frameAt (s .epsilon) b) in
             let same : t ≡ any (sameOrigin f) queue =
             e ∙ ap₂ hasMark (walk .table-is) (rank-slot s v f rank own-rank)
-            ∙ ap (λ (n : ℕ). eqb n 1) (seen-at s v limits below queue f windows own-window) ∙ one-is (any (sameOrigin f) queue) in
+            ∙ ap (λ (n : ℕ). eqb n 1) (seen-at s v limits below queue f all-placeable own-placeable) ∙ one-is (any (sameOrigin f) queue) in
             ap not (sym same)
 
         pub judged-repeated : (t : Bool) → t ≡ hasMark table (rankSlot s rank) → t ≡ true → unsound ≡ judgedAt s v b i
@@ -337,7 +316,7 @@ module _ {s : Setup} {v : ℕ} {b table : List ℕ} {i prev : ℕ} {last : Rank}
   pub judged-within : Limits s → v < s .modulus → Within s rank
   unfolding frameAt
   judged-within limits below =
-      within s v limits below (frameAt (s .epsilon) b i) rank (fitting-window s v (bytesAt (s .epsilon) b i) (fitting s v (bytesAt (s .epsilon) b i) (frame-fits s v b i (right .sound)))) (right .rank-is)
+      within s v limits below (frameAt (s .epsilon) b i) rank (fitting-placeable s v (bytesAt (s .epsilon) b i) (fitting s v (bytesAt (s .epsilon) b i) (frame-fits s v b i (right .sound)))) (right .rank-is)
 
   each-more : (k : ℕ) → k < i + 1 → frameSound s v b k ≡ true
   each-more k h = go (lt-or-ge k i)
@@ -386,17 +365,18 @@ module _ {s : Setup} {v : ℕ} {b table : List ℕ} {i prev : ℕ} {last : Rank}
 -- the end fills the last places
 pub filling-ends : {s : Setup} {v : ℕ} {b table : List ℕ} {i prev : ℕ} {last : Rank} {at from count : ℕ} {starts l : List ℕ} → Walking s v b table i prev last at → Filling s v b i from starts
     → count ≡ twoAt b 0 → i ≤ count → count ≤ i → l ≡ filled (count * startUnit + at) from startPlaces starts → l ≡ startsOf s v b
-filling-ends {s} {v} {b} {i} {at} {from} {count} {starts} walk old counted le ge h =
+filling-ends {s} {v} {b} {i} {at} {from} {count} {starts} walk old count-is le ge h =
     let e : i ≡ count = omega arith in
     starts-by s v b (changed-long (λ _. count * startUnit + at) from starts startPlaces h)
-    (λ k l. filled-more s v b starts (old .done) (λ j low high. start-at s v b (walk .starts ∙ ap (frameStart (s .epsilon) b) e) (omega (arith, counted)) (λ n l. omega (arith, old .below n (omega arith))) (λ l. absurd (omega (arith, counted)))) h k l l)
+    (λ k l. filled-more s v b starts (old .done) (λ j low high. start-at s v b (walk .starts ∙ ap (frameStart (s .epsilon) b) e) (omega (arith, count-is)) (λ n l. omega (arith, old .below n (omega arith))) (λ l. absurd (omega (arith, count-is)))) h k l l)
 
-pub opened-no : {s : Setup} {v : ℕ} {b table starts : List ℕ} {walk : Walk} → walk ≡ emptied → soundHoldback s v b ≡ false → table ≡ seenTable s v [] → starts ≡ allFront
-    → Opened s v b (walk .sound) (walk .end) table starts
-unfolding openedQueue
-opened-no {s} {v} {b} w h e none =
+pub walked-no : {s : Setup} {v : ℕ} {b table starts : List ℕ} {walk : Walk} → walk ≡ emptied → soundHoldback s v b ≡ false → table ≡ seenTable s v [] → starts ≡ allFront
+    → Walked s v b (walk .sound) (walk .count) (walk .end) table starts
+unfolding openingQueue
+walked-no {s} {v} {b} w h e none =
     record {
       sound-is = ap (λ (x : Walk). x .sound) w ∙ sym h;
+      count-is = ap (λ (x : Walk). x .count) w ∙ rw h;
       stop-is = ap (λ (x : Walk). x .end) w ∙ rw h;
       table-is = e ∙ rw h;
       starts-is = none ∙ rw h;
@@ -408,15 +388,16 @@ walk-fails s v b i l h = false-of-no (soundHoldback s v b) (λ e. clash (sound-f
 pub too-many : (s : Setup) (v : ℕ) (b : List ℕ) → depth (s .n) (s .epsilon) (s .delta) < twoAt b 0 → soundHoldback s v b ≡ false
 too-many s v b h = false-of-no (soundHoldback s v b) (λ e. omega (arith, sound-few s v b e))
 
-pub opened-yes : {s : Setup} {v : ℕ} {b t m table starts : List ℕ} {count i prev : ℕ} {last : Rank} {at : ℕ} → Starting s v b t m count → Walking s v b table i prev last at → starts ≡ startsOf s v b → i ≤ count → count ≤ i
-    → Opened s v b true at table starts
-unfolding openedQueue
-opened-yes {s} {v} {b} {count} {i} begin walk filled-all le ge =
-    let all : i ≡ twoAt b 0 = omega (arith, begin .counted) in
+pub walked-yes : {s : Setup} {v : ℕ} {b t m table starts : List ℕ} {count i prev : ℕ} {last : Rank} {at : ℕ} → Starting s v b t m count → Walking s v b table i prev last at → starts ≡ startsOf s v b → i ≤ count → count ≤ i
+    → Walked s v b true count at table starts
+unfolding openingQueue
+walked-yes {s} {v} {b} {count} {i} begin walk filled-all le ge =
+    let all : i ≡ twoAt b 0 = omega (arith, begin .count-is) in
     let sound : soundHoldback s v b ≡ true =
-    sound-by s v b (omega (arith, begin .counted, begin .few)) (λ k l. walk .each k (omega arith)) in
+    sound-by s v b (omega (arith, begin .count-is, begin .few)) (λ k l. walk .each k (omega arith)) in
     record {
       sound-is = sym sound;
+      count-is = begin .count-is ∙ rw sound;
       stop-is = walk .starts ∙ rw (sound, all);
       table-is =
           walk .table-is
@@ -424,77 +405,3 @@ opened-yes {s} {v} {b} {count} {i} begin walk filled-all le ge =
           (ap (λ (n : ℕ). tab n (frameAt (s .epsilon) b)) all ∙ sym (held-tab (s .epsilon) b) ∙ rw sound);
       starts-is = filled-all ∙ rw sound;
     }
-
--- ---- a search in a sound queue: the frames at the front of which a test holds
-
-pub led-starts : {p : Frame → Bool} {s : Setup} {v : ℕ} {b : List ℕ} {count : ℕ} → (soundHoldback s v b ≡ true) × ((2 ≤ length b) × (count ≡ twoAt b 0)) → Led p s v b count 0 2
-led-starts {s} {b} q =
-    record {
-      sound = q .0;
-      two = q .1 .0;
-      counted = q .1 .1;
-      starts = sym (start-zero (s .epsilon) b);
-      most = omega arith;
-      ahead = λ k h. absurd (not-suc-le-zero h);
-    }
-
-module _ {p : Frame → Bool} {s : Setup} {v : ℕ} {b : List ℕ} {count i at : ℕ} (led : Led p s v b count i at) where
-  stands : (i < count → p (frameAt (s .epsilon) b i) ≡ false) → Stands (s .epsilon) b (leading p (held (s .epsilon) b)) i at
-  stands last =
-      let le : i ≤ twoAt b 0 = omega (arith, led .most, led .counted) in
-      record { frames = sym (leading-held p (s .epsilon) b i le (led .ahead) (λ h. last (omega (arith, led .counted)))); starts = led .starts }
-
-  -- it holds of all
-  pub led-ends : count ≤ i → Stands (s .epsilon) b (leading p (held (s .epsilon) b)) i at
-  led-ends h = stands (λ l. absurd (omega arith))
-
-  -- one turn
-  module _ (more : i < count) where
-    formed : FormedUpTo (s .epsilon) b (twoAt b 0)
-    formed = sound-formed s v b (twoAt b 0) (λ k l. sound-frames s v b (led .sound) k l)
-
-    pub led-inside : at ≤ length b
-    led-inside = rw (led .starts) (start-within (s .epsilon) b i (led .two) (λ k h. formed k (omega (arith, led .counted))))
-
-    module _ {size : ℕ} (e : size ≡ frameEnd (s .epsilon) (take (length b - at) (drop at b))) where
-      next : at + size ≡ frameStart (s .epsilon) b (suc i)
-      next = next-start (s .epsilon) b i at size (led .starts) e
-
-      part : take (at + size - at) (drop at b) ≡ bytesAt (s .epsilon) b i
-      part = bytes-part (s .epsilon) b i at (at + size) (led .starts) next
-
-      pub led-next : at + size ≤ length b
-      led-next = rw next (start-inside (s .epsilon) b i (formed i (omega (arith, led .counted))))
-
-      pub led-passes : passes s (take (at + size - at) (drop at b)) ≡ true
-      led-passes =
-          let l : i < twoAt b 0 = omega (arith, led .counted) in
-          ap (passes s) part ∙ fitting s v (bytesAt (s .epsilon) b i) (frame-fits s v b i (sound-frames s v b (led .sound) i l)) .passed
-
-      -- a test of its bytes
-      pub led-test : (q : Frame → Bool) {t : Bool} → t ≡ q (decode (s .epsilon) (take (at + size - at) (drop at b))) → t ≡ q (frameAt (s .epsilon) b i)
-      unfolding frameAt
-      led-test q h = h ∙ ap (λ (l : List ℕ). q (decode (s .epsilon) l)) part
-
-      -- the test t of the frame's bytes
-      module _ {t : Bool} (h : t ≡ p (decode (s .epsilon) (take (at + size - at) (drop at b)))) where
-        test-is : t ≡ p (frameAt (s .epsilon) b i)
-        test-is = led-test p h
-
-        pub led-stops : not t ≡ true → Stands (s .epsilon) b (leading p (held (s .epsilon) b)) i at
-        led-stops n = stands (λ _. sym test-is ∙ false-of-not t n)
-
-        pub led-turns : not t ≡ false → Led p s v b count (i + 1) (at + size)
-        led-turns n =
-            record {
-              sound = led .sound;
-              two = led .two;
-              counted = led .counted;
-              starts = next ∙ ap (frameStart (s .epsilon) b) (sym (add-one i));
-              most = omega arith;
-              ahead = λ k m. go k m (lt-or-ge k i);
-            }
-          where
-            go : (k : ℕ) → k < i + 1 → (k < i) ⊎ (i ≤ k) → p (frameAt (s .epsilon) b k) ≡ true
-            go k m (inl q) = led .ahead k q
-            go k m (inr q) = let same : i ≡ k = omega arith in rw (← same) (sym test-is ∙ true-of-not t n)

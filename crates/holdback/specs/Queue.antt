@@ -1,19 +1,18 @@
 -- Where the frames of a hold-back queue (01: the shelf) stand in its bytes, one by one.
 -- Assumes nothing.
-use Prim.Native.Nat.{ℕ, zero, suc, _+_, _-_, _*_, _≤_}
+use Prim.Native.Nat.{ℕ, zero, suc, _+_, _-_, _≤_}
 use mathlib.Core.Path.{_≡_}
 use mathlib.Core.Bool.{Bool, true, _&&_}
 use mathlib.Core.List.{List}
 use lib.Dec.{leb, ltb, eqb}
-use lib.ListN.{length, take, drop, getD}
-use Rattle.laws.specs.Lists.{every}
+use lib.ListN.{length, take, drop}
+use Rattle.laws.specs.Lists.{every, placedAt}
 use Rattle.laws.specs.Lex.{lexCompare, isLess, numberOf}
-use Rattle.model.specs.Frame.{Frame, twoAt, wellFormed, decode, frameEnd}
+use Rattle.model.specs.Frame.{Frame, twoAt, countsOf, wellFormed, decode, frameEnd}
 use Rattle.model.specs.Holdback.{heldBytes}
 use Rattle.model.specs.Setup.{Setup}
 use Rattle.model.specs.Timestamp.{sum}
-use Rattle.model.specs.Order.{key}
-use Rattle.model.specs.Judge.{readingOf}
+use Rattle.model.specs.Order.{readingOf, keyBy}
 use Rattle.timestamp.specs.declared.ordering.Rank.{Rank}
 use Rattle.timestamp.specs.Ranks.{rankedFrame}
 
@@ -35,10 +34,10 @@ unfoldable pub frameAt : ℕ → List ℕ → ℕ → Frame
 frameAt epsilon s k = decode epsilon (bytesAt epsilon s k)
 
 -- what a change of a queue is told of it: each frame is well-formed, the number of frames and where they end, and frame `index`, or the end, and where it starts
-pub record Figures (epsilon : ℕ) (queue : List ℕ) (count end index at : ℕ) : Type 0 where
+pub record Spans (epsilon : ℕ) (queue : List ℕ) (count end index at : ℕ) : Type 0 where
   pub formed : every (wellFormed epsilon) (heldBytes epsilon queue) ≡ true
   pub two : 2 ≤ length queue
-  pub counted : count ≡ twoAt queue 0
+  pub count-is : count ≡ twoAt queue 0
   pub ends : end ≡ frameStart epsilon queue count
   pub inside : index ≤ count
   pub starts : at ≡ frameStart epsilon queue index
@@ -55,11 +54,11 @@ rankOf s v f = record { reading = readingOf s v f; c = f .stamp .c; station = f 
 -- the first of two frames comes before the second, by their ranks and counts
 unfoldable pub rankBefore : ℕ → Rank → List ℕ → Rank → List ℕ → Bool
 rankBefore epsilon f kf g kg =
-    isLess (lexCompare (key epsilon (f .reading) (rankedFrame f kf)) (key epsilon (g .reading) (rankedFrame g kg)))
+    isLess (lexCompare (keyBy epsilon (f .reading) (rankedFrame f kf)) (keyBy epsilon (g .reading) (rankedFrame g kg)))
 
 -- the eight newest of the ε counts, from offset c down, as one number
 unfoldable pub newest : ℕ → ℕ → List ℕ → ℕ
-newest epsilon c kn = numberOf 8 (λ k. getD kn (epsilon + c - k) 0)
+newest epsilon c kn = numberOf 8 (λ k. placedAt 0 kn (epsilon + c - k))
 
 -- the sums are the same, and the newest counts of the first make the smaller number
 unfoldable pub newestLess : ℕ → Rank → List ℕ → Rank → List ℕ → Bool
@@ -68,4 +67,4 @@ newestLess epsilon f kf g kg =
 
 -- the 2ε counts of a frame of a queue that starts at `at`
 abbrev pub countsAt : ℕ → List ℕ → ℕ → List ℕ
-countsAt epsilon s at = take (2 * epsilon) (drop (at + 6) s)
+countsAt epsilon s at = countsOf epsilon (drop at s)

@@ -8,12 +8,12 @@ use lib.ListN.{getD, set}
 use Rattle.laws.specs.Lists.{tab, any}
 use Rattle.model.specs.Setup.{Setup}
 use Rattle.model.specs.Frame.{Frame}
-use Rattle.model.specs.Judge.{readingOf}
+use Rattle.model.specs.Order.{readingOf}
 use Rattle.timestamp.specs.declared.ordering.Rank.{Rank}
 use Rattle.holdback.specs.Queue.{rankOf}
 
 -- places for one station: more than the δ + 3ε readings from the least, which lies δ + 2ε behind v
-abbrev pub rowLength : ℕ
+abbrev rowLength : ℕ
 rowLength = 128
 
 -- places for 16 stations
@@ -21,7 +21,7 @@ abbrev pub tableLength : ℕ
 tableLength = 2048
 
 -- a frame that has a place
-pub record InWindow (s : Setup) (v : ℕ) (f : Frame) : Type 0 where
+pub record Placeable (s : Setup) (v : ℕ) (f : Frame) : Type 0 where
   pub station-below : f .station < s .n
   pub r-below : f .stamp .r < s .modulus
   pub not-before : s .modulus ≤ readingOf s v f + (s .delta + 2 * s .epsilon)

@@ -10,9 +10,9 @@ use Rattle.laws.specs.Lists.{tab, any}
 use Rattle.model.specs.Setup.{Setup, depth}
 use Rattle.model.specs.Timestamp.{sum}
 use Rattle.model.specs.Frame.{Frame, twoAt, decode}
-use Rattle.model.specs.Judge.{readingOf}
-use Rattle.model.specs.Order.{before, due}
-use Rattle.model.specs.Holdback.{held, passes, notEarly, notOverdue, sameOrigin, soundHoldback}
+use Rattle.model.specs.Order.{readingOf, before, due}
+use Rattle.model.specs.Holdback.{passes, notEarly, notOverdue, sameOrigin, soundHoldback}
+use Rattle.model.specs.Tick.{openingQueue}
 use Rattle.timestamp.specs.declared.ordering.Rank.{Rank}
 use Rattle.timestamp.specs.Ranks.{Ranked}
 use Rattle.holdback.specs.declared.soundness.Judged.{Judged}
@@ -30,7 +30,7 @@ fits s v bytes =
 unfoldable pub follows : Setup → ℕ → List ℕ → ℕ → Bool
 follows s v queue zero = true
 follows s v queue (suc k) =
-    before (s .epsilon) (s .modulus) v (frameAt (s .epsilon) queue k) (frameAt (s .epsilon) queue (suc k))
+    before s v (frameAt (s .epsilon) queue k) (frameAt (s .epsilon) queue (suc k))
 
 -- "no station and r twice": none of the frames before it has its station and r
 unfoldable pub isNew : Setup → List ℕ → ℕ → Bool
@@ -43,7 +43,7 @@ frameSound s v queue k = fits s v (bytesAt (s .epsilon) queue k) && (follows s v
 -- "each sum at most ε − 1 past v and each sum + δ + ε not before v", of a frame with that rank
 unfoldable pub timely : Setup → Rank → Bool
 timely s rank =
-    leb (sum (rank .reading) (rank .c)) (s .modulus + (s .epsilon - 1)) && leb (s .modulus) (due (s .epsilon) (s .delta) (rank .reading) (rank .c))
+    leb (sum (rank .reading) (rank .c)) (s .modulus + (s .epsilon - 1)) && leb (s .modulus) (due s (rank .reading) (rank .c))
 
 -- frame i, at `at`, comes after the one before it, at `prev`, by their ranks
 unfoldable pub rankFollows : ℕ → List ℕ → ℕ → ℕ → Rank → ℕ → Rank → Bool
@@ -52,6 +52,7 @@ rankFollows epsilon queue i prev last at rank =
 
 -- what is asked of the two for that
 pub record Compared (epsilon : ℕ) (queue : List ℕ) (i prev : ℕ) (last : Rank) (at : ℕ) (rank : Rank) : Type 0 where
+  pub narrow : epsilon ≤ 16
   pub own : Ranked epsilon rank (countsAt epsilon queue at)
   pub previous : (i ≡ 0 → ⊥) → Ranked epsilon last (countsAt epsilon queue prev)
 
@@ -85,31 +86,19 @@ pub record Walking (s : Setup) (v : ℕ) (queue table : List ℕ) (i prev : ℕ)
 -- where it begins: the count is in its bound, the table of origins is empty, and the table of starts is that of an empty queue
 pub record Starting (s : Setup) (v : ℕ) (queue table starts : List ℕ) (count : ℕ) : Type 0 where
   pub two : 2 ≤ length queue
-  pub counted : count ≡ twoAt queue 0
+  pub count-is : count ≡ twoAt queue 0
   pub few : count ≤ depth (s .n) (s .epsilon) (s .delta)
   pub empty : table ≡ seenTable s v []
   pub all-front : starts ≡ allFront
 
--- 01, tick 1: the frames with which a tick starts: "An unsound shelf is emptied"
-unfoldable pub openedQueue : Setup → ℕ → List ℕ → List Frame
-openedQueue s v queue = cond (soundHoldback s v queue) (held (s .epsilon) queue) []
-
--- what the walk over an unsound queue answers: where the frames of an empty one end
+-- what the walk over an unsound queue answers: the number of frames of an empty one, and where they end
 abbrev pub emptied : Walk
-emptied = record { sound = false; end = 2 }
+emptied = record { sound = false; count = 0; end = 2 }
 
 -- what the walk over a whole queue answers, and the tables of origins and of starts that it leaves
-pub record Opened (s : Setup) (v : ℕ) (queue : List ℕ) (sound : Bool) (stop : ℕ) (table starts : List ℕ) : Type 0 where
+pub record Walked (s : Setup) (v : ℕ) (queue : List ℕ) (sound : Bool) (count stop : ℕ) (table starts : List ℕ) : Type 0 where
   pub sound-is : sound ≡ soundHoldback s v queue
+  pub count-is : count ≡ cond (soundHoldback s v queue) (twoAt queue 0) 0
   pub stop-is : stop ≡ cond (soundHoldback s v queue) (frameStart (s .epsilon) queue (twoAt queue 0)) 2
-  pub table-is : table ≡ seenTable s v (openedQueue s v queue)
+  pub table-is : table ≡ seenTable s v (openingQueue s v queue)
   pub starts-is : starts ≡ cond (soundHoldback s v queue) (startsOf s v queue) allFront
-
--- a search in a sound queue has come to frame i, which starts at `at`, and the test holds of every frame before it
-pub record Led (p : Frame → Bool) (s : Setup) (v : ℕ) (b : List ℕ) (count i at : ℕ) : Type 0 where
-  pub sound : soundHoldback s v b ≡ true
-  pub two : 2 ≤ length b
-  pub counted : count ≡ twoAt b 0
-  pub starts : at ≡ frameStart (s .epsilon) b i
-  pub most : i ≤ count
-  pub ahead : (k : ℕ) → k < i → p (frameAt (s .epsilon) b k) ≡ true

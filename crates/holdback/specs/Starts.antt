@@ -36,11 +36,11 @@ allFront = replicate startPlaces front
 
 -- the place for a sum: how far its due clock, sum + δ + ε, lies past v, which reads B
 unfoldable pub rankPlace : Setup → Rank → ℕ
-rankPlace s rank = due (s .epsilon) (s .delta) (rank .reading) (rank .c) - s .modulus
+rankPlace s rank = due s (rank .reading) (rank .c) - s .modulus
 
 -- the same, of a frame
 unfoldable pub sumPlace : Setup → ℕ → Frame → ℕ
-sumPlace s v f = dueNear (s .epsilon) (s .delta) (s .modulus) v f - s .modulus
+sumPlace s v f = dueNear s v f - s .modulus
 
 -- how many frames stand at the front of a queue whose sums have places below k
 abbrev pub framesBelow : Setup → ℕ → List ℕ → ℕ → ℕ

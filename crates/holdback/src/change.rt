@@ -7,7 +7,7 @@ ghost use lib.ListN.{length, take, drop};
 ghost use Rattle.laws.specs.Lists.{overlay, insertAt};
 ghost use Rattle.model.specs.Frame.{decode, wellFormed};
 ghost use Rattle.model.specs.Holdback.{held, encodeFrames, encodeHoldback};
-ghost use Rattle.holdback.specs.Queue.{Figures};
+ghost use Rattle.holdback.specs.Queue.{Spans};
 
 // A place in a queue: the frames before it, and where it stands.
 pub struct Place {
@@ -27,7 +27,7 @@ pub fn empty(buf: &mut [u8])
 // 01, tick 3: "A taken frame goes on the shelf", at its place. Of the bytes behind the frames those that are not needed stay
 // as they were.
 pub fn put(epsilon: usize, buf: &mut [u8], count: usize, end: usize, place: Place, frame: &[u8])
-    requires { ⌜ Figures epsilon (now buf) count end (place .index) (place .at) ⌝ }
+    requires { ⌜ Spans epsilon (now buf) count end (place .index) (place .at) ⌝ }
     requires { ⌜ (wellFormed epsilon (now frame) ≡ true) × ((end + length (now frame) ≤ length (now buf)) × (count < 65535)) ⌝ }
     ensures { λ _. ⌜ now (buf .exit)
         ≡ overlay (encodeFrames (insertAt (place .index) (decode epsilon (now (frame .entry))) (held epsilon (now (buf .entry))))) (now (buf .entry)) ⌝ }
@@ -46,7 +46,7 @@ pub fn write_prefix(
     prefix: Place,
     delivery: &mut [u8],
 )
-    requires { ⌜ Figures epsilon (now buf) count end (prefix .index) (prefix .at) ⌝ }
+    requires { ⌜ Spans epsilon (now buf) count end (prefix .index) (prefix .at) ⌝ }
     requires { ⌜ (length (now buf) ≤ length (now delivery)) × (count < 65536) ⌝ }
     ensures { λ _. ⌜ now (delivery .exit)
         ≡ overlay (encodeFrames (take (prefix .index) (held epsilon (now (buf .entry))))) (now (delivery .entry)) ⌝ }
@@ -58,7 +58,7 @@ pub fn write_prefix(
 
 // 01, tick 6: they leave the shelf; the others move to the front, "then zeros".
 pub fn cut_prefix(epsilon: usize, buf: &mut [u8], count: usize, end: usize, prefix: Place)
-    requires { ⌜ Figures epsilon (now buf) count end (prefix .index) (prefix .at) ⌝ }
+    requires { ⌜ Spans epsilon (now buf) count end (prefix .index) (prefix .at) ⌝ }
     requires { ⌜ count < 65536 ⌝ }
     ensures { λ _. ⌜ now (buf .exit)
         ≡ encodeHoldback (length (now (buf .entry))) (drop (prefix .index) (held epsilon (now (buf .entry)))) ⌝ }

@@ -1,8 +1,8 @@
 // The order of two frames.
 use crate::timing::reading_of;
+use setup::Setup;
 use timestamp::Order;
 use timestamp::Rank;
-use timestamp::Setup;
 use timestamp::compare_ranked;
 ghost use mathlib.Core.Path.{_≡_};
 ghost use mathlib.Core.Bool.{true};
@@ -10,7 +10,7 @@ ghost use Prim.Native.Nat.{_<_};
 ghost use Rattle.model.specs.Setup.{inLimits};
 ghost use Rattle.model.specs.Frame.{decode};
 ghost use Rattle.model.specs.Holdback.{passes};
-ghost use Rattle.timestamp.specs.Views.{setupOf};
+ghost use Rattle.setup.specs.Views.{setupOf};
 ghost use Rattle.timestamp.specs.Ranks.{Ranked};
 ghost use Rattle.holdback.specs.Queue.{rankOf, rankBefore, newestLess};
 
@@ -64,5 +64,5 @@ pub fn frame_before(s: Setup, v: usize, f: &[u8], g: Rank, kg: &[u8]) -> bool
 {
     let epsilon = s.epsilon as usize;
     let rank = rank_of(s, v, f);
-    comes_before(epsilon, rank, &f[6..6 + 2 * epsilon], g, kg)
+    comes_before(epsilon, rank, frame::counts_part(epsilon, f), g, kg)
 }

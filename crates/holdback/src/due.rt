@@ -3,7 +3,7 @@ use crate::change::Place;
 use crate::change::cut_prefix;
 use crate::change::write_prefix;
 use crate::timing::is_due;
-use timestamp::Setup;
+use setup::Setup;
 ghost use mathlib.Core.Path.{_≡_};
 ghost use mathlib.Core.Bool.{true, not};
 ghost use Prim.Native.Nat.{_≤_, _<_};
@@ -13,7 +13,7 @@ ghost use Rattle.model.specs.Setup.{inLimits};
 ghost use Rattle.model.specs.Frame.{twoAt};
 ghost use Rattle.model.specs.Holdback.{held, soundHoldback, encodeFrames, encodeHoldback};
 ghost use Rattle.model.specs.Tick.{dueNow};
-ghost use Rattle.timestamp.specs.Views.{setupOf};
+ghost use Rattle.setup.specs.Views.{setupOf};
 ghost use Rattle.holdback.specs.Queue.{frameStart, Stands};
 
 // The frames at the front that are due at v.

@@ -1,15 +1,15 @@
 // The table of origins: for each station and reading, whether such a frame is in the queue.
 use crate::compare::rank_of;
+use setup::Setup;
 use timestamp::Rank;
-use timestamp::Setup;
 ghost use mathlib.Core.Path.{_≡_};
 ghost use mathlib.Core.Bool.{true};
 ghost use Prim.Native.Nat.{_<_};
 ghost use lib.ListN.{length};
 ghost use Rattle.model.specs.Setup.{inLimits};
 ghost use Rattle.model.specs.Frame.{decode};
-ghost use Rattle.timestamp.specs.Views.{setupOf};
-ghost use Rattle.holdback.specs.Seen.{InWindow, Within, rankSlot, tableLength, hasMark, withMark, isMarked, marked};
+ghost use Rattle.setup.specs.Views.{setupOf};
+ghost use Rattle.holdback.specs.Seen.{Placeable, Within, rankSlot, tableLength, hasMark, withMark, isMarked, marked};
 
 // Places for one station in the table of origins, one for each reading.
 const ROW_LENGTH: usize = 128;
@@ -49,7 +49,7 @@ pub fn set_mark(s: Setup, rank: Rank, seen: &mut [u8])
 // A frame's place is marked. 01, 16: "that station and r" are shelved already.
 pub fn repeats(s: Setup, v: usize, frame: &[u8], seen: &[u8]) -> bool
     requires { ⌜ (inLimits (setupOf s) ≡ true) × (v < s .modulus) ⌝ }
-    requires { ⌜ InWindow (setupOf s) v (decode (s .epsilon) (now frame)) ⌝ }
+    requires { ⌜ Placeable (setupOf s) v (decode (s .epsilon) (now frame)) ⌝ }
     requires { ⌜ length (now seen) ≡ tableLength ⌝ }
     ensures { λ b. ⌜ b ≡ isMarked (setupOf s) v (decode (s .epsilon) (now (frame .entry))) (now (seen .entry)) ⌝ }
 {
@@ -59,7 +59,7 @@ pub fn repeats(s: Setup, v: usize, frame: &[u8], seen: &[u8]) -> bool
 // Marks a frame's place.
 pub fn mark(s: Setup, v: usize, frame: &[u8], seen: &mut [u8])
     requires { ⌜ (inLimits (setupOf s) ≡ true) × (v < s .modulus) ⌝ }
-    requires { ⌜ InWindow (setupOf s) v (decode (s .epsilon) (now frame)) ⌝ }
+    requires { ⌜ Placeable (setupOf s) v (decode (s .epsilon) (now frame)) ⌝ }
     requires { ⌜ length (now seen) ≡ tableLength ⌝ }
     ensures { λ _. ⌜ now (seen .exit) ≡ marked (setupOf s) v (decode (s .epsilon) (now (frame .entry))) (now (seen .entry)) ⌝ }
 {

@@ -4,7 +4,7 @@ use crate::compare::frame_before;
 use crate::compare::rank_of;
 use crate::starts::START_UNIT;
 use crate::timing::rank_place;
-use timestamp::Setup;
+use setup::Setup;
 ghost use mathlib.Core.Path.{_≡_};
 ghost use mathlib.Core.Bool.{true};
 ghost use Prim.Native.Nat.{_≤_, _<_};
@@ -13,7 +13,7 @@ ghost use Rattle.model.specs.Setup.{inLimits};
 ghost use Rattle.model.specs.Frame.{twoAt, decode};
 ghost use Rattle.model.specs.Holdback.{held, soundHoldback};
 ghost use Rattle.model.specs.Judge.{placeFor};
-ghost use Rattle.timestamp.specs.Views.{setupOf};
+ghost use Rattle.setup.specs.Views.{setupOf};
 ghost use Rattle.holdback.specs.Queue.{Stands};
 ghost use Rattle.holdback.specs.Sound.{fits};
 ghost use Rattle.holdback.specs.Starts.{startsOf};
@@ -35,7 +35,7 @@ pub fn place_for(
 {
     let epsilon = s.epsilon as usize;
     let rank = rank_of(s, v, frame);
-    let kn = &frame[6..6 + 2 * epsilon];
+    let kn = frame::counts_part(epsilon, frame);
     let start = starts[rank_place(s, rank)] as usize;
     let mut i = start / START_UNIT;
     let mut at = start % START_UNIT;

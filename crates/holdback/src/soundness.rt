@@ -10,22 +10,23 @@ use crate::starts::START_UNIT;
 use crate::starts::fill;
 use crate::timing::rank_place;
 use crate::timing::timely;
+use setup::Setup;
+use setup::depth;
 use timestamp::Rank;
-use timestamp::Setup;
-use timestamp::depth;
 ghost use mathlib.Core.Path.{_≡_};
 ghost use mathlib.Core.Bool.{true};
 ghost use Prim.Native.Nat.{_≤_, _<_};
 ghost use lib.ListN.{length, replicate};
 ghost use Rattle.model.specs.Setup.{inLimits};
-ghost use Rattle.timestamp.specs.Views.{setupOf};
+ghost use Rattle.setup.specs.Views.{setupOf};
 ghost use Rattle.holdback.specs.Seen.{tableLength};
 ghost use Rattle.holdback.specs.Starts.{allFront};
-ghost use Rattle.holdback.specs.Sound.{emptied, noRank, rankFollows, Compared, unsound, judgedAt, Walking, Starting, Opened};
+ghost use Rattle.holdback.specs.Sound.{emptied, noRank, rankFollows, Compared, unsound, judgedAt, Walking, Starting, Walked};
 
-// What the walk answers: sound or not, and where the frames end, of an unsound queue as of an empty one.
+// What the walk answers: sound or not, how many frames, and where they end, of an unsound queue as of an empty one.
 pub struct Walk {
     pub sound: bool,
+    pub count: usize,
     pub end: usize,
 }
 
@@ -34,6 +35,7 @@ fn emptied() -> Walk
 {
     Walk {
         sound: false,
+        count: 0,
         end: 2,
     }
 }
@@ -80,9 +82,8 @@ fn follows(
     if i == 0 {
         return true;
     }
-    let end = 6 + 2 * epsilon;
-    let before = &buf[prev + 6..prev + end];
-    let own = &buf[at + 6..at + end];
+    let before = frame::counts_part(epsilon, &buf[prev..]);
+    let own = frame::counts_part(epsilon, &buf[at..]);
     if newest_less(epsilon, last, before, rank, own) {
         return true;
     }
@@ -139,7 +140,7 @@ fn walk_frames(
 ) -> Walk
     requires { ⌜ (inLimits (setupOf s) ≡ true) × (v < s .modulus) ⌝ }
     requires { ⌜ Starting (setupOf s) v (now buf) (now seen) (now starts) count ⌝ }
-    ensures { λ w. ⌜ Opened (setupOf s) v (now (buf .entry)) (w .sound) (w .end) (now (seen .exit)) (now (starts .exit)) ⌝ }
+    ensures { λ w. ⌜ Walked (setupOf s) v (now (buf .entry)) (w .sound) (w .count) (w .end) (now (seen .exit)) (now (starts .exit)) ⌝ }
 {
     let slots = seen.len();
     let mut i = 0;
@@ -172,6 +173,7 @@ fn walk_frames(
     );
     Walk {
         sound: true,
+        count,
         end: at,
     }
 }
@@ -182,7 +184,7 @@ fn walk_frames(
 pub fn sound(s: Setup, v: usize, buf: &[u8], seen: &mut [u8], starts: &mut [u32]) -> Walk
     requires { ⌜ (inLimits (setupOf s) ≡ true) × (v < s .modulus) ⌝ }
     requires { ⌜ (2 ≤ length (now buf)) × ((now seen ≡ replicate tableLength 0) × (now starts ≡ allFront)) ⌝ }
-    ensures { λ w. ⌜ Opened (setupOf s) v (now (buf .entry)) (w .sound) (w .end) (now (seen .exit)) (now (starts .exit)) ⌝ }
+    ensures { λ w. ⌜ Walked (setupOf s) v (now (buf .entry)) (w .sound) (w .count) (w .end) (now (seen .exit)) (now (starts .exit)) ⌝ }
 {
     let count = splice::two_at(buf, 0);
     if depth(s.n as usize, s.epsilon as usize, s.delta as usize) < count {

@@ -1,17 +1,17 @@
 // The times of one frame: its reading near v, its sum, its due clock, and the place of its sum in the table of starts.
 use crate::compare::rank_of;
+use setup::Setup;
 use timestamp::Rank;
-use timestamp::Setup;
 use timestamp::near;
 ghost use mathlib.Core.Path.{_≡_};
 ghost use mathlib.Core.Bool.{true};
 ghost use Prim.Native.Nat.{_≤_, _<_, _^_};
 ghost use Rattle.model.specs.Setup.{inLimits};
 ghost use Rattle.model.specs.Frame.{decode};
-ghost use Rattle.model.specs.Judge.{readingOf};
+ghost use Rattle.model.specs.Order.{readingOf};
 ghost use Rattle.model.specs.Holdback.{passes};
 ghost use Rattle.model.specs.Tick.{dueNow};
-ghost use Rattle.timestamp.specs.Views.{setupOf};
+ghost use Rattle.setup.specs.Views.{setupOf};
 ghost use Rattle.holdback.specs.Sound.{fits, timely, Summed};
 ghost use Rattle.holdback.specs.Starts.{rankPlace, sumPlace};
 

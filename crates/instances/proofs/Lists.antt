@@ -14,7 +14,7 @@ use Rattle.model.specs.Holdback.{heldBytes}
 use Rattle.model.specs.Tick.{holdbackSize}
 use Rattle.model.specs.Run.{Node, Source, sentBy, stale, Call, Done, inputOf, isAccepted, movedClock, nodeAfter, outputOf, doneOf, act, atStart, runFrom, sends, messageBytes}
 use Rattle.model.proofs.Computing.{computing}
-use Rattle.theory.specs.Premises.{withOwn, sameSetup, together, distinct, validFor, exactHoldback, goodStart, largestClock, staleUntil, entriesAllowed, oneSetup, trueClock, hearsAllowed, acceptedWell, allowed, keeps, noneStale, isSent, sameTimestamp, isFresh, allFresh}
+use Rattle.theory.specs.Premises.{sameSetup, together, distinct, validFor, exactHoldback, goodStart, largestClock, staleUntil, entriesAllowed, oneSetup, trueClock, hearsAllowed, acceptedWell, allowed, keeps, noneStale, isSent, sameTimestamp, isFresh, allFresh}
 use Rattle.theory.specs.Demand2.{publishAll, publishedStart, Matched}
 use Rattle.theory.specs.Demand3.{coveredFrom, coveredFrame, Promised}
 use Rattle.theory.proofs.Demand2.{demand2-fresh}
@@ -22,12 +22,12 @@ use Rattle.theory.proofs.Demand3.{demand3}
 
 -- every definition of the runs and the premises, opened at once
 unfoldable running : Unit {0}
-unfolding keeps allowed acceptedWell oneSetup trueClock hearsAllowed sameSetup withOwn together distinct validFor exactHoldback goodStart entriesAllowed staleUntil largestClock largest sameList noneStale isSent sameTimestamp isFresh allFresh coveredFrame coveredFrom act atStart runFrom doneOf outputOf nodeAfter movedClock isAccepted inputOf sends messageBytes computing
+unfolding keeps allowed acceptedWell oneSetup trueClock hearsAllowed sameSetup together distinct validFor exactHoldback goodStart entriesAllowed staleUntil largestClock largest sameList noneStale isSent sameTimestamp isFresh allFresh coveredFrame coveredFrom act atStart runFrom doneOf outputOf nodeAfter movedClock isAccepted inputOf sends messageBytes computing
 running = tt
 
 -- n 2, ε 2, δ 1 and the least B
 abbrev group : Setup
-group = record { n = 2; epsilon = 2; delta = 1; modulus = 14; own = 0 }
+group = record { n = 2; epsilon = 2; delta = 1; modulus = 14 }
 
 -- a frame's bytes
 abbrev bytesOf : ℕ → ℕ → ℕ → List ℕ → List ℕ → List ℕ
@@ -59,22 +59,23 @@ damagedNodes =
     ∷ []
 
 -- what a call hears: an entry and its source
-pub record Entry : Type 0 where
+pub record Sourced : Type 0 where
   pub bytes : List ℕ
   pub source : Source
 
-abbrev batchOf : List Entry → List ℕ
-batchOf entries = length entries ∷ joined (λ (e : Entry). length (e .bytes) ∷ e .bytes) entries
+abbrev batchOf : List Sourced → List ℕ
+batchOf entries = length entries ∷ joined (λ (e : Sourced). length (e .bytes) ∷ e .bytes) entries
 
 -- a call of the node for a true clock
-abbrev calling : ℕ → ℕ → Bool → List ℕ → List Entry → Call
+abbrev calling : ℕ → ℕ → Bool → List ℕ → List Sourced → Call
 calling node clock send payload entries =
     record {
       node = node;
-      setup = withOwn group node;
+      setup = group;
+      own = node;
       clock = clock % 14;
       batch = batchOf entries;
-      sources = map (λ (e : Entry). e .source) entries;
+      sources = map (λ (e : Sourced). e .source) entries;
       send = send;
       payload = payload;
       outgoing = replicate 71 3;
@@ -86,10 +87,10 @@ abbrev quiet : ℕ → ℕ → Call
 quiet node clock = calling node clock false [] []
 
 -- a call that sends one byte and hears these
-abbrev sending : ℕ → ℕ → ℕ → List Entry → Call
+abbrev sending : ℕ → ℕ → ℕ → List Sourced → Call
 sending node clock byte entries = calling node clock true (byte ∷ []) entries
 
-abbrev hearing : ℕ → ℕ → List Entry → Call
+abbrev hearing : ℕ → ℕ → List Sourced → Call
 hearing node clock entries = calling node clock false [] entries
 
 -- a call that fails a check, by its setup and clock
@@ -98,6 +99,7 @@ failing node s clock =
     record {
       node = node;
       setup = s;
+      own = node;
       clock = clock;
       batch = [];
       sources = [];
@@ -109,33 +111,33 @@ failing node s clock =
     }
 
 -- an entry from the call at a position, and an older frame
-abbrev from : ℕ → List ℕ → Entry
+abbrev from : ℕ → List ℕ → Sourced
 from k bytes = record { bytes = bytes; source = sentBy k }
 
-abbrev older : List ℕ → Entry
+abbrev older : List ℕ → Sourced
 older bytes = record { bytes = bytes; source = stale }
 
 -- older frames: one that is taken, scraps that get 10, and at clock 13 one each that gets 13, 14 and 15
-abbrev old : Entry
+abbrev old : Sourced
 old = older (bytesOf 0 12 0 (1 ∷ 1 ∷ 1 ∷ 0 ∷ []) (7 ∷ []))
 
-abbrev scrap : Entry
+abbrev scrap : Sourced
 scrap = older (1 ∷ 2 ∷ [])
 
-abbrev tooLate : Entry
+abbrev tooLate : Sourced
 tooLate = older (bytesOf 0 9 0 (1 ∷ 1 ∷ 1 ∷ 0 ∷ []) (7 ∷ []))
 
-abbrev tooEarly : Entry
+abbrev tooEarly : Sourced
 tooEarly = older (bytesOf 0 0 1 (1 ∷ 1 ∷ 1 ∷ 1 ∷ []) (7 ∷ []))
 
-abbrev tooFull : Entry
+abbrev tooFull : Sourced
 tooFull = older (bytesOf 0 13 0 (1 ∷ 2 ∷ 2 ∷ 0 ∷ []) (7 ∷ []))
 
 -- older frames at the last clock at which one may be heard, 15: they claim an event at 16 that never was
-abbrev ghost : Entry
+abbrev ghost : Sourced
 ghost = older (bytesOf 0 1 1 (2 ∷ 2 ∷ 1 ∷ 1 ∷ []) (8 ∷ []))
 
-abbrev ghost′ : Entry
+abbrev ghost′ : Sourced
 ghost′ = older (bytesOf 1 2 0 (2 ∷ 1 ∷ 1 ∷ 0 ∷ []) (8 ∷ []))
 
 -- what node 1 sends at 16 still has that event in its counts, and gets 15
@@ -156,7 +158,7 @@ damagedCalls =
     ∷ hearing 1 13 (old ∷ tooLate ∷ tooEarly ∷ tooFull ∷ [])
     ∷ failing 0 group 99
     ∷ quiet 0 12 ∷ quiet 0 13 ∷ quiet 1 14
-    ∷ failing 1 (record { n = 0; epsilon = 2; delta = 1; modulus = 14; own = 1 }) 1
+    ∷ failing 1 (record { n = 0; epsilon = 2; delta = 1; modulus = 14 }) 1
     ∷ hearing 1 15 (ghost ∷ []) ∷ quiet 0 14 ∷ hearing 0 15 (ghost′ ∷ [])
     ∷ sending 1 16 2 [] ∷ hearing 0 16 (from 10 haunted ∷ [])
     ∷ quiet 1 17 ∷ quiet 0 17 ∷ quiet 1 18 ∷ quiet 0 18 ∷ quiet 1 19

@@ -3,7 +3,7 @@
 use Prim.Native.Nat.{ℕ, zero, suc, _-_, max}
 use mathlib.Core.Bool.{Bool, true, false, _&&_, _||_, not, cond}
 use mathlib.Core.List.{List, [], _∷_, _++_}
-use lib.ListN.{length, take, drop, replicate}
+use lib.ListN.{length, take, drop, getD, replicate}
 use lib.Dec.{leb, eqb}
 
 -- lo ≤ x ≤ hi
@@ -84,6 +84,10 @@ sameList [] [] = true
 sameList [] (y ∷ ys) = false
 sameList (x ∷ xs) [] = false
 sameList (x ∷ xs) (y ∷ ys) = eqb x y && sameList xs ys
+
+-- the entry at i of a list that is laid down from a place on, 0 outside it
+unfoldable pub placedAt : ℕ → List ℕ → ℕ → ℕ
+placedAt from l i = cond (leb from i) (getD l (i - from) 0) 0
 
 -- the list, then zeros up to n places
 unfoldable pub padded : ℕ → List ℕ → List ℕ

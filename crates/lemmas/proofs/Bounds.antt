@@ -5,8 +5,8 @@ use mathlib.Core.Path.{_≡_}
 use mathlib.Core.Logic.{_⊎_}
 use mathlib.Core.Bool.{true}
 use mathlib.Core.List.{List, List·Memᴰ}
-use lib.ListN.{length, getD}
-use Rattle.laws.specs.Lists.{every, chained, apart}
+use lib.ListN.{length}
+use Rattle.laws.specs.Lists.{every, chained, apart, placedAt}
 use Rattle.model.specs.Setup.{Setup, width}
 use Rattle.model.specs.Timestamp.{Timestamp}
 use Rattle.model.specs.Frame.{Frame}
@@ -22,24 +22,23 @@ pub record Limits (s : Setup) : Type 0 where
   pub delta-most : s .delta ≤ 64
   pub modulus-least : 6 * s .epsilon + s .delta + 1 ≤ s .modulus
   pub modulus-most : s .modulus ≤ 65535
-  pub own-below : s .own < s .n
 
 -- a sound timestamp of 2ε counts
 pub record Sound (n epsilon : ℕ) (t : Timestamp) : Type 0 where
   pub wide : length (t .kn) ≡ width epsilon
   pub close : t .c < epsilon
-  pub most : (i : ℕ) → getD (t .kn) i 0 ≤ n
-  pub top : 1 ≤ getD (t .kn) (epsilon + t .c) 0
-  pub above : (i : ℕ) → epsilon + t .c < i → getD (t .kn) i 0 ≡ 0
+  pub most : (i : ℕ) → placedAt 0 (t .kn) i ≤ n
+  pub top : 1 ≤ placedAt 0 (t .kn) (epsilon + t .c)
+  pub above : (i : ℕ) → epsilon + t .c < i → placedAt 0 (t .kn) i ≡ 0
 
 -- the stamp during a tick, before the own event is counted: no count for v or later is full
 pub record Opened (n epsilon : ℕ) (t : Timestamp) : Type 0 where
   pub wide : length (t .kn) ≡ width epsilon
   pub close : t .c < epsilon
-  pub most : (i : ℕ) → getD (t .kn) i 0 ≤ n
-  pub room : (i : ℕ) → epsilon ≤ i → getD (t .kn) i 0 < n
-  pub top : (t .c ≡ 0) ⊎ (1 ≤ getD (t .kn) (epsilon + t .c) 0)
-  pub above : (i : ℕ) → epsilon + t .c < i → getD (t .kn) i 0 ≡ 0
+  pub most : (i : ℕ) → placedAt 0 (t .kn) i ≤ n
+  pub room : (i : ℕ) → epsilon ≤ i → placedAt 0 (t .kn) i < n
+  pub top : (t .c ≡ 0) ⊎ (1 ≤ placedAt 0 (t .kn) (epsilon + t .c))
+  pub above : (i : ℕ) → epsilon + t .c < i → placedAt 0 (t .kn) i ≡ 0
 
 -- a frame that passes 10 to 12
 pub record FrameOk (s : Setup) (f : Frame) : Type 0 where
@@ -51,7 +50,7 @@ pub record FrameOk (s : Setup) (f : Frame) : Type 0 where
 -- a queue that is sound for the modular clock v
 pub record QueueOk (s : Setup) (v : ℕ) (queue : List Frame) : Type 0 where
   pub frames : (f : Frame) → List·Memᴰ f queue → FrameOk s f
-  pub ordered : chained (before (s .epsilon) (s .modulus) v) queue ≡ true
+  pub ordered : chained (before s v) queue ≡ true
   pub single : apart sameOrigin queue ≡ true
   pub early : every (notEarly s v) queue ≡ true
   pub overdue : every (notOverdue s v) queue ≡ true

@@ -1,57 +1,65 @@
--- What a tick does to the counts, by true clocks: the clock w is named w + ε, and the counts of a timestamp at the true clock R are countAt R kn.
+-- What a tick does to the counts, by true clocks. The clock w is named w + ε, so that none is negative: the count of a timestamp at the true
+-- clock R for the clock w, countAt ε R kn w, is what stands at w + ε where kn is laid down from R on, placedAt R kn (w + ε).
 -- Assumes nothing.
 use Prim.Native.Nat.{ℕ, _+_, _-_, _%_, _≤_, _<_, max}
 use native.Mathlib.Omega.{arith}
 use native.Mathlib.Nat.{mod-lt, mod-add-mod}
-use mathlib.Core.Path.{_≡_, refl, sym, ap, _∙_}
+use mathlib.Core.Path.{_≡_, refl, sym, ap, subst, _∙_}
 use mathlib.Core.Logic.{_⊎_, inl, inr}
 use mathlib.Core.Bool.{true, _&&_}
-use mathlib.Core.List.{List}
+use mathlib.Core.List.{List, _++_}
 use lib.ListN.{length, drop, getD, set, replicate, length-append, length-drop, length-set, length-replicate, List·getD-eq-default}
 use lib.Dec.{leb, ltb, eqb}
 use lib.Seq.{getD-drop, getD-set-same, getD-set-other}
 use borrow.Author.Tests.{le-leb, lt-leb, leb-true, lt-ltb, eq-eqb}
-use Rattle.laws.specs.Lists.{tab, padded}
+use Rattle.laws.specs.Lists.{tab, placedAt, padded}
 use Rattle.laws.proofs.Numbers.{lt-or-ge, eq-or-ne, and-intro, and-left, and-right}
 use Rattle.laws.proofs.Lists.{length-tab, getD-tab, getD-tab-out, tab-getD, tab-ext, every-index, every-of-index, getD-zeros, getD-append-zeros, getD-padded}
 use Rattle.model.specs.Setup.{width, widest}
-use Rattle.model.specs.Timestamp.{Timestamp, countAt, sum, atMost, soundTimestamp, soundTables, shift, step, replaced, absorb, countOwn, trimmed, widened, fresh}
+use Rattle.model.specs.Timestamp.{Timestamp, countAt, countsFrom, sum, atMost, soundTimestamp, soundTables, shift, step, replaced, absorb, countOwn, trimmed, widened, fresh}
 use Rattle.model.specs.Order.{countsDown}
 use Rattle.lemmas.proofs.Bounds.{Sound, Opened}
 
 -- counts outside the window read 0
-pub count-below : (R : ℕ) (kn : List ℕ) (w : ℕ) → w < R → countAt R kn w ≡ 0
-unfolding countAt
+pub count-below : (R : ℕ) (kn : List ℕ) (w : ℕ) → w < R → placedAt R kn w ≡ 0
+unfolding placedAt
 count-below R kn w h = rw (lt-leb R w h)
 
-pub count-past : (R : ℕ) (kn : List ℕ) (w : ℕ) → R + length kn ≤ w → countAt R kn w ≡ 0
-unfolding countAt
+pub count-past : (R : ℕ) (kn : List ℕ) (w : ℕ) → R + length kn ≤ w → placedAt R kn w ≡ 0
+unfolding placedAt
 count-past R kn w h =
     let k : R ≤ w = omega arith in
     let p : length kn ≤ w - R = omega arith in
     rw (le-leb R w k) (List·getD-eq-default kn 0 p)
 
-pub count-inside : (R : ℕ) (kn : List ℕ) (i : ℕ) → countAt R kn (R + i) ≡ getD kn i 0
-unfolding countAt
+-- the count at a place of the list
+pub count-zero : (kn : List ℕ) (i : ℕ) → placedAt 0 kn i ≡ getD kn i 0
+unfolding placedAt
+count-zero kn i =
+    let e : i - 0 ≡ i = omega arith in
+    rw (le-leb 0 i (omega arith), e)
+
+pub count-inside : (R : ℕ) (kn : List ℕ) (i : ℕ) → placedAt R kn (R + i) ≡ placedAt 0 kn i
+unfolding placedAt
 count-inside R kn i =
     let k : R ≤ R + i = omega arith in
     let e : R + i - R ≡ i = omega arith in
-    rw (le-leb R (R + i) k, e)
+    rw (le-leb R (R + i) k, e) (sym (count-zero kn i))
 
 -- where the clock is known to stand in the window or past it
-pub count-index : (R : ℕ) (kn : List ℕ) (w i : ℕ) → w ≡ R + i → countAt R kn w ≡ getD kn i 0
+pub count-index : (R : ℕ) (kn : List ℕ) (w i : ℕ) → w ≡ R + i → placedAt R kn w ≡ placedAt 0 kn i
 count-index R kn w i e = rw e (count-inside R kn i)
 
 -- a sound timestamp counts nothing past its sum, and something at it
-pub sound-past : (n epsilon R : ℕ) (t : Timestamp) → Sound n epsilon t → (w : ℕ) → R + t .c + epsilon < w → countAt R (t .kn) w ≡ 0
+pub sound-past : (n epsilon R : ℕ) (t : Timestamp) → Sound n epsilon t → (w : ℕ) → R + t .c + epsilon < w → placedAt R (t .kn) w ≡ 0
 sound-past n epsilon R t s w h =
     count-index R (t .kn) w (w - R) (omega arith) ∙ s .above (w - R) (omega arith)
 
-pub sound-top : (n epsilon R : ℕ) (t : Timestamp) → Sound n epsilon t → 1 ≤ countAt R (t .kn) (R + t .c + epsilon)
+pub sound-top : (n epsilon R : ℕ) (t : Timestamp) → Sound n epsilon t → 1 ≤ placedAt R (t .kn) (R + t .c + epsilon)
 sound-top n epsilon R t s = rw (count-index R (t .kn) (R + t .c + epsilon) (epsilon + t .c) (omega arith)) (s .top)
 
 -- no count of a sound timestamp is above n
-pub sound-most : (n epsilon R : ℕ) (t : Timestamp) → Sound n epsilon t → (w : ℕ) → countAt R (t .kn) w ≤ n
+pub sound-most : (n epsilon R : ℕ) (t : Timestamp) → Sound n epsilon t → (w : ℕ) → placedAt R (t .kn) w ≤ n
 sound-most n epsilon R t s w =
     elim (lt-or-ge w R) [
       | inl h ↦ rw (count-below R (t .kn) w h) (omega arith)
@@ -59,65 +67,96 @@ sound-most n epsilon R t s w =
     ]
 
 -- one and the same count, seen from two clocks
-pub count-moved : (R R′ : ℕ) (kn : List ℕ) (w w′ : ℕ) → R + w′ ≡ R′ + w → countAt R kn w ≡ countAt R′ kn w′
+pub count-moved : (R R′ : ℕ) (kn : List ℕ) (w w′ : ℕ) → R + w′ ≡ R′ + w → placedAt R kn w ≡ placedAt R′ kn w′
 count-moved R R′ kn w w′ e =
     elim (lt-or-ge w R) [
       | inl h ↦ count-below R kn w h ∙ sym (count-below R′ kn w′ (omega arith))
       | inr h ↦ count-index R kn w (w - R) (omega arith) ∙ sym (count-index R′ kn w′ (w - R) (omega arith))
     ]
 
--- the test of a bound, as facts and back; the second two of the counts from place k on
-pub at-most-from : (bound : ℕ) (kn : List ℕ) → atMost bound kn ≡ true → (i : ℕ) → getD kn i 0 ≤ bound
+-- the test of a bound, as facts and back
+pub at-most-from : (bound : ℕ) (kn : List ℕ) → atMost bound kn ≡ true → (i : ℕ) → placedAt 0 kn i ≤ bound
 unfolding atMost
 at-most-from bound kn h i =
-    elim (lt-or-ge i (length kn)) [
+    rw (count-zero kn i)
+    (elim (lt-or-ge i (length kn)) [
       | inl k ↦ leb-true (getD kn i 0) bound (every-index (λ x. leb x bound) kn 0 h i k)
       | inr k ↦ rw (List·getD-eq-default kn 0 k) (omega arith)
-    ]
+    ])
 
-pub at-most-to : (bound : ℕ) (kn : List ℕ) → ((i : ℕ) → getD kn i 0 ≤ bound) → atMost bound kn ≡ true
+pub at-most-to : (bound : ℕ) (kn : List ℕ) → ((i : ℕ) → placedAt 0 kn i ≤ bound) → atMost bound kn ≡ true
 unfolding atMost
 at-most-to bound kn f =
-    every-of-index (λ x. leb x bound) kn 0 (λ i h. le-leb (getD kn i 0) bound (f i))
+    every-of-index (λ x. leb x bound) kn 0 (λ i h. le-leb (getD kn i 0) bound (rw (count-zero kn i) at (f i)))
 
-pub at-most-past : (bound k : ℕ) (kn : List ℕ) → atMost bound (drop k kn) ≡ true → (i : ℕ) → k ≤ i → getD kn i 0 ≤ bound
-at-most-past bound k kn h i le =
-    let e : k + (i - k) ≡ i = omega arith in
-    rw (getD-drop k kn (i - k) 0, e) at (at-most-from bound (drop k kn) h (i - k))
+-- the same of the counts for a clock and those after it
+pub at-most-past : (bound epsilon R : ℕ) (kn : List ℕ) (clock : ℕ) → atMost bound (countsFrom epsilon R kn clock) ≡ true → (x : ℕ) → clock + epsilon ≤ x → placedAt R kn x ≤ bound
+unfolding countsFrom countAt
+at-most-past bound epsilon R kn clock h x le =
+    elim (lt-or-ge (x - (clock + epsilon)) (R + length kn - (clock + epsilon))) [
+      | inl k ↦
+          let e : clock + (x - (clock + epsilon)) + epsilon ≡ x = omega arith in
+          rw (count-zero, getD-tab (R + length kn - (clock + epsilon)) (λ j. placedAt R kn (clock + j + epsilon)) (x - (clock + epsilon)) 0 k, e) at
+          (at-most-from bound (tab (R + length kn - (clock + epsilon)) (λ j. placedAt R kn (clock + j + epsilon))) h (x - (clock + epsilon)))
+      | inr k ↦ rw (count-past R kn x (omega arith)) (omega arith)
+    ]
 
-pub at-most-past-to : (bound k : ℕ) (kn : List ℕ) → ((i : ℕ) → k ≤ i → getD kn i 0 ≤ bound) → atMost bound (drop k kn) ≡ true
-at-most-past-to bound k kn f =
-    at-most-to bound (drop k kn) (λ i. rw (getD-drop k kn i 0) (f (k + i) (omega arith)))
+pub at-most-past-to : (bound epsilon R : ℕ) (kn : List ℕ) (clock : ℕ) → ((x : ℕ) → clock + epsilon ≤ x → placedAt R kn x ≤ bound) → atMost bound (countsFrom epsilon R kn clock) ≡ true
+unfolding countsFrom countAt
+at-most-past-to bound epsilon R kn clock f =
+    at-most-to bound (tab (R + length kn - (clock + epsilon)) (λ j. placedAt R kn (clock + j + epsilon))) one
+  where
+    one : (i : ℕ) → placedAt 0 (tab (R + length kn - (clock + epsilon)) (λ j. placedAt R kn (clock + j + epsilon))) i ≤ bound
+    one i =
+        rw (count-zero (tab (R + length kn - (clock + epsilon)) (λ j. placedAt R kn (clock + j + epsilon))) i)
+        (elim (lt-or-ge i (R + length kn - (clock + epsilon))) [
+          | inl k ↦ rw (getD-tab (R + length kn - (clock + epsilon)) (λ j. placedAt R kn (clock + j + epsilon)) i 0 k) (f (clock + i + epsilon) (omega arith))
+          | inr k ↦ rw (getD-tab-out (R + length kn - (clock + epsilon)) (λ j. placedAt R kn (clock + j + epsilon)) i 0 k) (omega arith)
+        ])
+
+-- they are the rest of the list from the place i on, where that place is for the clock
+pub counts-from-drop : (epsilon R : ℕ) (kn : List ℕ) (clock i : ℕ) → clock + epsilon ≡ R + i → countsFrom epsilon R kn clock ≡ drop i kn
+unfolding countsFrom countAt
+counts-from-drop epsilon R kn clock i e =
+    let long : R + length kn - (clock + epsilon) ≡ length kn - i = omega arith in
+    rw long
+    (tab-ext (length kn - i) (λ j. placedAt R kn (clock + j + epsilon)) (λ j. getD (drop i kn) j 0) (λ j k. one j)
+    ∙ tab-getD (length kn - i) (drop i kn) 0 (length-drop i kn))
+  where
+    one : (j : ℕ) → placedAt R kn (clock + j + epsilon) ≡ getD (drop i kn) j 0
+    one j = count-index R kn (clock + j + epsilon) (i + j) (omega arith) ∙ (count-zero kn (i + j) ∙ sym (getD-drop i kn j 0))
 
 -- the tests as facts, both ways
 pub sound-from : (n epsilon : ℕ) (t : Timestamp) → 1 ≤ epsilon → length (t .kn) ≡ width epsilon → soundTimestamp n epsilon t ≡ true → Sound n epsilon t
-unfolding soundTimestamp
+unfolding soundTimestamp countAt
 sound-from n epsilon t e w h =
-    let rest : (atMost n (t .kn) && (leb 1 (getD (t .kn) (epsilon + t .c) 0) && atMost 0 (drop (epsilon + t .c + 1) (t .kn)))) ≡ true =
+    let rest : (atMost n (t .kn) && (leb 1 (placedAt 0 (t .kn) (t .c + epsilon)) && atMost 0 (countsFrom epsilon 0 (t .kn) (t .c + 1)))) ≡ true =
     and-right (leb (t .c) (epsilon - 1)) _ h in
-    let last : (leb 1 (getD (t .kn) (epsilon + t .c) 0) && atMost 0 (drop (epsilon + t .c + 1) (t .kn))) ≡ true =
+    let last : (leb 1 (placedAt 0 (t .kn) (t .c + epsilon)) && atMost 0 (countsFrom epsilon 0 (t .kn) (t .c + 1))) ≡ true =
     and-right (atMost n (t .kn)) _ rest in
     let near : t .c ≤ epsilon - 1 = leb-true (t .c) (epsilon - 1) (and-left _ _ h) in
+    let same : t .c + epsilon ≡ epsilon + t .c = omega arith in
     record {
       wide = w;
       close = omega arith;
       most = at-most-from n (t .kn) (and-left _ _ rest);
-      top = leb-true 1 (getD (t .kn) (epsilon + t .c) 0) (and-left _ _ last);
+      top = subst (λ (x : ℕ). 1 ≤ placedAt 0 (t .kn) x) same (leb-true 1 (placedAt 0 (t .kn) (t .c + epsilon)) (and-left _ _ last));
       above = λ i k.
-          let z : getD (t .kn) i 0 ≤ 0 =
-          at-most-past 0 (epsilon + t .c + 1) (t .kn) (and-right (leb 1 (getD (t .kn) (epsilon + t .c) 0)) _ last) i (omega arith) in
+          let z : placedAt 0 (t .kn) i ≤ 0 =
+          at-most-past 0 epsilon 0 (t .kn) (t .c + 1) (and-right (leb 1 (placedAt 0 (t .kn) (t .c + epsilon))) _ last) i (omega arith) in
           omega arith;
     }
 
 pub sound-to : (n epsilon : ℕ) (t : Timestamp) → Sound n epsilon t → soundTimestamp n epsilon t ≡ true
-unfolding soundTimestamp
+unfolding soundTimestamp countAt
 sound-to n epsilon t s =
+    let same : epsilon + t .c ≡ t .c + epsilon = omega arith in
     and-intro (le-leb (t .c) (epsilon - 1) (omega arith)) (and-intro (at-most-to n (t .kn) (s .most))
-    (and-intro (le-leb 1 (getD (t .kn) (epsilon + t .c) 0) (s .top))
-    (at-most-past-to 0 (epsilon + t .c + 1) (t .kn) (λ i h. let z : getD (t .kn) i 0 ≡ 0 = s .above i (omega arith) in omega arith))))
+    (and-intro (le-leb 1 (placedAt 0 (t .kn) (t .c + epsilon)) (subst (λ (x : ℕ). 1 ≤ placedAt 0 (t .kn) x) same (s .top)))
+    (at-most-past-to 0 epsilon 0 (t .kn) (t .c + 1) (λ i h. let z : placedAt 0 (t .kn) i ≡ 0 = s .above i (omega arith) in omega arith))))
 
 -- the tests that tables pass besides
-tables-rest : (n epsilon B v : ℕ) (t : Timestamp) → soundTables n epsilon B v t ≡ true → (ltb (t .r) B && (eqb ((t .r + 1) % B) v && atMost (n - 1) (drop (epsilon + 1) (t .kn)))) ≡ true
+tables-rest : (n epsilon B v : ℕ) (t : Timestamp) → soundTables n epsilon B v t ≡ true → (ltb (t .r) B && (eqb ((t .r + 1) % B) v && atMost (n - 1) (countsFrom epsilon 0 (t .kn) 1))) ≡ true
 unfolding soundTables
 tables-rest n epsilon B v t h = and-right (soundTimestamp n epsilon t) _ h
 
@@ -126,9 +165,9 @@ unfolding soundTables
 tables-sound n epsilon B v t h = and-left (soundTimestamp n epsilon t) _ h
 
 -- no count of sound tables past their clock is full
-pub tables-room : (n epsilon B v : ℕ) (t : Timestamp) → soundTables n epsilon B v t ≡ true → (i : ℕ) → epsilon < i → getD (t .kn) i 0 ≤ n - 1
+pub tables-room : (n epsilon B v : ℕ) (t : Timestamp) → soundTables n epsilon B v t ≡ true → (i : ℕ) → epsilon < i → placedAt 0 (t .kn) i ≤ n - 1
 tables-room n epsilon B v t h i k =
-    at-most-past (n - 1) (epsilon + 1) (t .kn)
+    at-most-past (n - 1) epsilon 0 (t .kn) 1
     (and-right (eqb ((t .r + 1) % B) v) _ (and-right (ltb (t .r) B) _ (tables-rest n epsilon B v t h))) i (omega arith)
 
 pub trimmed-wide : (epsilon : ℕ) (t : Timestamp) → length (trimmed epsilon t .kn) ≡ width epsilon
@@ -150,36 +189,65 @@ trimmed-same epsilon t w = ap (λ (l : List ℕ). record { r = t .r; c = t .c; k
 -- the counts in the order of two timestamps
 pub length-down : (epsilon : ℕ) (t : Timestamp) → length (countsDown epsilon t) ≡ epsilon
 unfolding countsDown
-length-down epsilon t = length-tab epsilon (λ k. getD (t .kn) (epsilon + t .c - k) 0)
+length-down epsilon t = length-tab epsilon (λ k. countAt epsilon epsilon (t .kn) (epsilon + t .c - k))
 
--- counts one offset further down
-pub shift-at : (kn : List ℕ) (i : ℕ) → getD (shift 1 kn) i 0 ≡ getD kn (1 + i) 0
+-- with r at 0
+pub down-counts : (epsilon : ℕ) (t : Timestamp) → countsDown epsilon t ≡ tab epsilon (λ k. placedAt 0 (t .kn) (epsilon + t .c - k))
+unfolding countsDown countAt
+down-counts epsilon t =
+    tab-ext epsilon (λ k. placedAt epsilon (t .kn) (epsilon + t .c - k + epsilon)) (λ k. placedAt 0 (t .kn) (epsilon + t .c - k))
+    (λ k h. count-moved epsilon 0 (t .kn) (epsilon + t .c - k + epsilon) (epsilon + t .c - k) (omega arith))
+
+-- the same by the places of the list
+pub down-places : (epsilon : ℕ) (t : Timestamp) → countsDown epsilon t ≡ tab epsilon (λ k. getD (t .kn) (epsilon + t .c - k) 0)
+down-places epsilon t =
+    down-counts epsilon t
+    ∙ tab-ext epsilon (λ k. placedAt 0 (t .kn) (epsilon + t .c - k)) (λ k. getD (t .kn) (epsilon + t .c - k) 0)
+    (λ k h. count-zero (t .kn) (epsilon + t .c - k))
+
+-- counts k offsets further down
+pub shift-at : (k : ℕ) (kn : List ℕ) (i : ℕ) → placedAt 0 (shift k kn) i ≡ placedAt 0 kn (k + i)
 unfolding shift
-shift-at kn i = getD-append-zeros (drop 1 kn) 1 i ∙ getD-drop 1 kn i 0
+shift-at k kn i =
+    count-zero (drop k kn ++ replicate k 0) i
+    ∙ (getD-append-zeros (drop k kn) k i ∙ (getD-drop k kn i 0 ∙ sym (count-zero kn (k + i))))
 
-length-shift : (kn : List ℕ) → length (shift 1 kn) ≡ length kn - 1 + 1
+length-shift : (k : ℕ) (kn : List ℕ) → k ≤ length kn → length (shift k kn) ≡ length kn
 unfolding shift
-length-shift kn = length-append (drop 1 kn) (replicate 1 0) ∙ rw (length-drop 1 kn)
+length-shift k kn h =
+    omega (arith, length-append (drop k kn) (replicate k 0), length-drop k kn, length-replicate {A = ℕ} k 0)
 
--- tick 1 and 2
-pub opened-step : (n epsilon B v : ℕ) (t : Timestamp) → 1 ≤ n → 1 ≤ epsilon → length (t .kn) ≡ width epsilon → soundTables n epsilon B v t ≡ true → Opened n epsilon (step v t)
+-- what sound tables are at their own clock: a sound timestamp, with no full count past it
+pub record Left (n epsilon : ℕ) (t : Timestamp) : Type 0 where
+  pub sound : Sound n epsilon t
+  pub room : (i : ℕ) → epsilon < i → placedAt 0 (t .kn) i ≤ n - 1
+
+pub tables-left : (n epsilon B v : ℕ) (t : Timestamp) → 1 ≤ epsilon → length (t .kn) ≡ width epsilon → soundTables n epsilon B v t ≡ true → Left n epsilon t
+tables-left n epsilon B v t e w h =
+    record { sound = sound-from n epsilon t e w (tables-sound n epsilon B v t h); room = tables-room n epsilon B v t h }
+
+-- tick 1 and 2, with a step of k
+pub opened-step : (n epsilon k v : ℕ) (t : Timestamp) → 1 ≤ n → 1 ≤ k → k ≤ width epsilon → Left n epsilon t → Opened n epsilon (step k v t)
 unfolding step width
-opened-step n epsilon B v t n-pos e w h =
-    let s : Sound n epsilon t = sound-from n epsilon t e w (tables-sound n epsilon B v t h) in
+opened-step n epsilon k v t n-pos pos most left =
+    let s : Sound n epsilon t = left .sound in
     record {
-      wide = omega (arith, length-shift (t .kn));
-      close = omega arith;
-      most = λ i. rw (shift-at (t .kn) i) (s .most (1 + i));
-      room = λ i k. rw (shift-at (t .kn) i) (let z : getD (t .kn) (1 + i) 0 ≤ n - 1 = tables-room n epsilon B v t h (1 + i) (omega arith) in omega arith);
+      wide = length-shift k (t .kn) (omega (arith, s .wide)) ∙ s .wide;
+      close = omega (arith, s .close);
+      most = λ i. rw (shift-at k (t .kn) i) (s .most (k + i));
+      room = λ i h. rw (shift-at k (t .kn) i) (let z : placedAt 0 (t .kn) (k + i) ≤ n - 1 = left .room (k + i) (omega arith) in omega arith);
       top =
-          elim (lt-or-ge 1 (t .c)) [
-            | inl k ↦
-                let j : 1 + (epsilon + (t .c - 1)) ≡ epsilon + t .c = omega arith in
-                inr (rw (shift-at (t .kn) (epsilon + (t .c - 1)), j) (s .top))
-            | inr k ↦ inl (omega arith)
+          elim (lt-or-ge k (t .c)) [
+            | inl h ↦
+                let j : k + (epsilon + (t .c - k)) ≡ epsilon + t .c = omega arith in
+                inr (rw (shift-at k (t .kn) (epsilon + (t .c - k)), j) (s .top))
+            | inr h ↦ inl (omega arith)
           ];
-      above = λ i k. shift-at (t .kn) i ∙ s .above (1 + i) (omega arith);
+      above = λ i h. shift-at k (t .kn) i ∙ s .above (k + i) (omega arith);
     }
+
+count-zeros : (width i : ℕ) → placedAt 0 (replicate width 0) i ≡ 0
+count-zeros width i = count-zero (replicate width 0) i ∙ getD-zeros width i
 
 pub opened-replaced : (n epsilon v : ℕ) → 1 ≤ n → 1 ≤ epsilon → Opened n epsilon (replaced epsilon v)
 unfolding replaced
@@ -187,39 +255,46 @@ opened-replaced n epsilon v n-pos e =
     record {
       wide = length-replicate (width epsilon) 0;
       close = omega arith;
-      most = λ i. rw (getD-zeros (width epsilon) i) (omega arith);
-      room = λ i k. rw (getD-zeros (width epsilon) i) (omega arith);
+      most = λ i. rw (count-zeros (width epsilon) i) (omega arith);
+      room = λ i k. rw (count-zeros (width epsilon) i) (omega arith);
       top = inl refl;
-      above = λ i k. getD-zeros (width epsilon) i;
+      above = λ i k. count-zeros (width epsilon) i;
     }
 
-pub step-count : (epsilon x v : ℕ) (t : Timestamp) → length (t .kn) ≡ width epsilon → (w : ℕ) → x < w → countAt (x + 1) (step v t .kn) w ≡ countAt x (t .kn) w
+-- a step of k moves no count to another clock
+pub step-count : (k x v : ℕ) (t : Timestamp) (w : ℕ) → x + k ≤ w → placedAt (x + k) (step k v t .kn) w ≡ placedAt x (t .kn) w
 unfolding step
-step-count epsilon x v t wide w h =
-    count-index (x + 1) (shift 1 (t .kn)) w (w - (x + 1)) (omega arith) ∙ shift-at (t .kn) (w - (x + 1))
-    ∙ sym (count-index x (t .kn) w (1 + (w - (x + 1))) (omega arith))
+step-count k x v t w h =
+    count-index (x + k) (shift k (t .kn)) w (w - (x + k)) (omega arith) ∙ shift-at k (t .kn) (w - (x + k))
+    ∙ sym (count-index x (t .kn) w (k + (w - (x + k))) (omega arith))
 
-pub replaced-count : (epsilon R v w : ℕ) → countAt R (replaced epsilon v .kn) w ≡ 0
+pub replaced-count : (epsilon R v w : ℕ) → placedAt R (replaced epsilon v .kn) w ≡ 0
 unfolding replaced
 replaced-count epsilon R v w =
     elim (lt-or-ge w R) [
       | inl h ↦ count-below R (replicate (width epsilon) 0) w h
       | inr h ↦
-          count-index R (replicate (width epsilon) 0) w (w - R) (omega arith) ∙ getD-zeros (width epsilon) (w - R)
+          count-index R (replicate (width epsilon) 0) w (w - R) (omega arith) ∙ count-zeros (width epsilon) (w - R)
     ]
 
-pub absorb-at : (epsilon B reading : ℕ) (t f : Timestamp) (i : ℕ) → i < width epsilon → getD (absorb epsilon B t reading f .kn) i 0 ≡ max (getD (t .kn) i 0) (countAt reading (f .kn) (B + i))
-unfolding absorb
+pub absorb-at : (epsilon B reading : ℕ) (t f : Timestamp) (i : ℕ) → i < width epsilon → placedAt 0 (absorb epsilon B t reading f .kn) i ≡ max (placedAt 0 (t .kn) i) (placedAt reading (f .kn) (B + i))
+unfolding absorb countAt
 absorb-at epsilon B reading t f i h =
-    getD-tab (width epsilon) (λ i. max (getD (t .kn) i 0) (countAt reading (f .kn) (B + i))) i 0 h
+    count-zero (tab (width epsilon) (λ j. max (placedAt (B + epsilon) (t .kn) (B + j + epsilon)) (placedAt (reading + epsilon) (f .kn) (B + j + epsilon)))) i
+    ∙ (getD-tab (width epsilon) (λ j. max (placedAt (B + epsilon) (t .kn) (B + j + epsilon)) (placedAt (reading + epsilon) (f .kn) (B + j + epsilon))) i 0 h
+    ∙ rw (
+      count-moved (B + epsilon) 0 (t .kn) (B + i + epsilon) i (omega arith),
+      count-moved (reading + epsilon) reading (f .kn) (B + i + epsilon) (B + i) (omega arith),
+    ))
 
-pub absorb-out : (epsilon B reading : ℕ) (t f : Timestamp) (i : ℕ) → width epsilon ≤ i → getD (absorb epsilon B t reading f .kn) i 0 ≡ 0
-unfolding absorb
+pub absorb-out : (epsilon B reading : ℕ) (t f : Timestamp) (i : ℕ) → width epsilon ≤ i → placedAt 0 (absorb epsilon B t reading f .kn) i ≡ 0
+unfolding absorb countAt
 absorb-out epsilon B reading t f i h =
-    getD-tab-out (width epsilon) (λ i. max (getD (t .kn) i 0) (countAt reading (f .kn) (B + i))) i 0 h
+    count-zero (tab (width epsilon) (λ j. max (placedAt (B + epsilon) (t .kn) (B + j + epsilon)) (placedAt (reading + epsilon) (f .kn) (B + j + epsilon)))) i
+    ∙ getD-tab-out (width epsilon) (λ j. max (placedAt (B + epsilon) (t .kn) (B + j + epsilon)) (placedAt (reading + epsilon) (f .kn) (B + j + epsilon))) i 0 h
 
 -- a bound on both is one on the larger
-pub absorb-bound : (bound epsilon B reading : ℕ) (t f : Timestamp) (i : ℕ) → getD (t .kn) i 0 ≤ bound → countAt reading (f .kn) (B + i) ≤ bound → getD (absorb epsilon B t reading f .kn) i 0 ≤ bound
+pub absorb-bound : (bound epsilon B reading : ℕ) (t f : Timestamp) (i : ℕ) → placedAt 0 (t .kn) i ≤ bound → placedAt reading (f .kn) (B + i) ≤ bound → placedAt 0 (absorb epsilon B t reading f .kn) i ≤ bound
 absorb-bound bound epsilon B reading t f i p q =
     elim (lt-or-ge i (width epsilon)) [
       | inl h ↦ rw (absorb-at epsilon B reading t f i h) (omega arith)
@@ -227,7 +302,7 @@ absorb-bound bound epsilon B reading t f i p q =
     ]
 
 -- tick 3, with the frame's reading at its true clock R and v at the true clock v
-pub absorb-count : (epsilon B v R reading : ℕ) (t f : Timestamp) → length (t .kn) ≡ width epsilon → reading + v ≡ B + R → (w : ℕ) → v ≤ w → w < v + width epsilon → countAt v (absorb epsilon B t reading f .kn) w ≡ max (countAt v (t .kn) w) (countAt R (f .kn) w)
+pub absorb-count : (epsilon B v R reading : ℕ) (t f : Timestamp) → length (t .kn) ≡ width epsilon → reading + v ≡ B + R → (w : ℕ) → v ≤ w → w < v + width epsilon → placedAt v (absorb epsilon B t reading f .kn) w ≡ max (placedAt v (t .kn) w) (placedAt R (f .kn) w)
 absorb-count epsilon B v R reading t f wide e w lo hi =
     count-index v (absorb epsilon B t reading f .kn) w (w - v) (omega arith)
     ∙ absorb-at epsilon B reading t f (w - v) (omega arith)
@@ -238,8 +313,8 @@ unfolding absorb sum
 absorb-sum epsilon B v R reading t f e = omega arith
 
 pub absorb-wide : (epsilon B reading : ℕ) (t f : Timestamp) → length (absorb epsilon B t reading f .kn) ≡ width epsilon
-unfolding absorb
-absorb-wide epsilon B reading t f = length-tab (width epsilon) (λ i. max (getD (t .kn) i 0) (countAt reading (f .kn) (B + i)))
+unfolding absorb countAt
+absorb-wide epsilon B reading t f = length-tab (width epsilon) (λ j. max (placedAt (B + epsilon) (t .kn) (B + j + epsilon)) (placedAt (reading + epsilon) (f .kn) (B + j + epsilon)))
 
 absorb-close : (epsilon B reading : ℕ) (t f : Timestamp) → 1 ≤ epsilon → t .c < epsilon → sum reading (f .c) ≤ B + (epsilon - 1) → absorb epsilon B t reading f .c < epsilon
 unfolding absorb sum
@@ -253,14 +328,14 @@ absorb-above epsilon B reading t f i h = omega arith
 absorb-top :
     (n epsilon B reading : ℕ) (t f : Timestamp) → 1 ≤ epsilon → Opened n epsilon t → Sound n epsilon f
     → sum reading (f .c) ≤ B + (epsilon - 1)
-    → (absorb epsilon B t reading f .c ≡ 0) ⊎ (1 ≤ getD (absorb epsilon B t reading f .kn) (epsilon + absorb epsilon B t reading f .c) 0)
+    → (absorb epsilon B t reading f .c ≡ 0) ⊎ (1 ≤ placedAt 0 (absorb epsilon B t reading f .kn) (epsilon + absorb epsilon B t reading f .c))
 unfolding sum width
 absorb-top n epsilon B reading t f e o s early =
     elim (lt-or-ge (t .c) (reading + f .c - B)) [
       | inl h ↦
           let q : absorb epsilon B t reading f .c ≡ reading + f .c - B = unfold absorb sum in (omega arith) in
           inr (rw (q, absorb-at epsilon B reading t f (epsilon + (reading + f .c - B)) (omega arith))
-          (let z : 1 ≤ countAt reading (f .kn) (B + (epsilon + (reading + f .c - B))) =
+          (let z : 1 ≤ placedAt reading (f .kn) (B + (epsilon + (reading + f .c - B))) =
           rw (count-index reading (f .kn) (B + (epsilon + (reading + f .c - B))) (epsilon + f .c) (omega arith)) (s .top) in
           omega arith))
       | inr h ↦
@@ -272,35 +347,41 @@ absorb-top n epsilon B reading t f e o s early =
     ]
 
 -- questions 12, 14 and 15 keep the stamp open (reading is near v, which reads B)
-pub opened-absorb : (n epsilon B reading : ℕ) (t f : Timestamp) → 1 ≤ n → 1 ≤ epsilon → Opened n epsilon t → Sound n epsilon f → reading < B + epsilon → sum reading (f .c) ≤ B + (epsilon - 1) → atMost (n - 1) (drop (B + epsilon - reading) (f .kn)) ≡ true → Opened n epsilon (absorb epsilon B t reading f)
+pub opened-absorb : (n epsilon B reading : ℕ) (t f : Timestamp) → 1 ≤ n → 1 ≤ epsilon → Opened n epsilon t → Sound n epsilon f → reading < B + epsilon → sum reading (f .c) ≤ B + (epsilon - 1) → atMost (n - 1) (countsFrom epsilon reading (f .kn) B) ≡ true → Opened n epsilon (absorb epsilon B t reading f)
 opened-absorb n epsilon B reading t f n-pos e o s hi early full =
     record {
       wide = absorb-wide epsilon B reading t f;
       close = absorb-close epsilon B reading t f e (o .close) early;
       most = λ i. absorb-bound n epsilon B reading t f i (o .most i) (sound-most n epsilon reading f s (B + i));
       room = λ i k.
-          let own : getD (t .kn) i 0 < n = o .room i k in
-          let heard : countAt reading (f .kn) (B + i) ≤ n - 1 =
-          rw (count-index reading (f .kn) (B + i) (B + i - reading) (omega arith))
-          (at-most-past (n - 1) (B + epsilon - reading) (f .kn) full (B + i - reading) (omega arith)) in
-          let z : getD (absorb epsilon B t reading f .kn) i 0 ≤ n - 1 =
+          let own : placedAt 0 (t .kn) i < n = o .room i k in
+          let heard : placedAt reading (f .kn) (B + i) ≤ n - 1 =
+          at-most-past (n - 1) epsilon reading (f .kn) B full (B + i) (omega arith) in
+          let z : placedAt 0 (absorb epsilon B t reading f .kn) i ≤ n - 1 =
           absorb-bound (n - 1) epsilon B reading t f i (omega arith) heard in
           omega arith;
       top = absorb-top n epsilon B reading t f e o s early;
       above = λ i k.
           let c : max (t .c) (reading + f .c - B) < i - epsilon = absorb-above epsilon B reading t f i k in
-          let z : getD (absorb epsilon B t reading f .kn) i 0 ≤ 0 =
+          let z : placedAt 0 (absorb epsilon B t reading f .kn) i ≤ 0 =
           absorb-bound 0 epsilon B reading t f i
           (rw (o .above i (omega arith)) (omega arith))
           (rw (sound-past n epsilon reading f s (B + i) (omega arith)) (omega arith)) in
           omega arith;
     }
 
-pub own-at : (kn : List ℕ) (i j : ℕ) → (j ≡ i → ⊥) → getD (set kn i (getD kn i 0 + 1)) j 0 ≡ getD kn j 0
-own-at kn i j ne = getD-set-other kn i j (getD kn i 0 + 1) 0 ne
+-- the list with the count at a place one higher: the others, and that one
+pub own-at : (kn : List ℕ) (i j : ℕ) → (j ≡ i → ⊥) → placedAt 0 (set kn i (getD kn i 0 + 1)) j ≡ placedAt 0 kn j
+own-at kn i j ne =
+    count-zero (set kn i (getD kn i 0 + 1)) j ∙ (getD-set-other kn i j (getD kn i 0 + 1) 0 ne ∙ sym (count-zero kn j))
+
+own-here : (kn : List ℕ) (i : ℕ) → i < length kn → placedAt 0 (set kn i (getD kn i 0 + 1)) i ≡ placedAt 0 kn i + 1
+own-here kn i h =
+    count-zero (set kn i (getD kn i 0 + 1)) i
+    ∙ (getD-set-same kn i (getD kn i 0 + 1) 0 h ∙ ap (λ (x : ℕ). x + 1) (sym (count-zero kn i)))
 
 -- tick 4
-pub own-count : (epsilon v x : ℕ) (t : Timestamp) → length (t .kn) ≡ width epsilon → 1 ≤ epsilon → (w : ℕ) → (w ≡ v + epsilon → ⊥) → countAt v (countOwn epsilon x t .kn) w ≡ countAt v (t .kn) w
+pub own-count : (epsilon v x : ℕ) (t : Timestamp) → length (t .kn) ≡ width epsilon → 1 ≤ epsilon → (w : ℕ) → (w ≡ v + epsilon → ⊥) → placedAt v (countOwn epsilon x t .kn) w ≡ placedAt v (t .kn) w
 unfolding countOwn
 own-count epsilon v x t wide e w ne =
     elim (lt-or-ge w v) [
@@ -310,24 +391,24 @@ own-count epsilon v x t wide e w ne =
           ∙ own-at (t .kn) epsilon (w - v) (λ q. ne (omega arith)) ∙ sym (count-index v (t .kn) w (w - v) (omega arith))
     ]
 
-pub own-count-here : (epsilon v x : ℕ) (t : Timestamp) → length (t .kn) ≡ width epsilon → 1 ≤ epsilon → countAt v (countOwn epsilon x t .kn) (v + epsilon) ≡ countAt v (t .kn) (v + epsilon) + 1
+pub own-count-here : (epsilon v x : ℕ) (t : Timestamp) → length (t .kn) ≡ width epsilon → 1 ≤ epsilon → placedAt v (countOwn epsilon x t .kn) (v + epsilon) ≡ placedAt v (t .kn) (v + epsilon) + 1
 unfolding countOwn width
 own-count-here epsilon v x t wide e =
     count-inside v (set (t .kn) epsilon (getD (t .kn) epsilon 0 + 1)) epsilon
-    ∙ getD-set-same (t .kn) epsilon (getD (t .kn) epsilon 0 + 1) 0 (omega arith)
+    ∙ own-here (t .kn) epsilon (omega arith)
     ∙ ap (λ (n : ℕ). n + 1) (sym (count-inside v (t .kn) epsilon))
 
 pub own-sound : (n epsilon v : ℕ) (t : Timestamp) → 1 ≤ epsilon → Opened n epsilon t → Sound n epsilon (countOwn epsilon v t)
 unfolding countOwn width
 own-sound n epsilon v t e o =
-    let same : getD (set (t .kn) epsilon (getD (t .kn) epsilon 0 + 1)) epsilon 0 ≡ getD (t .kn) epsilon 0 + 1 =
-    getD-set-same (t .kn) epsilon (getD (t .kn) epsilon 0 + 1) 0 (omega arith) in
+    let same : placedAt 0 (set (t .kn) epsilon (getD (t .kn) epsilon 0 + 1)) epsilon ≡ placedAt 0 (t .kn) epsilon + 1 =
+    own-here (t .kn) epsilon (omega arith) in
     record {
       wide = length-set (t .kn) epsilon (getD (t .kn) epsilon 0 + 1) ∙ o .wide;
       close = o .close;
       most = λ i.
           elim (eq-or-ne i epsilon) [
-            | inl q ↦ rw (q, same) (let z : getD (t .kn) epsilon 0 < n = o .room epsilon (omega arith) in omega arith)
+            | inl q ↦ rw (q, same) (let z : placedAt 0 (t .kn) epsilon < n = o .room epsilon (omega arith) in omega arith)
             | inr q ↦ rw (own-at (t .kn) epsilon i q) (o .most i)
           ];
       top =
@@ -339,13 +420,20 @@ own-sound n epsilon v t e o =
           own-at (t .kn) epsilon i (λ q. omega arith) ∙ o .above i k;
     }
 
-pub own-tables : (n epsilon B v : ℕ) (t : Timestamp) → 1 ≤ n → 1 ≤ epsilon → v < B → Opened n epsilon t → soundTables n epsilon B ((v + 1) % B) (countOwn epsilon v t) ≡ true
-unfolding soundTables countOwn
-own-tables n epsilon B v t n-pos e h o =
-    and-intro (sound-to n epsilon (countOwn epsilon v t) (own-sound n epsilon v t e o)) (and-intro (lt-ltb v B h)
-    (and-intro (eq-eqb ((v + 1) % B) ((v + 1) % B) refl)
-    (at-most-past-to (n - 1) (epsilon + 1) (set (t .kn) epsilon (getD (t .kn) epsilon 0 + 1))
-    (λ i k. rw (own-at (t .kn) epsilon i (λ q. omega arith)) (let z : getD (t .kn) i 0 < n = o .room i (omega arith) in omega arith)))))
+-- what a tick leaves: a sound timestamp with no full count past its clock
+pub own-left : (n epsilon v : ℕ) (t : Timestamp) → 1 ≤ n → 1 ≤ epsilon → Opened n epsilon t → Left n epsilon (countOwn epsilon v t)
+own-left n epsilon v t n-pos e o =
+    record {
+      sound = own-sound n epsilon v t e o;
+      room = unfold countOwn in (λ i k. rw (own-at (t .kn) epsilon i (λ q. omega arith)) (let z : placedAt 0 (t .kn) i < n = o .room i (omega arith) in omega arith));
+    }
+
+-- such tables are sound for the clock one after theirs
+pub left-tables : (n epsilon B : ℕ) (t : Timestamp) → Left n epsilon t → t .r < B → (v : ℕ) → (t .r + 1) % B ≡ v → soundTables n epsilon B v t ≡ true
+unfolding soundTables
+left-tables n epsilon B t left below v e =
+    and-intro (sound-to n epsilon t (left .sound)) (and-intro (lt-ltb (t .r) B below)
+    (and-intro (eq-eqb ((t .r + 1) % B) v e) (at-most-past-to (n - 1) epsilon 0 (t .kn) 1 (λ i k. left .room i (omega arith)))))
 
 -- fresh tables are replaced ones after their own event
 pub fresh-own : (epsilon clock : ℕ) → fresh epsilon clock ≡ countOwn epsilon clock (replaced epsilon clock)
@@ -353,11 +441,6 @@ unfolding fresh countOwn replaced
 fresh-own epsilon clock = rw (getD-zeros (width epsilon) epsilon)
 
 -- fresh tables
-pub fresh-sound : (n epsilon clock : ℕ) → 1 ≤ n → 1 ≤ epsilon → Sound n epsilon (fresh epsilon clock)
-fresh-sound n epsilon clock n-pos e =
-    rw (fresh-own epsilon clock) (own-sound n epsilon clock (replaced epsilon clock) e (opened-replaced n epsilon clock n-pos e))
-
-pub fresh-tables : (n epsilon B x : ℕ) → 1 ≤ n → 1 ≤ epsilon → 0 < B → soundTables n epsilon B ((x + 1) % B) (fresh epsilon (x % B)) ≡ true
-fresh-tables n epsilon B x n-pos e b =
-    rw (← mod-add-mod x B 1, fresh-own epsilon (x % B))
-    (own-tables n epsilon B (x % B) (replaced epsilon (x % B)) n-pos e (mod-lt x b) (opened-replaced n epsilon (x % B) n-pos e))
+pub fresh-left : (n epsilon clock : ℕ) → 1 ≤ n → 1 ≤ epsilon → Left n epsilon (fresh epsilon clock)
+fresh-left n epsilon clock n-pos e =
+    rw (fresh-own epsilon clock) (own-left n epsilon clock (replaced epsilon clock) n-pos e (opened-replaced n epsilon clock n-pos e))

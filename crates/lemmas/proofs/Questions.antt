@@ -1,15 +1,15 @@
 -- What it says that no question gets a no, and the limits of a setup as facts.
 -- Assumes nothing.
-use Prim.Native.Nat.{ℕ, zero, suc, _+_, _*_}
+use Prim.Native.Nat.{ℕ, zero, suc, _+_, _*_, _<_}
 use native.Mathlib.Omega.{arith}
 use mathlib.Core.Path.{_≡_, refl}
-use mathlib.Core.Bool.{Bool, true, false}
+use mathlib.Core.Bool.{Bool, true, false, _&&_}
 use mathlib.Core.List.{List, _∷_}
 use lib.Dec.{leb}
 use borrow.Author.Tests.{leb-true, ltb-true, le-leb, lt-ltb}
 use Rattle.laws.specs.Lists.{within}
 use Rattle.laws.proofs.Numbers.{and-left, and-right, and-intro, within-low, within-high}
-use Rattle.model.specs.Setup.{Setup, inLimits, leastModulus}
+use Rattle.model.specs.Setup.{Setup, inLimits, isMember, leastModulus}
 use Rattle.model.specs.Frame.{decode}
 use Rattle.model.specs.Question.{Question, ask, firstNo}
 use Rattle.model.specs.Codec.{readQuestions, readBy, read}
@@ -47,24 +47,33 @@ limits-from s h =
       epsilon-pos = within-low 1 16 (s .epsilon) (and-left _ _ h₁);
       epsilon-most = within-high 1 16 (s .epsilon) (and-left _ _ h₁);
       delta-most = leb-true (s .delta) 64 (and-left _ _ h₂);
-      modulus-least = within-low (6 * s .epsilon + s .delta + 1) 65535 (s .modulus) (and-left _ _ h₃);
-      modulus-most = within-high (6 * s .epsilon + s .delta + 1) 65535 (s .modulus) (and-left _ _ h₃);
-      own-below = ltb-true (s .own) (s .n) (and-right (within (6 * s .epsilon + s .delta + 1) 65535 (s .modulus)) _ h₃);
+      modulus-least = within-low (6 * s .epsilon + s .delta + 1) 65535 (s .modulus) h₃;
+      modulus-most = within-high (6 * s .epsilon + s .delta + 1) 65535 (s .modulus) h₃;
     }
 
--- what it sends is what the writer makes
+-- and back
 pub limits-to : (s : Setup) → Limits s → inLimits s ≡ true
 unfolding inLimits within leastModulus
 limits-to s l =
     and-intro (and-intro (le-leb _ _ (l .n-pos)) (le-leb _ _ (l .n-most)))
     (and-intro (and-intro (le-leb _ _ (l .epsilon-pos)) (le-leb _ _ (l .epsilon-most)))
     (and-intro (le-leb _ _ (l .delta-most))
-    (and-intro (and-intro (le-leb _ _ (l .modulus-least)) (le-leb _ _ (l .modulus-most))) (lt-ltb _ _ (l .own-below)))))
+    (and-intro (le-leb _ _ (l .modulus-least)) (le-leb _ _ (l .modulus-most)))))
+
+-- question 1: the limits of the group, and the own number
+pub setup-from : (s : Setup) (own : ℕ) → (inLimits s && isMember s own) ≡ true → Limits s × (own < s .n)
+unfolding isMember
+setup-from s own h =
+    (limits-from s (and-left (inLimits s) _ h), ltb-true own (s .n) (and-right (inLimits s) _ h))
+
+pub setup-to : (s : Setup) (own : ℕ) → Limits s → own < s .n → (inLimits s && isMember s own) ≡ true
+unfolding isMember
+setup-to s own l h = and-intro (limits-to s l) (lt-ltb own (s .n) h)
 
 -- the reader's number 0 says that no question got a no
-pub read-number : (s : Setup) (bytes : List ℕ) → read s bytes .number ≡ 0 → firstNo (readQuestions s bytes) ≡ 0
+pub read-number : (s : Setup) (own : ℕ) (bytes : List ℕ) → read s own bytes .number ≡ 0 → firstNo (readQuestions s own bytes) ≡ 0
 unfolding read
-read-number s bytes = go (firstNo (readQuestions s bytes))
+read-number s own bytes = go (firstNo (readQuestions s own bytes))
   where
     go : (k : ℕ) → readBy k (decode (s .epsilon) bytes) .number ≡ 0 → k ≡ 0
     go zero e = refl

@@ -18,63 +18,68 @@ use Rattle.laws.proofs.Lists.{length-tab, every-mem, every-of-mem, every-map, e
 use Rattle.laws.proofs.Lex.{lex-shift}
 use Rattle.laws.proofs.Sorted.{Sorted, sorted-of-chained, chained-of-sorted, sorted-select, sorted-insert, sorted-rekey, apart-select, apart-insertAt, pigeonhole-pairs}
 use Rattle.model.specs.Setup.{Setup, width, depth}
-use Rattle.model.specs.Timestamp.{sum, near, atMost}
+use Rattle.model.specs.Timestamp.{sum, countsFrom, atMost}
 use Rattle.model.specs.Frame.{Frame, encode, decode, twoAt}
-use Rattle.model.specs.Order.{countsDown, key, keyNear, compareFrames, before, due, dueNear}
+use Rattle.model.specs.Order.{readingOf, countsDown, keyBy, key, keyNear, compareFrames, before, due, dueNear}
 use Rattle.model.specs.Holdback.{sameOrigin, passes, notEarly, notOverdue, heldBytes, held, soundHoldback, encodeFrames, encodeHoldback}
 use Rattle.model.specs.Question.{firstNo}
-use Rattle.model.specs.Judge.{readingOf, askLate, askEarly, askCounts, askRepeat, askRoom, placeQuestions, judgeQuestions, placeFor}
-use Rattle.model.specs.Tick.{Input, queueSound, openingQueue, dueNow, holdbackSize}
+use Rattle.model.specs.Judge.{askLate, askEarly, askCounts, askRepeat, askRoom, placeQuestions, judgeQuestions, placeFor}
+use Rattle.model.specs.Tick.{openingQueue, dueNow, holdbackSize}
 use Rattle.lemmas.proofs.Bounds.{Limits, FrameOk, QueueOk}
-use Rattle.lemmas.proofs.Reading.{near-high, near-next, near-injective}
-use Rattle.lemmas.proofs.RoundTrip.{decode-encode, none-no, frame-passes, frame-passed, passes-encode, passes-decode, two-at-encode, held-encode, held-frames}
+use Rattle.lemmas.proofs.Reading.{near-true, near-high, near-later, near-injective}
+use Rattle.lemmas.proofs.Counts.{length-down}
+use Rattle.lemmas.proofs.RoundTrip.{decode-encode, none-no, frame-passes, frame-passed, passes-encode, passes-decode, length-held, held-encode, held-frames}
 
 -- the tests of a frame's time, as facts
 pub early-from : (s : Setup) (v : ℕ) (f : Frame) → notEarly s v f ≡ true → readingOf s v f + f .stamp .c ≤ s .modulus + (s .epsilon - 1)
-unfolding notEarly readingOf sum
-early-from s v f h = leb-true (near (s .epsilon) (s .modulus) v (f .stamp .r) + f .stamp .c) (s .modulus + (s .epsilon - 1)) h
+unfolding notEarly sum
+early-from s v f h = leb-true (readingOf s v f + f .stamp .c) (s .modulus + (s .epsilon - 1)) h
 
 pub early-to : (s : Setup) (v : ℕ) (f : Frame) → readingOf s v f + f .stamp .c ≤ s .modulus + (s .epsilon - 1) → notEarly s v f ≡ true
-unfolding notEarly readingOf sum
-early-to s v f h = le-leb (near (s .epsilon) (s .modulus) v (f .stamp .r) + f .stamp .c) (s .modulus + (s .epsilon - 1)) h
+unfolding notEarly sum
+early-to s v f h = le-leb (readingOf s v f + f .stamp .c) (s .modulus + (s .epsilon - 1)) h
 
 pub overdue-from : (s : Setup) (v : ℕ) (f : Frame) → notOverdue s v f ≡ true → s .modulus ≤ readingOf s v f + f .stamp .c + s .delta + s .epsilon
-unfolding notOverdue readingOf dueNear due sum
-overdue-from s v f h = leb-true (s .modulus) (near (s .epsilon) (s .modulus) v (f .stamp .r) + f .stamp .c + s .delta + s .epsilon) h
+unfolding notOverdue dueNear due sum
+overdue-from s v f h = leb-true (s .modulus) (readingOf s v f + f .stamp .c + s .delta + s .epsilon) h
 
 pub overdue-to : (s : Setup) (v : ℕ) (f : Frame) → s .modulus ≤ readingOf s v f + f .stamp .c + s .delta + s .epsilon → notOverdue s v f ≡ true
-unfolding notOverdue readingOf dueNear due sum
-overdue-to s v f h = le-leb (s .modulus) (near (s .epsilon) (s .modulus) v (f .stamp .r) + f .stamp .c + s .delta + s .epsilon) h
+unfolding notOverdue dueNear due sum
+overdue-to s v f h = le-leb (s .modulus) (readingOf s v f + f .stamp .c + s .delta + s .epsilon) h
 
 -- a frame that is due at no moment but later
 pub not-due : (s : Setup) (v : ℕ) (f : Frame) → not (dueNow s v f) ≡ true → readingOf s v f + f .stamp .c + s .delta + s .epsilon ≡ s .modulus → ⊥
-unfolding dueNow readingOf dueNear due sum
+unfolding dueNow dueNear due sum
 not-due s v f h =
-    eqb-false (near (s .epsilon) (s .modulus) v (f .stamp .r) + f .stamp .c + s .delta + s .epsilon) (s .modulus)
-    (false-of-not (eqb (near (s .epsilon) (s .modulus) v (f .stamp .r) + f .stamp .c + s .delta + s .epsilon) (s .modulus)) h)
+    eqb-false (readingOf s v f + f .stamp .c + s .delta + s .epsilon) (s .modulus)
+    (false-of-not (eqb (readingOf s v f + f .stamp .c + s .delta + s .epsilon) (s .modulus)) h)
 
 pub reading-high : (s : Setup) (v : ℕ) (f : Frame) → Limits s → readingOf s v f < s .modulus + s .epsilon
 unfolding readingOf
 reading-high s v f limits = near-high (s .epsilon) (s .modulus) v (f .stamp .r) (limits .epsilon-pos) (omega arith)
 
+-- the reading of a frame is its true clock R, where R is less than ε ahead of v and at most B − ε behind
+pub reading-true : (s : Setup) (v R : ℕ) (f : Frame) → Limits s → f .stamp .r ≡ R % s .modulus → R < v + s .epsilon → v + s .epsilon ≤ R + s .modulus → readingOf s (v % s .modulus) f + v ≡ s .modulus + R
+unfolding readingOf
+reading-true s v R f limits is hi lo = rw is (near-true (s .epsilon) (s .modulus) v R (limits .epsilon-pos) (omega arith) hi lo)
+
 -- where the readings of a queue's frames lie
 pub record InWindow (s : Setup) (v : ℕ) (f : Frame) : Type 0 where
   pub low : s .modulus < readingOf s v f + (s .delta + 2 * s .epsilon)
   pub high : readingOf s v f < s .modulus + s .epsilon
-  pub far : s .epsilon < readingOf s v f
 
 pub in-window : (s : Setup) (v : ℕ) (f : Frame) → Limits s → FrameOk s f → notOverdue s v f ≡ true → InWindow s v f
 in-window s v f limits ok h =
     let o = overdue-from s v f h in
     let c = ok .sound .close in
-    record { low = omega arith; high = reading-high s v f limits; far = omega arith }
+    record { low = omega arith; high = reading-high s v f limits }
 
 -- what a frame that is taken has passed
 pub record Passed (s : Setup) (v : ℕ) (queue : List Frame) (f : Frame) : Type 0 where
   pub frame : FrameOk s f
   pub late : s .modulus ≤ readingOf s v f + (s .delta + s .epsilon)
   pub early : notEarly s v f ≡ true
-  pub counts : atMost (s .n - 1) (drop (s .modulus + s .epsilon - readingOf s v f) (f .stamp .kn)) ≡ true
+  pub counts : atMost (s .n - 1) (countsFrom (s .epsilon) (readingOf s v f) (f .stamp .kn) (s .modulus)) ≡ true
   pub new : any (sameOrigin f) queue ≡ false
 
 pub judged-passed : (s : Setup) (v : ℕ) (queue : List Frame) (bytes : List ℕ) → Limits s → firstNo (judgeQuestions s v queue bytes) ≡ 0 → Passed s v queue (decode (s .epsilon) bytes)
@@ -84,7 +89,7 @@ judged-passed s v queue bytes limits e =
     let q = frame-passed s bytes (placeQuestions s v queue f) limits e in
     let q13 = none-no (leb (s .modulus) (readingOf s v f + (s .delta + s .epsilon))) 12 (askEarly s v f ∷ askCounts s v f ∷ askRepeat queue f ∷ askRoom s queue ∷ []) (q .1) in
     let q14 = none-no (notEarly s v f) 13 (askCounts s v f ∷ askRepeat queue f ∷ askRoom s queue ∷ []) (q13 .1) in
-    let q15 = none-no (atMost (s .n - 1) (drop (s .modulus + s .epsilon - readingOf s v f) (f .stamp .kn))) 14 (askRepeat queue f ∷ askRoom s queue ∷ []) (q14 .1) in
+    let q15 = none-no (atMost (s .n - 1) (countsFrom (s .epsilon) (readingOf s v f) (f .stamp .kn) (s .modulus))) 14 (askRepeat queue f ∷ askRoom s queue ∷ []) (q14 .1) in
     let q16 = none-no (not (any (sameOrigin f) queue)) 15 (askRoom s queue ∷ []) (q15 .1) in
     record {
       frame = q .0;
@@ -110,7 +115,7 @@ passed-judged s v queue f limits p room =
     )
 
 -- a frame that passes all but 16
-pub repeat-judged : (s : Setup) (v : ℕ) (queue : List Frame) (f : Frame) → Limits s → FrameOk s f → s .modulus ≤ readingOf s v f + (s .delta + s .epsilon) → notEarly s v f ≡ true → atMost (s .n - 1) (drop (s .modulus + s .epsilon - readingOf s v f) (f .stamp .kn)) ≡ true → any (sameOrigin f) queue ≡ true → firstNo (judgeQuestions s v queue (encode f)) ≡ 16
+pub repeat-judged : (s : Setup) (v : ℕ) (queue : List Frame) (f : Frame) → Limits s → FrameOk s f → s .modulus ≤ readingOf s v f + (s .delta + s .epsilon) → notEarly s v f ≡ true → atMost (s .n - 1) (countsFrom (s .epsilon) (readingOf s v f) (f .stamp .kn) (s .modulus)) ≡ true → any (sameOrigin f) queue ≡ true → firstNo (judgeQuestions s v queue (encode f)) ≡ 16
 unfolding judgeQuestions placeQuestions askLate askEarly askCounts askRepeat askRoom firstNo
 repeat-judged s v queue f limits ok late early counts old =
     let d = decode-encode (s .epsilon) f (ok .sound .wide) in
@@ -124,13 +129,13 @@ repeat-judged s v queue f limits ok late early counts old =
     )
 
 -- the order of a queue is that of its keys
-ordered-sorted : (epsilon B v : ℕ) (queue : List Frame) → chained (before epsilon B v) queue ≡ true → Sorted (keyNear epsilon B v) queue
+ordered-sorted : (s : Setup) (v : ℕ) (queue : List Frame) → chained (before s v) queue ≡ true → Sorted (keyNear s v) queue
 unfolding before compareFrames
-ordered-sorted epsilon B v queue h = sorted-of-chained (keyNear epsilon B v) queue h
+ordered-sorted s v queue h = sorted-of-chained (keyNear s v) queue h
 
-sorted-ordered : (epsilon B v : ℕ) (queue : List Frame) → Sorted (keyNear epsilon B v) queue → chained (before epsilon B v) queue ≡ true
+sorted-ordered : (s : Setup) (v : ℕ) (queue : List Frame) → Sorted (keyNear s v) queue → chained (before s v) queue ≡ true
 unfolding before compareFrames
-sorted-ordered epsilon B v queue h = chained-of-sorted (keyNear epsilon B v) queue h
+sorted-ordered s v queue h = chained-of-sorted (keyNear s v) queue h
 
 -- frames of one station and r
 pub origin-to : (f g : Frame) → f .station ≡ g .station → f .stamp .r ≡ g .stamp .r → sameOrigin f g ≡ true
@@ -142,12 +147,13 @@ unfolding sameOrigin
 origin-sym f g = ap₂ _&&_ (eqb-sym (f .station) (g .station)) (eqb-sym (f .stamp .r) (g .stamp .r))
 
 -- the key tells station and reading
-pub key-origin : (epsilon x y : ℕ) (f g : Frame) → key epsilon x f ≡ key epsilon y g → (f .station ≡ g .station) × (x ≡ y)
-unfolding key countsDown
-key-origin epsilon x y f g e =
+pub key-origin : (s : Setup) (x y : ℕ) (f g : Frame) → key s x f ≡ key s y g → (f .station ≡ g .station) × (x ≡ y)
+unfolding key keyBy
+key-origin s x y f g e =
     let t : f .station ∷ x ∷ [] ≡ g .station ∷ y ∷ [] =
-    sym (drop-at (countsDown epsilon (f .stamp)) (f .station ∷ x ∷ []) epsilon (length-tab epsilon _)) ∙ ap (drop (suc epsilon)) e
-    ∙ drop-at (countsDown epsilon (g .stamp)) (g .station ∷ y ∷ []) epsilon (length-tab epsilon _) in
+    sym (drop-at (countsDown (s .epsilon) (f .stamp)) (f .station ∷ x ∷ []) (s .epsilon) (length-down (s .epsilon) (f .stamp)))
+    ∙ ap (drop (suc (s .epsilon))) e
+    ∙ drop-at (countsDown (s .epsilon) (g .stamp)) (g .station ∷ y ∷ []) (s .epsilon) (length-down (s .epsilon) (g .stamp)) in
     (cc, cc)
 
 -- two frames with one station and one reading
@@ -156,10 +162,10 @@ unfolding readingOf
 reading-origin s v f g limits below okf okg e h =
     origin-to f g e (near-injective (s .epsilon) (s .modulus) v (f .stamp .r) (g .stamp .r) (limits .epsilon-pos) (omega arith) below (okf .r-below) (okg .r-below) h)
 
-key-near-origin : (s : Setup) (v : ℕ) (f g : Frame) → Limits s → v < s .modulus → FrameOk s f → FrameOk s g → keyNear (s .epsilon) (s .modulus) v f ≡ keyNear (s .epsilon) (s .modulus) v g → sameOrigin f g ≡ true
-unfolding keyNear readingOf
+key-near-origin : (s : Setup) (v : ℕ) (f g : Frame) → Limits s → v < s .modulus → FrameOk s f → FrameOk s g → keyNear s v f ≡ keyNear s v g → sameOrigin f g ≡ true
+unfolding keyNear
 key-near-origin s v f g limits below okf okg e =
-    let t = key-origin (s .epsilon) (readingOf s v f) (readingOf s v g) f g e in
+    let t = key-origin s (readingOf s v f) (readingOf s v g) f g e in
     reading-origin s v f g limits below okf okg (t .0) (t .1)
 
 pub queue-none : (s : Setup) (v : ℕ) → QueueOk s v []
@@ -174,7 +180,7 @@ sound-queue s v bytes limits h =
     let queue = held (s .epsilon) bytes in
     let h₁ = and-right (leb (twoAt bytes 0) (depth (s .n) (s .epsilon) (s .delta))) _ h in
     let h₂ = and-right (every (passes s) (heldBytes (s .epsilon) bytes)) _ h₁ in
-    let h₃ = and-right (chained (before (s .epsilon) (s .modulus) v) queue) _ h₂ in
+    let h₃ = and-right (chained (before s v) queue) _ h₂ in
     let h₄ = and-right (apart sameOrigin queue) _ h₃ in
     record {
       frames = λ f m. one f (Memᴰ·of-map (decode (s .epsilon)) (heldBytes (s .epsilon) bytes) m) (and-left _ _ h₁);
@@ -187,13 +193,13 @@ sound-queue s v bytes limits h =
     one : (f : Frame) → (a : List ℕ) × List·Memᴰ a (heldBytes (s .epsilon) bytes) × (decode (s .epsilon) a ≡ f) → every (passes s) (heldBytes (s .epsilon) bytes) ≡ true → FrameOk s f
     one f t p = rw (← t .2) (passes-decode s (t .0) limits (every-mem (passes s) p (t .1)))
 
-pub opening-queue : (i : Input) → Limits (i .setup) → i .clock < i .setup .modulus → QueueOk (i .setup) (i .clock) (openingQueue i)
-unfolding openingQueue queueSound
-opening-queue i limits below = go (queueSound i) refl
+pub opening-queue : (s : Setup) (v : ℕ) (bytes : List ℕ) → Limits s → QueueOk s v (openingQueue s v bytes)
+unfolding openingQueue
+opening-queue s v bytes limits = go (soundHoldback s v bytes) refl
   where
-    go : (b : Bool) → queueSound i ≡ b → QueueOk (i .setup) (i .clock) (cond b (held (i .setup .epsilon) (i .holdback)) [])
-    go true e = sound-queue (i .setup) (i .clock) (i .holdback) limits e
-    go false e = queue-none (i .setup) (i .clock)
+    go : (b : Bool) → soundHoldback s v bytes ≡ b → QueueOk s v (cond b (held (s .epsilon) bytes) [])
+    go true e = sound-queue s v bytes limits e
+    go false e = queue-none s v
 
 pub queue-take : (s : Setup) (v : ℕ) (queue : List Frame) (f : Frame) → Limits s → v < s .modulus → QueueOk s v queue → Passed s v queue f → QueueOk s v (insertAt (placeFor s v queue f) f queue)
 unfolding placeFor before compareFrames
@@ -203,8 +209,8 @@ queue-take s v queue f limits below ok p =
     record {
       frames = λ g m. one g (mem-of-insertAt at f queue m);
       ordered =
-          sorted-ordered (s .epsilon) (s .modulus) v (insertAt at f queue)
-          (sorted-insert (keyNear (s .epsilon) (s .modulus) v) f queue (ordered-sorted (s .epsilon) (s .modulus) v queue (ok .ordered)) other);
+          sorted-ordered s v (insertAt at f queue)
+          (sorted-insert (keyNear s v) f queue (ordered-sorted s v queue (ok .ordered)) other);
       single = apart-insertAt sameOrigin origin-sym at f queue (p .new) (ok .single);
       early = every-insertAt (notEarly s v) at f queue ∙ and-intro (p .early) (ok .early);
       overdue = every-insertAt (notOverdue s v) at f queue ∙ and-intro (overdue-to s v f (omega arith)) (ok .overdue);
@@ -214,7 +220,7 @@ queue-take s v queue f limits below ok p =
     one g (inl e) = rw e (p .frame)
     one g (inr m) = ok .frames g m
 
-    other : (g : Frame) → List·Memᴰ g queue → keyNear (s .epsilon) (s .modulus) v g ≡ keyNear (s .epsilon) (s .modulus) v f → ⊥
+    other : (g : Frame) → List·Memᴰ g queue → keyNear s v g ≡ keyNear s v f → ⊥
     other g m e = clash (key-near-origin s v f g limits below (p .frame) (ok .frames g m) (sym e)) (any-false (sameOrigin f) (p .new) m)
 
 -- 01: n(δ + 3ε − 1) frames at most, so 17 never gets a no
@@ -235,81 +241,119 @@ queue-room s v queue limits below ok =
     pred-suc : (d e : ℕ) → 1 ≤ e → suc (d + 3 * e - 1) ≡ d + 3 * e
     pred-suc d e h = omega arith
 
--- keys whose readings are one less are in the same order
-key-lower : (epsilon a a′ b b′ : ℕ) (f g : Frame) → a′ + 1 ≡ a → b′ + 1 ≡ b → lexCompare (key epsilon a f) (key epsilon b g) ≡ lexCompare (key epsilon a′ f) (key epsilon b′ g)
-unfolding key sum countsDown
-key-lower epsilon a a′ b b′ f g p q =
-    let e : a + f .stamp .c ≡ a′ + f .stamp .c + 1 = omega arith in
-    let h : b + g .stamp .c ≡ b′ + g .stamp .c + 1 = omega arith in
+-- keys whose readings are both k less are in the same order
+pub key-lower : (s : Setup) (k a a′ b b′ : ℕ) (f g : Frame) → a′ + k ≡ a → b′ + k ≡ b → lexCompare (key s a f) (key s b g) ≡ lexCompare (key s a′ f) (key s b′ g)
+unfolding key keyBy sum
+key-lower s k a a′ b b′ f g p q =
+    let e : a + f .stamp .c ≡ a′ + f .stamp .c + k = omega arith in
+    let h : b + g .stamp .c ≡ b′ + g .stamp .c + k = omega arith in
     rw (e, h, ← p, ← q)
-    (lex-shift 1 (a′ + f .stamp .c) (b′ + g .stamp .c) (f .station) (g .station) a′ b′ (countsDown epsilon (f .stamp)) (countsDown epsilon (g .stamp))
-    (length-tab epsilon _ ∙ sym (length-tab epsilon _)))
+    (lex-shift k (a′ + f .stamp .c) (b′ + g .stamp .c) (f .station) (g .station) a′ b′ (countsDown (s .epsilon) (f .stamp)) (countsDown (s .epsilon) (g .stamp))
+    (length-down (s .epsilon) (f .stamp) ∙ sym (length-down (s .epsilon) (g .stamp))))
 
-reading-next : (s : Setup) (v : ℕ) (f : Frame) → Limits s → FrameOk s f → InWindow s (v % s .modulus) f → readingOf s ((v + 1) % s .modulus) f + 1 ≡ readingOf s (v % s .modulus) f
+-- k clocks later a reading is k less
+pub reading-later : (s : Setup) (v k : ℕ) (f : Frame) → Limits s → f .stamp .r < s .modulus → s .epsilon + k ≤ readingOf s (v % s .modulus) f → readingOf s ((v + k) % s .modulus) f + k ≡ readingOf s (v % s .modulus) f
 unfolding readingOf
-reading-next s v f limits ok w = near-next (s .epsilon) (s .modulus) v (f .stamp .r) (limits .epsilon-pos) (omega arith) (ok .r-below) (w .far)
+reading-later s v k f limits below far = near-later (s .epsilon) (s .modulus) v k (f .stamp .r) (limits .epsilon-pos) (omega arith) below far
 
--- at the next clock, without what was due
-pub queue-next : (s : Setup) (v : ℕ) (queue : List Frame) → Limits s → QueueOk s (v % s .modulus) queue → QueueOk s ((v + 1) % s .modulus) (select (λ f. not (dueNow s (v % s .modulus) f)) queue)
-unfolding keyNear readingOf
-queue-next s v queue limits ok =
-    let kept : Frame → Bool = λ f. not (dueNow s (v % s .modulus) f) in
+-- a queue at v that was left k clocks before: each frame is due after that
+pub record QueueLeft (s : Setup) (v k : ℕ) (queue : List Frame) : Type 0 where
+  pub frames : (f : Frame) → List·Memᴰ f queue → FrameOk s f
+  pub ordered : chained (before s v) queue ≡ true
+  pub single : apart sameOrigin queue ≡ true
+  pub early : (f : Frame) → List·Memᴰ f queue → readingOf s v f + f .stamp .c + k ≤ s .modulus + (s .epsilon - 1)
+  pub later : (f : Frame) → List·Memᴰ f queue → s .modulus < readingOf s v f + f .stamp .c + s .delta + s .epsilon + k
+
+pub left-none : (s : Setup) (v k : ℕ) → QueueLeft s v k []
+unfolding chained apart
+left-none s v k =
+    record {
+      frames = λ f m. absurd (List·Memᴰ·not-nil m);
+      ordered = refl;
+      single = refl;
+      early = λ f m. absurd (List·Memᴰ·not-nil m);
+      later = λ f m. absurd (List·Memᴰ·not-nil m);
+    }
+
+-- what a tick leaves: the queue without what is due
+pub queue-left : (s : Setup) (v : ℕ) (queue : List Frame) → QueueOk s v queue → QueueLeft s v 0 (select (λ f. not (dueNow s v f)) queue)
+queue-left s v queue ok =
     record {
       frames = λ f m. ok .frames f (mem-of-select kept queue m .0);
-      ordered =
-          sorted-ordered (s .epsilon) (s .modulus) ((v + 1) % s .modulus) (select kept queue)
-          (sorted-select (keyNear (s .epsilon) (s .modulus) ((v + 1) % s .modulus)) kept queue
-          (sorted-rekey (keyNear (s .epsilon) (s .modulus) (v % s .modulus)) (keyNear (s .epsilon) (s .modulus) ((v + 1) % s .modulus)) queue
-          same (ordered-sorted (s .epsilon) (s .modulus) (v % s .modulus) queue (ok .ordered))));
+      ordered = sorted-ordered s v (select kept queue) (sorted-select (keyNear s v) kept queue (ordered-sorted s v queue (ok .ordered)));
       single = apart-select sameOrigin kept queue (ok .single);
-      early = every-of-mem (notEarly s ((v + 1) % s .modulus)) (select kept queue) (λ f m. early-after f (mem-of-select kept queue m .0));
-      overdue = every-of-mem (notOverdue s ((v + 1) % s .modulus)) (select kept queue) (λ f m. overdue-after f (mem-of-select kept queue m .0) (mem-of-select kept queue m .1));
+      early = λ f m. let o = early-from s v f (every-mem (notEarly s v) (ok .early) (mem-of-select kept queue m .0)) in omega arith;
+      later = λ f m.
+          let o = overdue-from s v f (every-mem (notOverdue s v) (ok .overdue) (mem-of-select kept queue m .0)) in
+          omega (arith, not-due s v f (mem-of-select kept queue m .1));
     }
   where
-    next : (f : Frame) → List·Memᴰ f queue → readingOf s ((v + 1) % s .modulus) f + 1 ≡ readingOf s (v % s .modulus) f
-    next f m = reading-next s v f limits (ok .frames f m) (queue-window s (v % s .modulus) queue limits ok f m)
+    kept : Frame → Bool
+    kept f = not (dueNow s v f)
 
-    same : (f g : Frame) → List·Memᴰ f queue → List·Memᴰ g queue → lexCompare (keyNear (s .epsilon) (s .modulus) (v % s .modulus) f) (keyNear (s .epsilon) (s .modulus) (v % s .modulus) g) ≡ lexCompare (keyNear (s .epsilon) (s .modulus) ((v + 1) % s .modulus) f) (keyNear (s .epsilon) (s .modulus) ((v + 1) % s .modulus) g)
-    same f g m k =
-        key-lower (s .epsilon) (readingOf s (v % s .modulus) f) (readingOf s ((v + 1) % s .modulus) f) (readingOf s (v % s .modulus) g) (readingOf s ((v + 1) % s .modulus) g)
-        f g (next f m) (next g k)
+-- the same queue k clocks later
+pub left-later : (s : Setup) (v j k : ℕ) (queue : List Frame) → Limits s → j + k ≤ s .epsilon → QueueLeft s (v % s .modulus) j queue → QueueLeft s ((v + k) % s .modulus) (j + k) queue
+unfolding keyNear
+left-later s v j k queue limits few left =
+    record {
+      frames = left .frames;
+      ordered =
+          sorted-ordered s ((v + k) % s .modulus) queue
+          (sorted-rekey (keyNear s (v % s .modulus)) (keyNear s ((v + k) % s .modulus)) queue same (ordered-sorted s (v % s .modulus) queue (left .ordered)));
+      single = left .single;
+      early = λ f m. omega (arith, moved f m, left .early f m);
+      later = λ f m. omega (arith, moved f m, left .later f m);
+    }
+  where
+    moved : (f : Frame) → List·Memᴰ f queue → readingOf s ((v + k) % s .modulus) f + k ≡ readingOf s (v % s .modulus) f
+    moved f m =
+        reading-later s v k f limits (left .frames f m .r-below)
+        (omega (arith, left .later f m, left .frames f m .sound .close, limits .modulus-least))
 
-    early-after : (f : Frame) → List·Memᴰ f queue → notEarly s ((v + 1) % s .modulus) f ≡ true
-    early-after f m =
-        let n = next f m in
-        let o = early-from s (v % s .modulus) f (every-mem (notEarly s (v % s .modulus)) (ok .early) m) in
-        early-to s ((v + 1) % s .modulus) f (omega arith)
+    same : (f g : Frame) → List·Memᴰ f queue → List·Memᴰ g queue → lexCompare (keyNear s (v % s .modulus) f) (keyNear s (v % s .modulus) g) ≡ lexCompare (keyNear s ((v + k) % s .modulus) f) (keyNear s ((v + k) % s .modulus) g)
+    same f g m h =
+        key-lower s k (readingOf s (v % s .modulus) f) (readingOf s ((v + k) % s .modulus) f) (readingOf s (v % s .modulus) g) (readingOf s ((v + k) % s .modulus) g)
+        f g (moved f m) (moved g h)
 
-    overdue-after : (f : Frame) → List·Memᴰ f queue → not (dueNow s (v % s .modulus) f) ≡ true → notOverdue s ((v + 1) % s .modulus) f ≡ true
-    overdue-after f m k =
-        let n = next f m in
-        let o = overdue-from s (v % s .modulus) f (every-mem (notOverdue s (v % s .modulus)) (ok .overdue) m) in
-        overdue-to s ((v + 1) % s .modulus) f (omega (arith, not-due s (v % s .modulus) f k))
+-- 01's step is one: such a queue is sound for its clock
+pub left-ok : (s : Setup) (v : ℕ) (queue : List Frame) → QueueLeft s v 1 queue → QueueOk s v queue
+left-ok s v queue left =
+    record {
+      frames = left .frames;
+      ordered = left .ordered;
+      single = left .single;
+      early = every-of-mem (notEarly s v) queue (λ f m. early-to s v f (omega (arith, left .early f m)));
+      overdue = every-of-mem (notOverdue s v) queue (λ f m. overdue-to s v f (omega (arith, left .later f m)));
+    }
 
 -- so few frames fit into a two-byte count
 pub queue-few : (s : Setup) (v : ℕ) (queue : List Frame) → Limits s → v < s .modulus → QueueOk s v queue → length queue < 65536
 queue-few s v queue limits below ok =
     omega (arith, queue-bound s v queue limits below ok, mul-le-mul-right (s .delta + 3 * s .epsilon - 1) (limits .n-most))
 
+-- bytes of which each frame passes 10 to 12 are a sound shelf where their frames are a sound queue
+pub bytes-sound : (s : Setup) (v : ℕ) (bytes : List ℕ) → Limits s → v < s .modulus → every (passes s) (heldBytes (s .epsilon) bytes) ≡ true → QueueOk s v (held (s .epsilon) bytes) → soundHoldback s v bytes ≡ true
+unfolding soundHoldback
+bytes-sound s v bytes limits below passed ok =
+    let few : twoAt bytes 0 ≤ depth (s .n) (s .epsilon) (s .delta) =
+    omega (arith, length-held (s .epsilon) bytes, queue-room s v (held (s .epsilon) bytes) limits below ok) in
+    and-intro (le-leb (twoAt bytes 0) (depth (s .n) (s .epsilon) (s .delta)) few)
+    (and-intro passed (and-intro (ok .ordered) (and-intro (ok .single) (and-intro (ok .early) (ok .overdue)))))
+
+pub bytes-passed : (s : Setup) (v : ℕ) (bytes : List ℕ) → soundHoldback s v bytes ≡ true → every (passes s) (heldBytes (s .epsilon) bytes) ≡ true
+unfolding soundHoldback
+bytes-passed s v bytes h =
+    and-left (every (passes s) (heldBytes (s .epsilon) bytes)) _ (and-right (leb (twoAt bytes 0) (depth (s .n) (s .epsilon) (s .delta))) _ h)
+
 -- the frames of a queue in a buffer, with anything behind them
 pub frames-sound : (s : Setup) (v : ℕ) (queue : List Frame) (rest : List ℕ) → Limits s → v < s .modulus → QueueOk s v queue → soundHoldback s v (encodeFrames queue ++ rest) ≡ true
-unfolding soundHoldback
 frames-sound s v queue rest limits below ok =
     let wide : (f : Frame) → List·Memᴰ f queue → length (f .stamp .kn) ≡ width (s .epsilon) = λ f m. ok .frames f m .sound .wide in
     let few = queue-few s v queue limits below ok in
-    let room = queue-room s v queue limits below ok in
-    rw (
-      two-at-encode queue rest,
-      held-encode (s .epsilon) queue rest wide few,
-      held-frames (s .epsilon) queue rest wide few,
-      le-leb (length queue) (depth (s .n) (s .epsilon) (s .delta)) (omega arith),
-      every-map (passes s) encode queue,
-      every-of-mem (λ f. passes s (encode f)) queue (λ f m. passes-encode s f limits (ok .frames f m)),
-      ok .ordered,
-      ok .single,
-      ok .early,
-      ok .overdue,
-    )
+    bytes-sound s v (encodeFrames queue ++ rest) limits below
+    (rw (held-encode (s .epsilon) queue rest wide few)
+    (every-map (passes s) encode queue ∙ every-of-mem (λ f. passes s (encode f)) queue (λ f m. passes-encode s f limits (ok .frames f m))))
+    (rw (held-frames (s .epsilon) queue rest wide few) ok)
 
 -- and with zeros
 pub queue-sound : (s : Setup) (v : ℕ) (queue : List Frame) → Limits s → v < s .modulus → QueueOk s v queue → soundHoldback s v (encodeHoldback (holdbackSize s) queue) ≡ true

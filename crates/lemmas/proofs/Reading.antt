@@ -1,8 +1,8 @@
 -- Reading a modular clock near v.
 -- Assumes nothing.
-use Prim.Native.Nat.{ℕ, _+_, _-_, _%_, _≤_, _<_}
+use Prim.Native.Nat.{ℕ, zero, suc, _+_, _-_, _%_, _≤_, _<_}
 use native.Mathlib.Omega.{arith}
-use native.Mathlib.Nat.{mod-lt, mod-eq-of-lt, mod-add-mod, mod-self, add-mod-right}
+use native.Mathlib.Nat.{mod-lt, mod-eq-of-lt, mod-add-mod, mod-self, add-mod-right, add-zero}
 use mathlib.Core.Path.{_≡_, sym, ap, _∙_}
 use mathlib.Core.Logic.{_⊎_, inl, inr}
 use borrow.Author.Tests.{le-leb, lt-leb}
@@ -89,7 +89,7 @@ ahead-steps B v r b =
     ]
 
 -- one clock later every reading is one less, but for the last one
-pub near-next : (epsilon B v r : ℕ) → 1 ≤ epsilon → epsilon < B → r < B → epsilon < near epsilon B (v % B) r → near epsilon B ((v + 1) % B) r + 1 ≡ near epsilon B (v % B) r
+near-next : (epsilon B v r : ℕ) → 1 ≤ epsilon → epsilon < B → r < B → epsilon < near epsilon B (v % B) r → near epsilon B ((v + 1) % B) r + 1 ≡ near epsilon B (v % B) r
 near-next epsilon B v r e b h l =
     go (near-reads epsilon B (v % B) r e (omega arith)) (near-reads epsilon B ((v + 1) % B) r e (omega arith))
     (ahead-steps B v r (omega arith))
@@ -107,6 +107,15 @@ near-next epsilon B v r e b h l =
     go (late h q) (early h′ q′) (inr s) = omega arith
     go (late h q) (late h′ q′) (inl s) = omega arith
     go (late h q) (late h′ q′) (inr s) = omega arith
+
+-- k clocks later every reading that is high enough is k less
+pub near-later : (epsilon B v k r : ℕ) → 1 ≤ epsilon → epsilon < B → r < B → epsilon + k ≤ near epsilon B (v % B) r → near epsilon B ((v + k) % B) r + k ≡ near epsilon B (v % B) r
+near-later epsilon B v zero r e b h l = rw (add-zero v) (add-zero (near epsilon B (v % B) r))
+near-later epsilon B v (suc k) r e b h l =
+    let before : near epsilon B ((v + k) % B) r + k ≡ near epsilon B (v % B) r = near-later epsilon B v k r e b h (omega arith) in
+    let last : near epsilon B ((v + k + 1) % B) r + 1 ≡ near epsilon B ((v + k) % B) r = near-next epsilon B (v + k) r e b h (omega arith) in
+    let same : v + suc k ≡ v + k + 1 = omega arith in
+    rw same (omega arith)
 
 -- readings tell modular clocks apart
 pub near-injective : (epsilon B v r r′ : ℕ) → 1 ≤ epsilon → epsilon < B → v < B → r < B → r′ < B → near epsilon B v r ≡ near epsilon B v r′ → r ≡ r′

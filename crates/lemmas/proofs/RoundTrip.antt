@@ -1,6 +1,6 @@
 -- What is written reads back the same: frame, queue, delivery.
 -- Assumes nothing.
-use Prim.Native.Nat.{ℕ, suc, _+_, _*_, _-_, _/_, _%_, _≤_, _<_}
+use Prim.Native.Nat.{ℕ, zero, suc, _+_, _*_, _-_, _/_, _%_, _≤_, _<_}
 use native.Mathlib.Omega.{arith}
 use native.Mathlib.Nat.{mul-le-mul-right, mul-comm}
 use native.Mathlib.Numerals.{add-one}
@@ -8,7 +8,7 @@ use mathlib.Core.Path.{_≡_, refl, sym, ap, ap₂, _∙_}
 use mathlib.Core.Bool.{Bool, true, _&&_}
 use mathlib.Core.List.{List, [], _∷_, _++_, map, append-assoc, append-nil, map-id, List·Memᴰ, List·Memᴰ·head, List·Memᴰ·tail}
 use lib.Dec.{leb, ltb, eqb}
-use lib.ListN.{length, take, drop, getD, length-append, length-take, length-drop, replicate, take-append-drop}
+use lib.ListN.{length, take, drop, getD, length-map, length-append, length-take, length-drop, replicate, take-append-drop}
 use lib.Seq.{take-at, getD-at, take-append-seam, drop-append-seam, drop-append-add, getD-append-add, drop-cons, drop-drop}
 use borrow.Author.Tests.{le-leb, lt-ltb, eq-eqb, leb-true, ltb-true, eqb-true}
 use Rattle.laws.specs.Lists.{tab, every, joined, padded}
@@ -16,7 +16,7 @@ use Rattle.laws.proofs.Numbers.{and-intro, and-left, and-right}
 use Rattle.laws.proofs.Lists.{tab-take, every-index, map-map, map-ext, length-joined-le, length-padded}
 use Rattle.model.specs.Setup.{Setup, width, depth, longestFrame, holdbackLength}
 use Rattle.model.specs.Timestamp.{soundTimestamp}
-use Rattle.model.specs.Frame.{Frame, section, twoBytes, twoAt, encode, decode, payloadCountAt, wellFormed, frameEnd}
+use Rattle.model.specs.Frame.{Frame, section, twoBytes, twoAt, encode, decode, countsOf, payloadCountAt, wellFormed, frameEnd}
 use Rattle.model.specs.Question.{Question, ask, firstNo, askForm, askRange, askStamp, frameQuestions}
 use Rattle.model.specs.Holdback.{cutFrames, heldBytes, held, passes, encodeFrames, encodeHoldback}
 use Rattle.lemmas.proofs.Bounds.{Limits, FrameOk}
@@ -50,7 +50,7 @@ pub two-bytes : (x : ℕ) → x % 256 + 256 * (x / 256) ≡ x
 two-bytes x = omega arith
 
 pub decode-encode : (epsilon : ℕ) (f : Frame) → length (f .stamp .kn) ≡ width epsilon → decode epsilon (encode f) ≡ f
-unfolding decode twoAt payloadCountAt
+unfolding decode countsOf twoAt payloadCountAt
 decode-encode epsilon f wide =
     rw (encode-bytes f) λ i.
     record {
@@ -114,7 +114,7 @@ well-formed-encode epsilon f wide short =
 
 -- what a well-formed frame holds
 pub decode-wide : (epsilon : ℕ) (s : List ℕ) → Formed epsilon s → length (decode epsilon s .stamp .kn) ≡ width epsilon
-unfolding decode
+unfolding decode countsOf
 decode-wide epsilon s o = rw (length-take, length-drop) (omega arith)
 
 pub decode-payload : (epsilon : ℕ) (s : List ℕ) → Formed epsilon s → length (decode epsilon s .payload) ≡ getD s (6 + width epsilon) 0
@@ -132,7 +132,7 @@ rest-of w s h = rw (add-one (6 + w), ← drop-cons s (6 + w) 0 h, ← drop-drop 
 
 -- an accepted frame is the one that the writer makes of its contents; a byte is below 256
 pub encode-decode : (epsilon : ℕ) (s : List ℕ) → every (λ b. ltb b 256) s ≡ true → wellFormed epsilon s ≡ true → encode (decode epsilon s) ≡ s
-unfolding decode twoAt payloadCountAt
+unfolding decode countsOf twoAt payloadCountAt
 encode-decode epsilon s bytes formed =
     let o = formed-from epsilon s formed in
     let w = decode-wide epsilon s o in
@@ -230,6 +230,16 @@ held-encode epsilon queue rest wide few = rw (two-bytes (length queue)) (cut-joi
 pub two-at-encode : (queue : List Frame) (rest : List ℕ) → twoAt (encodeFrames queue ++ rest) 0 ≡ length queue
 unfolding encodeFrames twoAt twoBytes
 two-at-encode queue rest = two-bytes (length queue)
+
+-- a shelf holds as many frames as its count says
+pub length-cut : (epsilon k : ℕ) (s : List ℕ) → length (cutFrames epsilon k s) ≡ k
+unfolding cutFrames
+length-cut epsilon zero s = refl
+length-cut epsilon (suc k) s = ap suc (length-cut epsilon k (drop (frameEnd epsilon s) s))
+
+pub length-held : (epsilon : ℕ) (s : List ℕ) → length (held epsilon s) ≡ twoAt s 0
+unfolding held heldBytes
+length-held epsilon s = length-map (cutFrames epsilon (twoAt s 0) (drop 2 s)) (decode epsilon) ∙ length-cut epsilon (twoAt s 0) (drop 2 s)
 
 -- what was encoded decodes
 pub decode-frames :

@@ -11,18 +11,18 @@ use Rattle.laws.specs.Lists.{every, chained, apart}
 use Rattle.model.specs.Setup.{Setup, depth}
 use Rattle.model.specs.Timestamp.{Timestamp, sum, widened, near, fresh}
 use Rattle.model.specs.Frame.{Frame, twoAt, encode, decode}
-use Rattle.model.specs.Order.{before, decidedAt, dueNear}
+use Rattle.model.specs.Order.{readingOf, before, decidedAt, dueNear}
 use Rattle.model.specs.Holdback.{heldBytes, held, sameOrigin, passes, notEarly, notOverdue, encodeHoldback}
-use Rattle.model.specs.Judge.{readingOf, verdictNumber, judge}
+use Rattle.model.specs.Judge.{verdictNumber, judgeQuestions, judge}
 use Rattle.model.specs.Tick.{Input, Output, holdbackSize, tick}
 
 -- "n 2, ε 2, δ 1, B 14 unless said"
 abbrev usual : Setup
-usual = record { n = 2; epsilon = 2; delta = 1; modulus = 14; own = 0 }
+usual = record { n = 2; epsilon = 2; delta = 1; modulus = 14 }
 
 -- ★l: "n 1, ε 1, δ 0, B 7"
 abbrev single : Setup
-single = record { n = 1; epsilon = 1; delta = 0; modulus = 7; own = 0 }
+single = record { n = 1; epsilon = 1; delta = 0; modulus = 7 }
 
 abbrev stamp : ℕ → ℕ → List ℕ → Timestamp
 stamp r c kn = record { r = r; c = c; kn = kn }
@@ -40,6 +40,7 @@ abbrev call : Setup → ℕ → Timestamp → List ℕ → Bool → List ℕ →
 call s clock tables holdback send payload batch =
     record {
       setup = s;
+      own = 0;
       clock = clock;
       tables = tables;
       holdback = holdback;
@@ -74,7 +75,7 @@ clockOf v reading = reading + v - 14
 
 -- the verdict's number of a frame at v with an empty shelf
 abbrev verdictAt : ℕ → Frame → List ℕ
-verdictAt v f = verdictNumber (judge usual v [] (encode f)) ∷ []
+verdictAt v f = verdictNumber (judge usual v (judgeQuestions usual v) [] (encode f)) ∷ []
 
 abbrev one-if : Bool → ℕ
 one-if true = 1
@@ -99,10 +100,10 @@ stars =
     says (first .answer .taken ∷ outcome 4 first) (1 ∷ 0 ∷ 1 ∷ 0 ∷ 1 ∷ 2 ∷ 1 ∷ [])
     -- ★b: "A and the frame sent at that tick both have sum 2; A is first, by the second count" (place 2 of the key, after the sum and a count)
     ∷ says
-    (clockOf 1 (sum (readingOf usual 1 A) (A .stamp .c)) ∷ clockOf 1 (sum (readingOf usual 1 S) (S .stamp .c)) ∷ one-if (before 2 14 1 A S) ∷ decidedAt 2 14 1 A S ∷ [])
+    (clockOf 1 (sum (readingOf usual 1 A) (A .stamp .c)) ∷ clockOf 1 (sum (readingOf usual 1 S) (S .stamp .c)) ∷ one-if (before usual 1 A S) ∷ decidedAt usual 1 A S ∷ [])
     (2 ∷ 2 ∷ 1 ∷ 2 ∷ [])
     -- ★c: "Both are due at 5"
-    ∷ says (clockOf 1 (dueNear 2 1 14 1 A) ∷ clockOf 1 (dueNear 2 1 14 1 S) ∷ []) (5 ∷ 5 ∷ [])
+    ∷ says (clockOf 1 (dueNear usual 1 A) ∷ clockOf 1 (dueNear usual 1 S) ∷ []) (5 ∷ 5 ∷ [])
     -- ★d: "At v 5, r 2 with A's c and counts is taken"
     ∷ says (verdictAt 5 A) (0 ∷ [])
     -- ★e: "r 1 gets 13"
@@ -166,7 +167,7 @@ replay-holds = refl
 
 -- "B 13 gets 1; ticket of 33 gets 4"
 pub refusals-hold :
-    _≡_ {A = List ℕ} (tick (call (record { n = 2; epsilon = 2; delta = 1; modulus = 13; own = 0 }) 1 (widened (fresh 2 0)) (replicate (holdbackSize usual) 0) false [] silent) .answer .number
+    _≡_ {A = List ℕ} (tick (call (record { n = 2; epsilon = 2; delta = 1; modulus = 13 }) 1 (widened (fresh 2 0)) (replicate (holdbackSize usual) 0) false [] silent) .answer .number
     ∷ tick (call usual 1 (widened (fresh 2 0)) (replicate (holdbackSize usual) 0) false (replicate 33 0) silent) .answer .number ∷ [])
     (1 ∷ 4 ∷ [])
 unfolding computing
@@ -191,14 +192,18 @@ judged before-it v queue =
     holding before-it v queue .answer .repair
     ∷ one-if (leb (twoAt (stored queue) 0) (depth 2 2 1))
     ∷ one-if (every (passes usual) (heldBytes 2 (stored queue)))
-    ∷ one-if (chained (before 2 14 v) (held 2 (stored queue)))
+    ∷ one-if (chained (before usual v) (held 2 (stored queue)))
     ∷ one-if (apart sameOrigin (held 2 (stored queue)))
     ∷ one-if (every (notEarly usual v) (held 2 (stored queue)))
     ∷ one-if (every (notOverdue usual v) (held 2 (stored queue)))
     ∷ []
 
+-- the mend of a tick, its c and counts, and how many frames it leaves on the shelf
+abbrev mended : Output → List ℕ
+mended o = outcome 4 o ++ (twoAt (o .holdback) 0 ∷ [])
+
 -- what a shelf must be: each shelf with mend 2 fails the clause that it is for, and no other, but for the one that holds the same
--- frame twice; and when a frame is handed out.
+-- frame twice; what each mend leaves; and when a frame is handed out.
 -- (No shelf fails the first clause alone: the others leave room for n(δ + 3ε − 1) frames, `queue-bound` in lemmas.)
 pub queues : List Case
 queues =
@@ -218,6 +223,12 @@ queues =
     ∷ says (judged 5 6 (A ∷ [])) (2 ∷ 1 ∷ 1 ∷ 1 ∷ 1 ∷ 1 ∷ 0 ∷ [])
     -- a frame is handed out in the tick for its due clock, and not before
     ∷ says (holding 3 4 (A ∷ []) .answer .delivered ∷ holding 4 5 (A ∷ []) .answer .delivered ∷ []) (0 ∷ 1 ∷ [])
+    -- mend 1: tables of another clock are replaced, and a sound shelf stays: A is still there. Mend, c, counts, the shelf's count
+    ∷ says (mended (holding 3 1 (A ∷ []))) (1 ∷ 0 ∷ 0 ∷ 0 ∷ 1 ∷ 0 ∷ 1 ∷ [])
+    -- mend 2: an unsound shelf is emptied, and sound tables keep their counts, one offset further down
+    ∷ says (mended (holding 0 1 (S ∷ A ∷ []))) (2 ∷ 0 ∷ 0 ∷ 1 ∷ 1 ∷ 0 ∷ 0 ∷ [])
+    -- "both, mend 3"
+    ∷ says (mended (holding 3 1 (S ∷ A ∷ []))) (3 ∷ 0 ∷ 0 ∷ 0 ∷ 1 ∷ 0 ∷ 0 ∷ [])
     -- "Handing out before the bundle of that tick is judged" goes wrong: A is heard and handed out at 5
     ∷ says
     (tick (call usual 5 (widened (fresh 2 4)) (stored []) false [] (one (encode A))) .answer .delivered ∷ []) (1 ∷ [])

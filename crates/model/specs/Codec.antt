@@ -14,14 +14,16 @@ unfoldable pub askPayload : List ℕ → Question
 askPayload payload = ask (leb (length payload) longestPayload) 4
 
 -- 01: "the reader asks 1, 10, 11, 12"
-unfoldable pub readQuestions : Setup → List ℕ → List Question
-readQuestions s bytes = askSetup s ∷ frameQuestions s bytes
+unfoldable pub readQuestions : Setup → ℕ → List ℕ → List Question
+readQuestions s own bytes = askSetup s own ∷ frameQuestions s bytes
 
 -- what the reader answers: the number, the contents, and the payload, "the very bytes of the frame"
 pub record ReadAnswer : Type 0 where
+  -- 0, or the check's number
   pub number : ℕ
   pub station : ℕ
   pub stamp : Timestamp
+  -- 01: the ticket
   pub payload : List ℕ
 
 -- a timestamp of zeros
@@ -34,22 +36,24 @@ readBy zero f = record { number = 0; station = f .station; stamp = widened (f .s
 readBy (suc k) f = record { number = suc k; station = 0; stamp = noTimestamp; payload = [] }
 
 -- 01: the reader
-unfoldable pub read : Setup → List ℕ → ReadAnswer
-read s bytes = readBy (firstNo (readQuestions s bytes)) (decode (s .epsilon) bytes)
+unfoldable pub read : Setup → ℕ → List ℕ → ReadAnswer
+read s own bytes = readBy (firstNo (readQuestions s own bytes)) (decode (s .epsilon) bytes)
 
 -- the frame that the writer makes of a station, a stamp and a ticket. 01: "Places past the 2ε counts are ignored, by the writer too"
 unfoldable pub frameOf : ℕ → ℕ → Timestamp → List ℕ → Frame
 frameOf epsilon station t payload = record { station = station; stamp = trimmed epsilon t; payload = payload }
 
 -- 01: "the writer asks 1, 4, 11, 12, then 6 if its buffer is shorter than this frame"
-unfoldable pub writeFrameQuestions : Setup → Frame → List ℕ → List Question
-writeFrameQuestions s f buffer =
-    askSetup s ∷ askPayload (f .payload) ∷ askRange s f ∷ askStamp s f
+unfoldable pub writeFrameQuestions : Setup → ℕ → Frame → List ℕ → List Question
+writeFrameQuestions s own f buffer =
+    askSetup s own ∷ askPayload (f .payload) ∷ askRange s f ∷ askStamp s f
     ∷ ask (leb (length (encode f)) (length buffer)) 6 ∷ []
 
 -- what the writer answers and leaves in its buffer
 pub record WriteAnswer : Type 0 where
+  -- 0, or the check's number
   pub number : ℕ
+  -- the length of the frame
   pub size : ℕ
   pub buffer : List ℕ
 
@@ -59,13 +63,14 @@ writeBy zero f buffer = record { number = 0; size = length (encode f); buffer = 
 writeBy (suc k) f buffer = record { number = suc k; size = 0; buffer = buffer }
 
 -- the writer of a frame
-unfoldable pub writeFrame : Setup → Frame → List ℕ → WriteAnswer
-writeFrame s f buffer = writeBy (firstNo (writeFrameQuestions s f buffer)) f buffer
+unfoldable pub writeFrame : Setup → ℕ → Frame → List ℕ → WriteAnswer
+writeFrame s own f buffer = writeBy (firstNo (writeFrameQuestions s own f buffer)) f buffer
 
 -- the questions of the writer
-abbrev pub writeQuestions : Setup → ℕ → Timestamp → List ℕ → List ℕ → List Question
-writeQuestions s station t payload buffer = writeFrameQuestions s (frameOf (s .epsilon) station t payload) buffer
+abbrev pub writeQuestions : Setup → ℕ → ℕ → Timestamp → List ℕ → List ℕ → List Question
+writeQuestions s own station t payload buffer =
+    writeFrameQuestions s own (frameOf (s .epsilon) station t payload) buffer
 
 -- 01: the writer, of a station, a stamp and a ticket, into its buffer
-abbrev pub write : Setup → ℕ → Timestamp → List ℕ → List ℕ → WriteAnswer
-write s station t payload buffer = writeFrame s (frameOf (s .epsilon) station t payload) buffer
+abbrev pub write : Setup → ℕ → ℕ → Timestamp → List ℕ → List ℕ → WriteAnswer
+write s own station t payload buffer = writeFrame s own (frameOf (s .epsilon) station t payload) buffer

@@ -11,6 +11,7 @@ use Rattle.model.specs.Timestamp.{Timestamp}
 pub record Frame : Type 0 where
   pub station : ℕ
   pub stamp : Timestamp
+  -- 01: the ticket
   pub payload : List ℕ
 
 -- 01: "two-byte numbers have the low byte first"
@@ -29,6 +30,10 @@ section s = length s ∷ s
 unfoldable pub encode : Frame → List ℕ
 encode f =
     section (f .station ∷ twoBytes (f .stamp .r)) ++ (section (f .stamp .c ∷ f .stamp .kn) ++ section (f .payload))
+
+-- the counts of the second section, from offset −ε up
+unfoldable pub countsOf : ℕ → List ℕ → List ℕ
+countsOf epsilon s = take (width epsilon) (drop 6 s)
 
 -- where the count of the third section stands
 unfoldable pub payloadCountAt : ℕ → ℕ
@@ -49,6 +54,6 @@ unfoldable pub decode : ℕ → List ℕ → Frame
 decode epsilon s =
     record {
       station = getD s 1 0;
-      stamp = record { r = twoAt s 2; c = getD s 5 0; kn = take (width epsilon) (drop 6 s) };
+      stamp = record { r = twoAt s 2; c = getD s 5 0; kn = countsOf epsilon s };
       payload = drop (payloadCountAt epsilon + 1) s;
     }

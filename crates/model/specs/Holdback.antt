@@ -5,10 +5,10 @@ use mathlib.Core.List.{List, [], _∷_, _++_, map}
 use lib.Dec.{leb, eqb}
 use lib.ListN.{length, take, drop}
 use Rattle.laws.specs.Lists.{every, chained, apart, joined, padded}
-use Rattle.model.specs.Setup.{Setup, depth}
-use Rattle.model.specs.Timestamp.{sum, near}
+use Rattle.model.specs.Setup.{Setup, depthOf}
+use Rattle.model.specs.Timestamp.{sum}
 use Rattle.model.specs.Frame.{Frame, twoBytes, twoAt, encode, decode, frameEnd}
-use Rattle.model.specs.Order.{before, dueNear}
+use Rattle.model.specs.Order.{readingOf, before, dueNear}
 use Rattle.model.specs.Question.{firstNo, frameQuestions}
 
 -- 01: "frames …, each ending where its counts say": the bytes of k frames
@@ -34,18 +34,18 @@ passes s bytes = eqb (firstNo (frameQuestions s bytes)) 0
 
 -- 01: "sum at most ε − 1 past v", which reads B
 unfoldable pub notEarly : Setup → ℕ → Frame → Bool
-notEarly s v f = leb (sum (near (s .epsilon) (s .modulus) v (f .stamp .r)) (f .stamp .c)) (s .modulus + (s .epsilon - 1))
+notEarly s v f = leb (sum (readingOf s v f) (f .stamp .c)) (s .modulus + (s .epsilon - 1))
 
 -- 01: "sum + δ + ε not before v"
 unfoldable pub notOverdue : Setup → ℕ → Frame → Bool
-notOverdue s v f = leb (s .modulus) (dueNear (s .epsilon) (s .delta) (s .modulus) v f)
+notOverdue s v f = leb (s .modulus) (dueNear s v f)
 
 -- 01: "It is sound if it holds at most n(δ + 3ε) frames that pass 10 to 12, strictly in order, no station and r twice,
 -- each sum at most ε − 1 past v and each sum + δ + ε not before v"
 unfoldable pub soundHoldback : Setup → ℕ → List ℕ → Bool
 soundHoldback s v bytes =
-    leb (twoAt bytes 0) (depth (s .n) (s .epsilon) (s .delta)) && (every (passes s) (heldBytes (s .epsilon) bytes)
-    && (chained (before (s .epsilon) (s .modulus) v) (held (s .epsilon) bytes) && (apart sameOrigin (held (s .epsilon) bytes)
+    leb (twoAt bytes 0) (depthOf s) && (every (passes s) (heldBytes (s .epsilon) bytes)
+    && (chained (before s v) (held (s .epsilon) bytes) && (apart sameOrigin (held (s .epsilon) bytes)
     && (every (notEarly s v) (held (s .epsilon) bytes) && every (notOverdue s v) (held (s .epsilon) bytes)))))
 
 -- 01: "A hand-out has the shelf's form without the zeros"

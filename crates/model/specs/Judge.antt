@@ -3,18 +3,14 @@ use Prim.Native.Nat.{ℕ, zero, suc, _+_, _-_}
 use mathlib.Core.Bool.{not}
 use mathlib.Core.List.{List, [], _∷_, _++_}
 use lib.Dec.{leb, ltb}
-use lib.ListN.{length, drop}
+use lib.ListN.{length}
 use Rattle.laws.specs.Lists.{any, leading, insertAt}
-use Rattle.model.specs.Setup.{Setup, depth}
-use Rattle.model.specs.Timestamp.{Timestamp, near, atMost, absorb}
+use Rattle.model.specs.Setup.{Setup, depthOf}
+use Rattle.model.specs.Timestamp.{Timestamp, countsFrom, atMost, absorb}
 use Rattle.model.specs.Frame.{Frame, decode}
-use Rattle.model.specs.Order.{before}
+use Rattle.model.specs.Order.{readingOf, before}
 use Rattle.model.specs.Question.{Question, ask, firstNo, frameQuestions}
 use Rattle.model.specs.Holdback.{sameOrigin, notEarly}
-
--- the reading of a frame's r near v
-unfoldable pub readingOf : Setup → ℕ → Frame → ℕ
-readingOf s v f = near (s .epsilon) (s .modulus) v (f .stamp .r)
 
 -- 01, 13: "Is r at most δ + ε behind v?" v reads B
 unfoldable pub askLate : Setup → ℕ → Frame → Question
@@ -24,9 +20,9 @@ askLate s v f = ask (leb (s .modulus) (readingOf s v f + (s .delta + s .epsilon)
 unfoldable pub askEarly : Setup → ℕ → Frame → Question
 askEarly s v f = ask (notEarly s v f) 14
 
--- 01, 15: "Is each count for clock v or later at most n − 1?" The clock v is named B + ε
+-- 01, 15: "Is each count for clock v or later at most n − 1?" The clock v reads B
 unfoldable pub askCounts : Setup → ℕ → Frame → Question
-askCounts s v f = ask (atMost (s .n - 1) (drop (s .modulus + s .epsilon - readingOf s v f) (f .stamp .kn))) 15
+askCounts s v f = ask (atMost (s .n - 1) (countsFrom (s .epsilon) (readingOf s v f) (f .stamp .kn) (s .modulus))) 15
 
 -- 01, 16: "Is that station and r not yet shelved?"
 unfoldable pub askRepeat : List Frame → Frame → Question
@@ -34,7 +30,7 @@ askRepeat queue f = ask (not (any (sameOrigin f) queue)) 16
 
 -- 01, 17: "Are fewer than n(δ + 3ε) frames shelved?"
 unfoldable pub askRoom : Setup → List Frame → Question
-askRoom s queue = ask (ltb (length queue) (depth (s .n) (s .epsilon) (s .delta))) 17
+askRoom s queue = ask (ltb (length queue) (depthOf s)) 17
 
 -- 01: 13 to 17
 unfoldable pub placeQuestions : Setup → ℕ → List Frame → Frame → List Question
@@ -61,7 +57,11 @@ verdictPlace (refused number) = 0
 
 -- 01: "places count from 0": the shelved frames that come before it
 unfoldable pub placeFor : Setup → ℕ → List Frame → Frame → ℕ
-placeFor s v queue f = leading (λ g. before (s .epsilon) (s .modulus) v g f) queue
+placeFor s v queue f = leading (λ g. before s v g f) queue
+
+-- what is asked of a frame: questions about the frames that are shelved at that moment, and its bytes
+abbrev pub Asking : Type 0
+Asking = List Frame → List ℕ → List Question
 
 -- the verdict by the number of the first no
 abbrev pub verdictBy : ℕ → ℕ → Verdict
@@ -69,32 +69,38 @@ verdictBy zero place = taken place
 verdictBy (suc k) place = refused (suc k)
 
 -- one frame's verdict
-unfoldable pub judge : Setup → ℕ → List Frame → List ℕ → Verdict
-judge s v queue bytes =
-    verdictBy (firstNo (judgeQuestions s v queue bytes)) (placeFor s v queue (decode (s .epsilon) bytes))
+unfoldable pub judge : Setup → ℕ → Asking → List Frame → List ℕ → Verdict
+judge s v asking queue bytes =
+    verdictBy (firstNo (asking queue bytes)) (placeFor s v queue (decode (s .epsilon) bytes))
 
--- what hearing has made of a tick so far: the stamp, the shelf, the verdicts' numbers
+-- what hearing has made of the shelf so far, and the verdicts' numbers
 pub record Heard : Type 0 where
-  pub stamp : Timestamp
+  -- 01: the frames on the shelf
   pub queue : List Frame
   pub verdicts : List ℕ
 
--- 01, tick 3: "A taken frame goes on the shelf", and its counts in; "a no skips it, neither shelved nor counted in"
-abbrev pub hearBy : Setup → ℕ → Verdict → Frame → Heard → Heard
-hearBy s v (taken place) f h =
-    record {
-      stamp = absorb (s .epsilon) (s .modulus) (h .stamp) (readingOf s v f) (f .stamp);
-      queue = insertAt place f (h .queue);
-      verdicts = h .verdicts ++ (0 ∷ []);
-    }
-hearBy s v (refused number) f h =
-    record { stamp = h .stamp; queue = h .queue; verdicts = h .verdicts ++ (number ∷ []) }
+-- 01, tick 3: "A taken frame goes on the shelf"; "a no skips it"
+abbrev pub hearBy : Verdict → Frame → Heard → Heard
+hearBy (taken place) f h = record { queue = insertAt place f (h .queue); verdicts = h .verdicts ++ (0 ∷ []) }
+hearBy (refused number) f h = record { queue = h .queue; verdicts = h .verdicts ++ (number ∷ []) }
 
--- one entry of the batch heard: judged, and taken or skipped
-unfoldable pub hearOne : Setup → ℕ → Heard → List ℕ → Heard
-hearOne s v h bytes = hearBy s v (judge s v (h .queue) bytes) (decode (s .epsilon) bytes) h
+-- one entry of the batch heard: judged, and shelved or skipped
+unfoldable pub hearOne : Setup → ℕ → Asking → Heard → List ℕ → Heard
+hearOne s v asking h bytes = hearBy (judge s v asking (h .queue) bytes) (decode (s .epsilon) bytes) h
 
--- 01, tick 3: "Each frame of the bundle is judged in turn"
-unfoldable pub hear : Setup → ℕ → Heard → List (List ℕ) → Heard
-hear s v h [] = h
-hear s v h (bytes ∷ rest) = hear s v (hearOne s v h bytes) rest
+-- 01, tick 3: "Each frame of the bundle is judged in turn", by the questions asked
+unfoldable pub hear : Setup → ℕ → Asking → Heard → List (List ℕ) → Heard
+hear s v asking h [] = h
+hear s v asking h (bytes ∷ rest) = hear s v asking (hearOne s v asking h bytes) rest
+
+-- 01, tick 3: of a taken frame "c and each count become the larger of own and frame's"; a refused one is not "counted in"
+abbrev pub absorbBy : ℕ → Setup → ℕ → Frame → Timestamp → Timestamp
+absorbBy zero s v f t = absorb (s .epsilon) (s .modulus) t (readingOf s v f) (f .stamp)
+absorbBy (suc k) s v f t = t
+
+-- the same of all entries of the batch, by the verdicts' numbers
+unfoldable pub absorbAll : Setup → ℕ → Timestamp → List (List ℕ) → List ℕ → Timestamp
+absorbAll s v t [] numbers = t
+absorbAll s v t (bytes ∷ rest) [] = t
+absorbAll s v t (bytes ∷ rest) (number ∷ numbers) =
+    absorbAll s v (absorbBy number s v (decode (s .epsilon) bytes) t) rest numbers

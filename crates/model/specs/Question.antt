@@ -3,7 +3,7 @@ use Prim.Native.Nat.{ℕ}
 use mathlib.Core.Bool.{Bool, _&&_, cond}
 use mathlib.Core.List.{List, [], _∷_}
 use lib.Dec.{ltb}
-use Rattle.model.specs.Setup.{Setup, inLimits}
+use Rattle.model.specs.Setup.{Setup, inLimits, isMember}
 use Rattle.model.specs.Timestamp.{soundTimestamp}
 use Rattle.model.specs.Frame.{Frame, wellFormed, decode}
 
@@ -21,9 +21,9 @@ unfoldable pub firstNo : List Question → ℕ
 firstNo [] = 0
 firstNo (q ∷ qs) = cond (q .holds) (firstNo qs) (q .number)
 
--- 01, 1: "Is the setup in its limits?"
-unfoldable pub askSetup : Setup → Question
-askSetup s = ask (inLimits s) 1
+-- 01, 1: "Is the setup in its limits?" The own number is one of these limits
+unfoldable pub askSetup : Setup → ℕ → Question
+askSetup s own = ask (inLimits s && isMember s own) 1
 
 -- 01, 10: "Are the three counts right, and is nothing left over?"
 unfoldable pub askForm : Setup → List ℕ → Question

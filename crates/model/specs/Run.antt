@@ -12,9 +12,12 @@ use Rattle.model.specs.Tick.{Input, Output, tick}
 
 -- 01: a station: its own number, its true clock, the tables and the shelf that its call before left
 pub record Node : Type 0 where
+  -- 01: the own number
   pub own : ℕ
+  -- 01: the true clock
   pub clock : ℕ
   pub tables : Timestamp
+  -- 01: the shelf
   pub holdback : List ℕ
 
 -- 01: "Each bundle entry of an accepted call comes from one earlier call, or is an older frame of any bytes" (here: stale).
@@ -27,11 +30,17 @@ pub data Source : Type 0 where
 pub record Call : Type 0 where
   pub node : ℕ
   pub setup : Setup
+  -- 01: the own number
+  pub own : ℕ
+  -- 01: the clock modulo B
   pub clock : ℕ
+  -- 01: the bundle, and where each of its entries comes from
   pub batch : List ℕ
   pub sources : List Source
+  -- 01: whether a ticket is to be sent, and the ticket
   pub send : Bool
   pub payload : List ℕ
+  -- 01: the outgoing, the verdict and the hand-out buffer
   pub outgoing : List ℕ
   pub verdicts : List ℕ
   pub delivery : List ℕ
@@ -41,6 +50,7 @@ unfoldable pub inputOf : Node → Call → Input
 inputOf node call =
     record {
       setup = call .setup;
+      own = call .own;
       clock = call .clock;
       tables = node .tables;
       holdback = node .holdback;

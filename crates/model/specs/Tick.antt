@@ -13,34 +13,48 @@ use Rattle.model.specs.Batch.{exactBatch, batchEntries}
 use Rattle.model.specs.Holdback.{held, soundHoldback, encodeFrames, encodeHoldback}
 use Rattle.model.specs.Question.{Question, ask, firstNo, askSetup}
 use Rattle.model.specs.Codec.{askPayload, frameOf}
-use Rattle.model.specs.Judge.{Heard, hear}
+use Rattle.model.specs.Judge.{Heard, hear, judgeQuestions, absorbAll}
 
 -- the arguments of one call
 pub record Input : Type 0 where
   pub setup : Setup
+  -- 01: the own number
+  pub own : ℕ
+  -- 01: v
   pub clock : ℕ
   pub tables : Timestamp
+  -- 01: the shelf
   pub holdback : List ℕ
+  -- 01: the bundle
   pub batch : List ℕ
+  -- 01: whether a ticket is to be sent, and the ticket
   pub send : Bool
   pub payload : List ℕ
+  -- 01: the outgoing, the verdict and the hand-out buffer
   pub outgoing : List ℕ
   pub verdicts : List ℕ
   pub delivery : List ℕ
 
 -- 01: "The answer gives 0, new tables, mend, frames taken, frames handed out, outgoing length (0 if none)"
 pub record Answer : Type 0 where
+  -- 0, or the check's number
   pub number : ℕ
   pub tables : Timestamp
+  -- 01: mend
   pub repair : ℕ
+  -- 01: frames taken
   pub taken : ℕ
+  -- 01: frames handed out
   pub delivered : ℕ
+  -- 01: outgoing length
   pub sent : ℕ
 
 -- the answer, and the buffers after the call
 pub record Output : Type 0 where
   pub answer : Answer
+  -- 01: the shelf
   pub holdback : List ℕ
+  -- 01: the outgoing, the verdict and the hand-out buffer
   pub outgoing : List ℕ
   pub verdicts : List ℕ
   pub delivery : List ℕ
@@ -58,7 +72,7 @@ roomy i =
 -- 01: "Of the call, in order": 1 to 6
 unfoldable pub callQuestions : Input → List Question
 callQuestions i =
-    askSetup (i .setup)
+    askSetup (i .setup) (i .own)
     ∷ ask (ltb (i .clock) (i .setup .modulus)) 2
     ∷ ask (eqb (length (i .holdback)) (holdbackSize (i .setup))) 3
     ∷ askPayload (i .payload)
@@ -77,47 +91,49 @@ refusal i number =
       delivery = i .delivery;
     }
 
--- the tables as the tick sees them
-unfoldable pub ownStamp : Input → Timestamp
-ownStamp i = trimmed (i .setup .epsilon) (i .tables)
-
--- 01: the tables are "sound for a new clock v"
-unfoldable pub tablesSound : Input → Bool
-tablesSound i = soundTables (i .setup .n) (i .setup .epsilon) (i .setup .modulus) (i .clock) (ownStamp i)
-
--- 01: the shelf is sound
-unfoldable pub queueSound : Input → Bool
-queueSound i = soundHoldback (i .setup) (i .clock) (i .holdback)
+-- 01: the tables are "sound for a new clock v", by their 2ε counts
+unfoldable pub tablesSound : Setup → ℕ → Timestamp → Bool
+tablesSound s v tables = soundTables (s .n) (s .epsilon) (s .modulus) v (trimmed (s .epsilon) tables)
 
 -- 01, tick 1: "(mend 1)", "(mend 2; both, mend 3)"
-unfoldable pub repairOf : Input → ℕ
-repairOf i = cond (tablesSound i) 0 1 + cond (queueSound i) 0 2
+unfoldable pub repairOf : Setup → ℕ → Timestamp → List ℕ → ℕ
+repairOf s v tables holdback = cond (tablesSound s v tables) 0 1 + cond (soundHoldback s v holdback) 0 2
 
 -- 01, tick 1 and 2: the stamp with which hearing starts
-unfoldable pub openingStamp : Input → Timestamp
-openingStamp i = cond (tablesSound i) (step (i .clock) (ownStamp i)) (replaced (i .setup .epsilon) (i .clock))
+unfoldable pub openingStamp : Setup → ℕ → Timestamp → Timestamp
+openingStamp s v tables =
+    cond (tablesSound s v tables) (step 1 v (trimmed (s .epsilon) tables)) (replaced (s .epsilon) v)
 
 -- 01, tick 1: "An unsound shelf is emptied"
-unfoldable pub openingQueue : Input → List Frame
-openingQueue i = cond (queueSound i) (held (i .setup .epsilon) (i .holdback)) []
+unfoldable pub openingQueue : Setup → ℕ → List ℕ → List Frame
+openingQueue s v holdback = cond (soundHoldback s v holdback) (held (s .epsilon) holdback) []
 
--- 01, tick 3
+-- what hearing starts from, on the shelf
+abbrev pub opening : Input → Heard
+opening i = record { queue = openingQueue (i .setup) (i .clock) (i .holdback); verdicts = [] }
+
+-- 01, tick 3: the shelf and the verdicts
 unfoldable pub heardOf : Input → Heard
 heardOf i =
-    hear (i .setup) (i .clock) (record { stamp = openingStamp i; queue = openingQueue i; verdicts = [] })
-    (batchEntries (i .batch))
+    hear (i .setup) (i .clock) (judgeQuestions (i .setup) (i .clock)) (opening i) (batchEntries (i .batch))
+
+-- 01, tick 3: the stamp
+unfoldable pub heardStamp : Input → Timestamp
+heardStamp i =
+    absorbAll (i .setup) (i .clock) (openingStamp (i .setup) (i .clock) (i .tables)) (batchEntries (i .batch))
+    (heardOf i .verdicts)
 
 -- 01, tick 4
 unfoldable pub newStamp : Input → Timestamp
-newStamp i = countOwn (i .setup .epsilon) (i .clock) (heardOf i .stamp)
+newStamp i = countOwn (i .setup .epsilon) (i .clock) (heardStamp i)
 
 -- 01, tick 5: "If a ticket is to be sent, the frame carries this stamp"
 unfoldable pub sentBytes : Input → List ℕ
-sentBytes i = cond (i .send) (encode (frameOf (i .setup .epsilon) (i .setup .own) (newStamp i) (i .payload))) []
+sentBytes i = cond (i .send) (encode (frameOf (i .setup .epsilon) (i .own) (newStamp i) (i .payload))) []
 
 -- 01, tick 6: "whose sum + δ + ε (its due clock) equals v", which reads B
 unfoldable pub dueNow : Setup → ℕ → Frame → Bool
-dueNow s v f = eqb (dueNear (s .epsilon) (s .delta) (s .modulus) v f) (s .modulus)
+dueNow s v f = eqb (dueNear s v f) (s .modulus)
 
 -- 01, tick 6: "is handed out, in order"
 unfoldable pub deliveredOf : Input → List Frame
@@ -139,7 +155,7 @@ acceptance i =
           record {
             number = 0;
             tables = widened (newStamp i);
-            repair = repairOf i;
+            repair = repairOf (i .setup) (i .clock) (i .tables) (i .holdback);
             taken = takenCount (heardOf i .verdicts);
             delivered = length (deliveredOf i);
             sent = length (sentBytes i);

@@ -1,22 +1,28 @@
 -- 01, "The stamp", and the steps of "One tick" that change it.
--- A clock w is named by w + ε, so that no offset is negative: place i of the counts of a timestamp with reading x is for the clock named x + i.
 use Prim.Native.Nat.{ℕ, _+_, _-_, _%_, max}
 use mathlib.Core.Bool.{Bool, _&&_, cond}
 use mathlib.Core.List.{List, _++_}
 use lib.Dec.{leb, ltb, eqb}
-use lib.ListN.{drop, getD, set, replicate}
-use Rattle.laws.specs.Lists.{tab, every, padded}
+use lib.ListN.{length, drop, getD, set, replicate}
+use Rattle.laws.specs.Lists.{tab, every, placedAt, padded}
 use Rattle.model.specs.Setup.{width, widest}
 
 -- 01: the stamp. r is "the clock at the event", c "how far the largest known clock lies ahead of r", kn the counts, from offset −ε up
 pub record Timestamp : Type 0 where
   pub r : ℕ
   pub c : ℕ
+  -- 01: the counts
   pub kn : List ℕ
 
--- 01: "what the station knows of the number of events at" the clock named w; "Outside those offsets a count reads as 0"
-unfoldable pub countAt : ℕ → List ℕ → ℕ → ℕ
-countAt reading kn w = cond (leb reading w) (getD kn (w - reading) 0) 0
+-- 01: "what the station knows of the number of events at" a clock, of a stamp with 2ε counts whose r stands at a reading; "Outside those
+-- offsets a count reads as 0". This alone knows where an offset stands in the list: −ε at its front
+unfoldable pub countAt : ℕ → ℕ → List ℕ → ℕ → ℕ
+countAt epsilon reading kn clock = placedAt reading kn (clock + epsilon)
+
+-- the counts for a clock and for those after it
+unfoldable pub countsFrom : ℕ → ℕ → List ℕ → ℕ → List ℕ
+countsFrom epsilon reading kn clock =
+    tab (reading + length kn - (clock + epsilon)) (λ k. countAt epsilon reading kn (clock + k))
 
 -- 01: "The sum is r + c"
 unfoldable pub sum : ℕ → ℕ → ℕ
@@ -29,14 +35,14 @@ atMost bound kn = every (λ x. leb x bound) kn
 -- 01: "A stamp is sound if c ≤ ε − 1, each count ≤ n, the count at offset c is at least 1, and all counts above offset c are 0"
 unfoldable pub soundTimestamp : ℕ → ℕ → Timestamp → Bool
 soundTimestamp n epsilon t =
-    leb (t .c) (epsilon - 1) && (atMost n (t .kn) && (leb 1 (getD (t .kn) (epsilon + t .c) 0)
-    && atMost 0 (drop (epsilon + t .c + 1) (t .kn))))
+    leb (t .c) (epsilon - 1) && (atMost n (t .kn) && (leb 1 (countAt epsilon 0 (t .kn) (t .c))
+    && atMost 0 (countsFrom epsilon 0 (t .kn) (t .c + 1))))
 
 -- 01: "sound for a new clock v if the stamp is sound, r is below B and one before v modulo B, and counts at offsets 1 and up are at most n − 1"
 unfoldable pub soundTables : ℕ → ℕ → ℕ → ℕ → Timestamp → Bool
 soundTables n epsilon modulus v t =
     soundTimestamp n epsilon t && (ltb (t .r) modulus && (eqb ((t .r + 1) % modulus) v
-    && atMost (n - 1) (drop (epsilon + 1) (t .kn))))
+    && atMost (n - 1) (countsFrom epsilon 0 (t .kn) 1)))
 
 -- the 2ε counts alone. 01: "Places past the 2ε counts are ignored"
 unfoldable pub trimmed : ℕ → Timestamp → Timestamp
@@ -67,17 +73,19 @@ replaced epsilon v = record { r = v; c = 0; kn = replicate (width epsilon) 0 }
 unfoldable pub shift : ℕ → List ℕ → List ℕ
 shift k kn = drop k kn ++ replicate k 0
 
--- 01, tick 2: "In sound tables c drops by one, not below 0, and counts move one offset down"; they are placed relative to v from here on
-unfoldable pub step : ℕ → Timestamp → Timestamp
-step v t = record { r = v; c = t .c - 1; kn = shift 1 (t .kn) }
+-- 01, tick 2: "In sound tables c drops by one, not below 0, and counts move one offset down", where the clock moves by k, in 01 by one;
+-- they are placed relative to v from here on
+unfoldable pub step : ℕ → ℕ → Timestamp → Timestamp
+step k v t = record { r = v; c = t .c - k; kn = shift k (t .kn) }
 
--- 01, tick 3: "c and each count become the larger of own and frame's, both placed relative to v", which reads B
+-- 01, tick 3: "c and each count become the larger of own and frame's, both placed relative to v", which reads B. For the counts all clocks are
+-- taken ε further, so that none is negative
 unfoldable pub absorb : ℕ → ℕ → Timestamp → ℕ → Timestamp → Timestamp
 absorb epsilon modulus t reading f =
     record {
       r = t .r;
       c = max (t .c) (sum reading (f .c) - modulus);
-      kn = tab (width epsilon) (λ i. max (getD (t .kn) i 0) (countAt reading (f .kn) (modulus + i)));
+      kn = tab (width epsilon) (λ i. max (countAt epsilon (modulus + epsilon) (t .kn) (modulus + i)) (countAt epsilon (reading + epsilon) (f .kn) (modulus + i)));
     }
 
 -- 01, tick 4: "The count at offset 0 rises by one; r is v"

@@ -1,12 +1,12 @@
 -- The questions of a call, one by one, as the code asks them. Assumes nothing.
 use Prim.Native.Nat.{_≤_, _<_}
 use mathlib.Core.Path.{_≡_, sym, _∙_}
-use mathlib.Core.Bool.{true, false}
+use mathlib.Core.Bool.{Bool, true, false, _&&_}
 use mathlib.Core.List.{List, [], _∷_}
 use lib.Dec.{leb, ltb, eqb}
 use lib.ListN.{length}
 use borrow.Author.Tests.{lt-ltb, le-ltb, le-leb, lt-leb, eq-eqb, ne-eqb}
-use Rattle.model.specs.Setup.{inLimits, longestFrame}
+use Rattle.model.specs.Setup.{inLimits, isMember, longestPayload, longestFrame, verdictLength}
 use Rattle.model.specs.Batch.{exactBatch}
 use Rattle.model.specs.Question.{Question, ask, firstNo, askSetup}
 use Rattle.model.specs.Codec.{askPayload}
@@ -30,14 +30,18 @@ module _ (i : Input) where
   abbrev from2 : List Question
   from2 = ask (ltb (i .clock) (i .setup .modulus)) 2 ∷ from3
 
-  pub setup-no : inLimits (i .setup) ≡ false → 1 ≡ firstNo (callQuestions i)
-  unfolding callQuestions askSetup
-  setup-no h = sym (no-cons (inLimits (i .setup)) 1 from2 h)
+  -- what question 1 asks
+  abbrev valid : Bool
+  valid = inLimits (i .setup) && isMember (i .setup) (i .own)
 
-  module _ (h1 : inLimits (i .setup) ≡ true) where
+  pub setup-no : valid ≡ false → 1 ≡ firstNo (callQuestions i)
+  unfolding callQuestions askSetup
+  setup-no h = sym (no-cons valid 1 from2 h)
+
+  module _ (h1 : valid ≡ true) where
     left2 : firstNo (callQuestions i) ≡ firstNo from2
     unfolding callQuestions askSetup
-    left2 = yes-cons (inLimits (i .setup)) 1 from2 h1
+    left2 = yes-cons valid 1 from2 h1
 
     pub clock-no : i .setup .modulus ≤ i .clock → 2 ≡ firstNo (callQuestions i)
     clock-no h = sym (left2 ∙ no-cons _ 2 from3 (le-ltb (i .clock) (i .setup .modulus) h))
@@ -53,14 +57,14 @@ module _ (i : Input) where
         left4 : firstNo (callQuestions i) ≡ firstNo from4
         left4 = left3 ∙ yes-cons _ 3 from4 (eq-eqb (length (i .holdback)) (holdbackSize (i .setup)) h3)
 
-        pub payload-no : 32 < length (i .payload) → 4 ≡ firstNo (callQuestions i)
+        pub payload-no : longestPayload < length (i .payload) → 4 ≡ firstNo (callQuestions i)
         unfolding askPayload
-        payload-no h = sym (left4 ∙ no-cons _ 4 from5 (lt-leb (length (i .payload)) 32 h))
+        payload-no h = sym (left4 ∙ no-cons _ 4 from5 (lt-leb (length (i .payload)) longestPayload h))
 
-        module _ (h4 : length (i .payload) ≤ 32) where
+        module _ (h4 : length (i .payload) ≤ longestPayload) where
           left5 : firstNo (callQuestions i) ≡ firstNo from5
           unfolding askPayload
-          left5 = left4 ∙ yes-cons _ 4 from5 (le-leb (length (i .payload)) 32 h4)
+          left5 = left4 ∙ yes-cons _ 4 from5 (le-leb (length (i .payload)) longestPayload h4)
 
           pub batch-no : exactBatch (i .batch) ≡ false → 5 ≡ firstNo (callQuestions i)
           batch-no h = sym (left5 ∙ no-cons _ 5 from6 h)
@@ -77,15 +81,15 @@ module _ (i : Input) where
             outgoing-no h = room-no (rw (lt-leb (longestFrame (i .setup .epsilon)) (length (i .outgoing)) h))
 
             module _ (h6 : longestFrame (i .setup .epsilon) ≤ length (i .outgoing)) where
-              pub verdicts-no : length (i .verdicts) < 255 → 6 ≡ firstNo (callQuestions i)
+              pub verdicts-no : length (i .verdicts) < verdictLength → 6 ≡ firstNo (callQuestions i)
               unfolding roomy
               verdicts-no h =
-                  room-no (rw (le-leb (longestFrame (i .setup .epsilon)) (length (i .outgoing)) h6, lt-leb 255 (length (i .verdicts)) h))
+                  room-no (rw (le-leb (longestFrame (i .setup .epsilon)) (length (i .outgoing)) h6, lt-leb verdictLength (length (i .verdicts)) h))
 
-              module _ (h7 : 255 ≤ length (i .verdicts)) where
+              module _ (h7 : verdictLength ≤ length (i .verdicts)) where
                 roomy-is : roomy i ≡ leb (holdbackSize (i .setup)) (length (i .delivery))
                 unfolding roomy
-                roomy-is = rw (le-leb (longestFrame (i .setup .epsilon)) (length (i .outgoing)) h6, le-leb 255 (length (i .verdicts)) h7)
+                roomy-is = rw (le-leb (longestFrame (i .setup .epsilon)) (length (i .outgoing)) h6, le-leb verdictLength (length (i .verdicts)) h7)
 
                 pub delivery-no : length (i .delivery) < holdbackSize (i .setup) → 6 ≡ firstNo (callQuestions i)
                 delivery-no h = room-no (roomy-is ∙ lt-leb (holdbackSize (i .setup)) (length (i .delivery)) h)

@@ -1,12 +1,13 @@
 -- `Calls` has the questions of a call, one by one.
-pub mod Calls
+mod Calls
 -- `Times` has the questions 13 to 15 of a frame, one by one.
-pub mod Times
+mod Times
 -- `Verdicts` has one frame's verdict by its first no.
-pub mod Verdicts
+mod Verdicts
 -- `Places` has the queue's buffer within a tick.
-pub mod Places
--- `Turns` has the hearing loop, turn by turn.
-pub mod Turns
+mod Places
+-- `StampTurns` and `Turns` have the hearing loop, turn by turn: what goes into the stamp, and what goes on the queue.
+mod StampTurns
+mod Turns
 -- `Finish` has the tick from its parts.
 pub mod Finish

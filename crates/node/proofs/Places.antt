@@ -10,21 +10,20 @@ use lib.ListN.{length, take, drop, take-append-drop}
 use lib.Seq.{length-take-le, drop-append-add, drop-drop}
 use Rattle.laws.proofs.Numbers.{and-left, and-right}
 use Rattle.laws.specs.Lists.{every, joined, overlay, insertAt}
-use Rattle.laws.proofs.Lists.{every-mem, every-of-mem, leading-le, length-overlay, length-joined-le}
+use Rattle.laws.proofs.Lists.{every-mem, every-of-mem, leading-le, length-insertAt, length-overlay, length-joined-le}
 use Rattle.model.specs.Setup.{Setup, width, depth, longestFrame, holdbackLength}
 use Rattle.model.specs.Frame.{Frame, twoAt, twoBytes, wellFormed, encode, decode}
 use Rattle.model.specs.Order.{before}
 use Rattle.model.specs.Holdback.{heldBytes, held, passes, soundHoldback, encodeFrames, encodeHoldback}
 use Rattle.model.specs.Judge.{placeFor, judgeQuestions}
-use Rattle.model.specs.Tick.{holdbackSize}
+use Rattle.model.specs.Tick.{holdbackSize, openingQueue}
 use Rattle.lemmas.proofs.Bounds.{Limits, FrameOk, QueueOk}
 use Rattle.lemmas.proofs.Questions.{limits-from}
 use Rattle.lemmas.proofs.RoundTrip.{formed-from, form-passed, passes-formed, held-frames, held-holdback, frame-fits, length-holdback}
 use Rattle.lemmas.proofs.Queue.{Passed, judged-passed, sound-queue, queue-none, queue-take, queue-room, queue-few, frames-sound, queue-sound}
-use Rattle.timestamp.proofs.InLimits.{frames-most}
-use Rattle.holdback.specs.Queue.{frameStart, endOf, Figures}
-use Rattle.holdback.specs.Seen.{InWindow, seenTable, marked}
-use Rattle.holdback.specs.Sound.{openedQueue}
+use Rattle.setup.proofs.InLimits.{frames-most}
+use Rattle.holdback.specs.Queue.{frameStart, endOf, Spans}
+use Rattle.holdback.specs.Seen.{Placeable, seenTable, marked}
 use Rattle.holdback.specs.Sound as sounds
 use Rattle.holdback.specs.Starts.{startUnit, allFront, sumPlace, startsOf, Moving, movedStarts}
 use Rattle.holdback.proofs.RoundTrip.{Bytes}
@@ -33,8 +32,8 @@ use Rattle.holdback.proofs.Changes.{formed-frames, length-held}
 use Rattle.holdback.proofs.Placed.{Wide, length-joined-insert, start-before, start-behind, end-behind}
 use Rattle.holdback.proofs.Started.{starts-none, moving, moved-table}
 use Rattle.holdback.proofs.Seen.{seen-insert}
-use Rattle.node.specs.States.{Timed, Queued, Taking, Placing, QueueOpened, openedBuffer}
-use Rattle.node.proofs.Verdicts.{taken-passed, judged-form, fits-when, late-window}
+use Rattle.node.specs.States.{Timed, Queued, Extent, Taking, QueueOpened, openedBuffer}
+use Rattle.node.proofs.Verdicts.{taken-passed, judged-form, fits-when, late-placeable}
 
 -- ---- a sound queue
 
@@ -108,12 +107,12 @@ pub record Known (s : Setup) (v : ℕ) (buffer : List ℕ) (place : ℕ) (bytes 
   pub form : wellFormed (s .epsilon) bytes ≡ true
   pub ok : QueueOk s v (held (s .epsilon) buffer)
   pub few : twoAt buffer 0 < 1792
-  pub window : InWindow s v (decode (s .epsilon) bytes)
+  pub placeable : Placeable s v (decode (s .epsilon) bytes)
   pub fit : sounds.fits s v bytes ≡ true
 
-pub known : {s : Setup} {v : ℕ} {buffer : List ℕ} {place : ℕ} {bytes : List ℕ} → Taking s v buffer place bytes → Known s v buffer place bytes
+pub known : {s : Setup} {v : ℕ} {buffer : List ℕ} {place at : ℕ} {bytes : List ℕ} → Taking s v buffer place at bytes → Known s v buffer place bytes
 unfolding placeFor judgeQuestions depth
-known {s} {v} {buffer} {place} {bytes} t =
+known {s} {v} {buffer} {place} {at} {bytes} t =
     let lim : Limits s = limits-from s (t .timed .limits) in
     let queue : List Frame = held (s .epsilon) buffer in
     let ok : QueueOk s v queue = sound-queue s v buffer lim (t .sound) in
@@ -129,50 +128,58 @@ known {s} {v} {buffer} {place} {bytes} t =
       place-is = both .1;
       two = size-two s (length buffer) (t .size);
       formed = sound-formed s v buffer (t .sound);
-      inside = omega (arith, both .1, leading-le (λ g. before (s .epsilon) (s .modulus) v g (decode (s .epsilon) bytes)) queue, long);
+      inside = omega (arith, both .1, leading-le (λ g. before s v g (decode (s .epsilon) bytes)) queue, long);
       form = form-passed s bytes _ (both .0);
       ok = ok;
       few = omega (arith, long, room, most, lim .epsilon-most, lim .delta-most);
-      window = late-window s v (decode (s .epsilon) bytes) (passed .frame) (passed .late);
+      placeable = late-placeable s v (decode (s .epsilon) bytes) (passed .frame) (passed .late);
       fit = fits-when s v bytes (judged-form s v queue bytes (both .0)) (passed .late) (passed .early);
     }
 
-module _ {s : Setup} {v : ℕ} {buffer : List ℕ} {place : ℕ} {bytes : List ℕ} (t : Taking s v buffer place bytes) where
+module _ {s : Setup} {v : ℕ} {buffer : List ℕ} {place at : ℕ} {bytes : List ℕ} (t : Taking s v buffer place at bytes) where
   abbrev k : Known s v buffer place bytes
   k = known t
 
-  -- one more frame fits
-  pub fits : frameStart (s .epsilon) buffer (twoAt buffer 0) + length bytes ≤ length buffer
-  unfolding holdbackLength longestFrame width
-  fits =
-      let queue : List Frame = held (s .epsilon) buffer in
-      let starts = start-most (s .epsilon) buffer (twoAt buffer 0) (formed-frames (s .epsilon) buffer (k .formed)) in
-      let size : length buffer ≡ 2 + (39 + 2 * s .epsilon) * depth (s .n) (s .epsilon) (s .delta) = t .size in
-      let room : length queue < depth (s .n) (s .epsilon) (s .delta) = queue-room s v queue (k .limits) (k .below) (k .ok) in
-      let long : length queue ≡ twoAt buffer 0 = length-held (s .epsilon) buffer in
-      let one : twoAt buffer 0 + 1 ≤ depth (s .n) (s .epsilon) (s .delta) = omega arith in
-      let shape = formed-from (s .epsilon) bytes (k .form) in
-      let many : (twoAt buffer 0 + 1) * (39 + 2 * s .epsilon) ≤ depth (s .n) (s .epsilon) (s .delta) * (39 + 2 * s .epsilon) = mul-le-mul-right (39 + 2 * s .epsilon) one in
-      omega (arith, mul-comm (depth (s .n) (s .epsilon) (s .delta)) (39 + 2 * s .epsilon), add-mul (twoAt buffer 0) 1 (39 + 2 * s .epsilon), one-mul (39 + 2 * s .epsilon))
+  longest : length bytes ≤ longestFrame (s .epsilon)
+  unfolding longestFrame width
+  longest = let shape = formed-from (s .epsilon) bytes (k .form) in omega arith
 
   pub short : length bytes ≤ 71
-  unfolding width
-  short = let shape = formed-from (s .epsilon) bytes (k .form) in omega (arith, k .limits .epsilon-most)
+  unfolding longestFrame width
+  short = omega (arith, longest, k .limits .epsilon-most)
+
+  -- one more frame fits
+  pub fits : frameStart (s .epsilon) buffer (twoAt buffer 0) + length bytes ≤ length buffer
+  unfolding holdbackLength
+  fits =
+      let queue : List Frame = held (s .epsilon) buffer in
+      let size : length buffer ≡ 2 + longestFrame (s .epsilon) * depth (s .n) (s .epsilon) (s .delta) = t .size in
+      let room : length queue < depth (s .n) (s .epsilon) (s .delta) = queue-room s v queue (k .limits) (k .below) (k .ok) in
+      let one : twoAt buffer 0 + 1 ≤ depth (s .n) (s .epsilon) (s .delta) = omega (arith, length-held (s .epsilon) buffer) in
+      let many : (twoAt buffer 0 + 1) * longestFrame (s .epsilon) ≤ depth (s .n) (s .epsilon) (s .delta) * longestFrame (s .epsilon) = mul-le-mul-right (longestFrame (s .epsilon)) one in
+      omega (
+        arith,
+        longest,
+        start-most (s .epsilon) buffer (twoAt buffer 0) (formed-frames (s .epsilon) buffer (k .formed)),
+        mul-comm (depth (s .n) (s .epsilon) (s .delta)) (longestFrame (s .epsilon)),
+        add-mul (twoAt buffer 0) 1 (longestFrame (s .epsilon)),
+        one-mul (longestFrame (s .epsilon)),
+      )
 
   -- the starts can be moved
   pub movable : {starts : List ℕ} → starts ≡ startsOf s v buffer → Moving starts (startUnit + length bytes)
   movable e = moving s v buffer (k .limits) (t .sound) e (omega (arith, short))
 
   -- what placing it is told
-  pub figures : {count at stop : ℕ} → count ≡ twoAt buffer 0 → Placing (s .epsilon) buffer place at stop → Figures (s .epsilon) buffer count stop place at
-  figures e p =
+  pub spans : {count stop : ℕ} → Extent (s .epsilon) buffer count stop → Spans (s .epsilon) buffer count stop place at
+  spans e =
       record {
         formed = k .formed;
         two = k .two;
-        counted = e;
-        ends = p .ends ∙ ap (frameStart (s .epsilon) buffer) (sym e);
-        inside = omega (arith, k .inside);
-        starts = p .starts;
+        count-is = e .count-is;
+        ends = e .ends ∙ ap (frameStart (s .epsilon) buffer) (sym (e .count-is));
+        inside = omega (arith, k .inside, e .count-is);
+        starts = t .starts;
       }
 
   abbrev more : List Frame
@@ -190,14 +197,19 @@ module _ {s : Setup} {v : ℕ} {buffer : List ℕ} {place : ℕ} {bytes : List �
         ∙ held-frames (s .epsilon) more (drop (length (encodeFrames more)) buffer) (λ g m. more-ok .frames g m .sound .wide) (queue-few s v more (k .limits) (k .below) more-ok)
 
     module _ (clean : Bytes buffer) (bytes-clean : Bytes bytes) where
-      here : Figures (s .epsilon) buffer (twoAt buffer 0) (endOf (s .epsilon) buffer) place (frameStart (s .epsilon) buffer place)
-      here = figures refl (record { starts = refl; ends = refl })
+      here : Spans (s .epsilon) buffer (twoAt buffer 0) (endOf (s .epsilon) buffer) place at
+      here = spans (record { count-is = refl; ends = refl })
 
       wide : Wide (s .epsilon) more
       wide g m = more-ok .frames g m .sound .wide
 
-      pub more-ends : endOf (s .epsilon) buffer′ ≡ endOf (s .epsilon) buffer + length bytes
-      more-ends = end-behind here clean bytes bytes-clean (k .form) wide buffer′ e
+      pub more-extent : {count stop : ℕ} → Extent (s .epsilon) buffer count stop → Extent (s .epsilon) buffer′ (count + 1) (stop + length bytes)
+      more-extent old =
+          let one = length-insertAt place (decode (s .epsilon) bytes) (held (s .epsilon) buffer) in
+          record {
+            count-is = omega (arith, old .count-is, one, length-held (s .epsilon) buffer, ap length more-held, length-held (s .epsilon) buffer′);
+            ends = ap (λ (n : ℕ). n + length bytes) (old .ends) ∙ sym (end-behind here clean bytes bytes-clean (k .form) wide buffer′ e);
+          }
 
       more-starts : {sum : ℕ} {starts starts′ : List ℕ} → starts ≡ startsOf s v buffer → sum ≡ sumPlace s v (decode (s .epsilon) bytes)
           → starts′ ≡ movedStarts (sum + 1) (startUnit + length bytes) starts → starts′ ≡ startsOf s v buffer′
@@ -224,22 +236,22 @@ module _ {s : Setup} {v : ℕ} {buffer : List ℕ} {place : ℕ} {bytes : List �
 -- ---- the queue opened
 
 module _ (s : Setup) (v : ℕ) (buffer : List ℕ) (t : Timed s v) (size : length buffer ≡ holdbackSize s) where
-  pub opened-sound : {stop : ℕ} {table starts : List ℕ} → soundHoldback s v buffer ≡ true → stop ≡ cond (soundHoldback s v buffer) (endOf (s .epsilon) buffer) 2 → table ≡ seenTable s v (openedQueue s v buffer)
-      → starts ≡ cond (soundHoldback s v buffer) (startsOf s v buffer) allFront → QueueOpened s v buffer 0 stop buffer table starts
-  unfolding openedQueue openedBuffer
-  opened-sound h ends e m =
+  pub opened-sound : {count stop : ℕ} {table starts : List ℕ} → soundHoldback s v buffer ≡ true → count ≡ cond (soundHoldback s v buffer) (twoAt buffer 0) 0 → stop ≡ cond (soundHoldback s v buffer) (endOf (s .epsilon) buffer) 2 → table ≡ seenTable s v (openingQueue s v buffer)
+      → starts ≡ cond (soundHoldback s v buffer) (startsOf s v buffer) allFront → QueueOpened s v buffer 0 count stop buffer table starts
+  unfolding openingQueue openedBuffer
+  opened-sound h count-is ends e m =
       record {
         repaired = rw h;
         queued = record { size = size; sound = h; table-is = rw h at e; starts-is = rw h at m };
-        ends = rw h at ends;
+        extent = record { count-is = rw h at count-is; ends = rw h at ends };
         buffer-is = rw h;
         queue = rw h;
       }
 
-  pub opened-empty : {buffer′ table starts : List ℕ} → soundHoldback s v buffer ≡ false → table ≡ seenTable s v (openedQueue s v buffer)
-      → starts ≡ cond (soundHoldback s v buffer) (startsOf s v buffer) allFront → buffer′ ≡ encodeHoldback (length buffer) [] → QueueOpened s v buffer 2 2 buffer′ table starts
-  unfolding openedQueue openedBuffer
-  opened-empty {buffer′} h e m b =
+  pub opened-empty : {count stop : ℕ} {buffer′ table starts : List ℕ} → soundHoldback s v buffer ≡ false → count ≡ cond (soundHoldback s v buffer) (twoAt buffer 0) 0 → stop ≡ cond (soundHoldback s v buffer) (endOf (s .epsilon) buffer) 2 → table ≡ seenTable s v (openingQueue s v buffer)
+      → starts ≡ cond (soundHoldback s v buffer) (startsOf s v buffer) allFront → buffer′ ≡ encodeHoldback (length buffer) [] → QueueOpened s v buffer 2 count stop buffer′ table starts
+  unfolding openingQueue openedBuffer
+  opened-empty {count} {stop} {buffer′} h count-is ends e m b =
       let lim : Limits s = limits-from s (t .limits) in
       let none : (f : Frame) → List·Memᴰ f [] → length (f .stamp .kn) ≡ width (s .epsilon) = λ f m. queue-none s v .frames f m .sound .wide in
       let b′ : buffer′ ≡ encodeHoldback (holdbackSize s) [] = b ∙ ap (λ (n : ℕ). encodeHoldback n []) size in
@@ -254,7 +266,11 @@ module _ (s : Setup) (v : ℕ) (buffer : List ℕ) (t : Timed s v) (size : lengt
               table-is = rw h at e ∙ sym (ap (seenTable s v) empty);
               starts-is = rw h at m ∙ starts-none s v buffer′ empty;
             };
-        ends = sym (ap (frameStart (s .epsilon) buffer′) none-held ∙ start-zero (s .epsilon) buffer′);
+        extent =
+            record {
+              count-is = rw h at count-is ∙ sym none-held;
+              ends = rw h at ends ∙ sym (ap (frameStart (s .epsilon) buffer′) none-held ∙ start-zero (s .epsilon) buffer′);
+            };
         buffer-is = rw h b;
         queue = rw h empty;
       }

@@ -1,55 +1,58 @@
 -- The questions 13 to 15 of a frame, one by one, as the code asks them. Assumes nothing.
-use Prim.Native.Nat.{ℕ, _+_, _*_, _-_, _≤_, _<_}
+use Prim.Native.Nat.{ℕ, _+_, _-_, _≤_, _<_}
 use native.Mathlib.Omega.{arith}
 use mathlib.Core.Path.{_≡_, sym, ap, _∙_}
 use mathlib.Core.Bool.{true, false}
 use mathlib.Core.List.{List, [], _∷_}
 use lib.ListN.{length, take, drop}
-use lib.Seq.{drop-drop}
+use lib.Seq.{take-all}
 use borrow.Author.Tests.{le-leb, lt-leb}
-use Rattle.laws.proofs.Lists.{drop-take}
-use Rattle.model.specs.Setup.{Setup, width}
-use Rattle.model.specs.Timestamp.{sum, near, atMost}
-use Rattle.model.specs.Frame.{Frame, wellFormed, decode}
+use Rattle.model.specs.Setup.{Setup}
+use Rattle.model.specs.Timestamp.{countsFrom, sum, atMost}
+use Rattle.model.specs.Frame.{Frame, wellFormed, countsOf, payloadCountAt, decode}
+use Rattle.model.specs.Order.{readingOf}
 use Rattle.model.specs.Question.{ask, firstNo, frameQuestions, askForm}
 use Rattle.model.specs.Holdback.{notEarly, passes}
-use Rattle.model.specs.Judge.{readingOf, askLate, askEarly, askCounts}
+use Rattle.model.specs.Judge.{askLate, askEarly, askCounts}
 use Rattle.lemmas.proofs.Bounds.{Limits, FrameOk}
 use Rattle.lemmas.proofs.Questions.{first-yes, yes-cons, no-cons, limits-from}
 use Rattle.lemmas.proofs.RoundTrip.{formed-from, passes-decode}
-use Rattle.lemmas.proofs.Reading.{near-high}
+use Rattle.lemmas.proofs.Counts.{counts-from-drop}
+use Rattle.lemmas.proofs.Queue.{reading-high}
 use Rattle.node.specs.Views.{timeQuestions}
 use Rattle.node.specs.States.{Readable}
 
-module _ (s : Setup) (v : ℕ) (f : Frame) (reading : ℕ) (e : reading ≡ near (s .epsilon) (s .modulus) v (f .stamp .r)) where
+module _ (s : Setup) (v : ℕ) (f : Frame) (reading : ℕ) (e : reading ≡ readingOf s v f) where
   pub late-no : reading + (s .delta + s .epsilon) < s .modulus → 13 ≡ firstNo (timeQuestions s v f)
-  unfolding timeQuestions askLate readingOf firstNo
+  unfolding timeQuestions askLate firstNo
   late-no h = rw (← e, lt-leb (s .modulus) (reading + (s .delta + s .epsilon)) h)
 
   module _ (h1 : s .modulus ≤ reading + (s .delta + s .epsilon)) where
     pub early-no : s .modulus + (s .epsilon - 1) < reading + f .stamp .c → 14 ≡ firstNo (timeQuestions s v f)
-    unfolding timeQuestions askLate askEarly notEarly sum readingOf firstNo
+    unfolding timeQuestions askLate askEarly notEarly sum firstNo
     early-no h =
         rw (← e, le-leb (s .modulus) (reading + (s .delta + s .epsilon)) h1, lt-leb (reading + f .stamp .c) (s .modulus + (s .epsilon - 1)) h)
 
     module _ (h2 : reading + f .stamp .c ≤ s .modulus + (s .epsilon - 1)) where
-      counts-left : firstNo (timeQuestions s v f) ≡ firstNo (ask (atMost (s .n - 1) (drop (s .modulus + s .epsilon - reading) (f .stamp .kn))) 15 ∷ [])
-      unfolding timeQuestions askLate askEarly askCounts notEarly sum readingOf firstNo
+      counts-left : firstNo (timeQuestions s v f) ≡ firstNo (ask (atMost (s .n - 1) (countsFrom (s .epsilon) reading (f .stamp .kn) (s .modulus))) 15 ∷ [])
+      unfolding timeQuestions askLate askEarly askCounts notEarly sum firstNo
       counts-left =
           rw (← e, le-leb (s .modulus) (reading + (s .delta + s .epsilon)) h1, le-leb (reading + f .stamp .c) (s .modulus + (s .epsilon - 1)) h2)
 
-      pub counts-no : atMost (s .n - 1) (drop (s .modulus + s .epsilon - reading) (f .stamp .kn)) ≡ false → 15 ≡ firstNo (timeQuestions s v f)
+      pub counts-no : atMost (s .n - 1) (countsFrom (s .epsilon) reading (f .stamp .kn) (s .modulus)) ≡ false → 15 ≡ firstNo (timeQuestions s v f)
       counts-no h = sym (counts-left ∙ no-cons _ 15 [] h)
 
-      pub times-right : atMost (s .n - 1) (drop (s .modulus + s .epsilon - reading) (f .stamp .kn)) ≡ true → 0 ≡ firstNo (timeQuestions s v f)
+      pub times-right : atMost (s .n - 1) (countsFrom (s .epsilon) reading (f .stamp .kn) (s .modulus)) ≡ true → 0 ≡ firstNo (timeQuestions s v f)
       unfolding firstNo
       times-right h = sym (counts-left ∙ yes-cons _ 15 [] h)
 
--- the counts where they stand in the frame
-pub counts-there : (epsilon from : ℕ) (bytes : List ℕ) → drop (6 + from) (take (6 + 2 * epsilon) bytes) ≡ drop from (decode epsilon bytes .stamp .kn)
-unfolding decode width
-counts-there epsilon from bytes =
-    sym (drop-drop from 6 (take (6 + 2 * epsilon) bytes)) ∙ ap (drop from) (drop-take 6 (2 * epsilon) bytes)
+-- the counts for a clock and those after it, where they stand in the frame's part
+pub counts-there : (epsilon reading clock : ℕ) (bytes counts : List ℕ) → counts ≡ countsOf epsilon bytes → reading ≤ clock + epsilon
+    → drop (clock + epsilon - reading) (take (length counts) counts) ≡ countsFrom epsilon reading (decode epsilon bytes .stamp .kn) clock
+unfolding decode
+counts-there epsilon reading clock bytes counts e h =
+    ap (drop (clock + epsilon - reading)) (take-all (length counts) counts (omega arith) ∙ e)
+    ∙ sym (counts-from-drop epsilon reading (countsOf epsilon bytes) clock (clock + epsilon - reading) (omega arith))
 
 -- what a frame that has passed 10 to 12 gives
 pub record Given (s : Setup) (v : ℕ) (bytes : List ℕ) : Type 0 where
@@ -59,16 +62,15 @@ pub record Given (s : Setup) (v : ℕ) (bytes : List ℕ) : Type 0 where
   pub formed : wellFormed (s .epsilon) bytes ≡ true
   pub r-below : decode (s .epsilon) bytes .stamp .r < s .modulus
   pub c-below : decode (s .epsilon) bytes .stamp .c < s .epsilon
-  pub high : near (s .epsilon) (s .modulus) v (decode (s .epsilon) bytes .stamp .r) < s .modulus + s .epsilon
-  pub long : 7 + 2 * s .epsilon ≤ length bytes
+  pub long : payloadCountAt (s .epsilon) ≤ length bytes
+  pub high : readingOf s v (decode (s .epsilon) bytes) < s .modulus + s .epsilon
 
 pub given : (s : Setup) (v : ℕ) (bytes : List ℕ) → Readable s v bytes → Given s v bytes
-unfolding frameQuestions askForm passes width
+unfolding frameQuestions askForm passes payloadCountAt
 given s v bytes p =
     let lim : Limits s = limits-from s (p .timed .limits) in
     let ok : FrameOk s (decode (s .epsilon) bytes) = passes-decode s bytes lim (rw (p .passed)) in
     let form : wellFormed (s .epsilon) bytes ≡ true = first-yes (wellFormed (s .epsilon) bytes) 9 _ (p .passed) in
-    let shape = formed-from (s .epsilon) bytes form in
     record {
       limits = lim;
       below = p .timed .below;
@@ -76,6 +78,6 @@ given s v bytes p =
       formed = form;
       r-below = ok .r-below;
       c-below = ok .sound .close;
-      high = near-high (s .epsilon) (s .modulus) v (decode (s .epsilon) bytes .stamp .r) (lim .epsilon-pos) (omega (arith, lim .modulus-least, lim .epsilon-pos));
-      long = omega arith;
+      long = omega (arith, formed-from (s .epsilon) bytes form .size);
+      high = reading-high s v (decode (s .epsilon) bytes) lim;
     }

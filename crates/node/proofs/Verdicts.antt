@@ -10,25 +10,23 @@ use borrow.Author.Tests.{lt-ltb, le-ltb, le-leb, leb-true, eq-eqb}
 use Rattle.laws.specs.Lists.{any, every}
 use Rattle.laws.proofs.Numbers.{and-intro, and-left, and-right}
 use Rattle.model.specs.Setup.{Setup, depth}
-use Rattle.model.specs.Timestamp.{sum, near}
 use Rattle.model.specs.Frame.{Frame, decode}
-use Rattle.model.specs.Order.{due, dueNear}
+use Rattle.model.specs.Order.{readingOf}
 use Rattle.model.specs.Question.{Question, ask, firstNo, frameQuestions, askForm, askRange, askStamp}
-use Rattle.model.specs.Holdback.{held, passes, sameOrigin, notEarly, notOverdue}
-use Rattle.model.specs.Judge.{Verdict, taken, refused, verdictNumber, verdictPlace, verdictBy, judge, judgeQuestions, placeQuestions, askLate, askEarly, askCounts, askRepeat, askRoom, placeFor, readingOf}
+use Rattle.model.specs.Holdback.{held, passes, sameOrigin, notEarly}
+use Rattle.model.specs.Judge.{Verdict, taken, refused, verdictNumber, verdictPlace, verdictBy, judge, judgeQuestions, placeQuestions, askLate, askEarly, askCounts, askRepeat, askRoom, placeFor}
 use Rattle.lemmas.proofs.Bounds.{Limits, FrameOk, QueueOk}
 use Rattle.lemmas.proofs.Questions.{limits-from, first-yes, other-yes}
-use Rattle.lemmas.proofs.Queue.{sound-queue, queue-window}
-use Rattle.lemmas.proofs.Queue as queues
+use Rattle.lemmas.proofs.Queue.{InWindow, sound-queue, queue-window, overdue-to}
 use Rattle.holdback.specs.Queue.{frameStart}
-use Rattle.holdback.specs.Seen.{InWindow, isMarked, slotOf}
+use Rattle.holdback.specs.Seen.{Placeable, isMarked, slotOf}
 use Rattle.holdback.specs.Sound.{fits}
 use Rattle.holdback.proofs.Seen.{seen-at}
 use Rattle.holdback.specs.declared.change.Place.{Place}
 use Rattle.node.specs.declared.verdict.Verdict as codes
 use Rattle.node.specs.declared.verdict.Verdict.the-variants.{Taken, Refused}
 use Rattle.node.specs.Views.{verdictOf, Located, timeQuestions}
-use Rattle.node.specs.States.{Timed, Queued}
+use Rattle.node.specs.States.{Timed, Readable, Queued}
 
 -- ---- lists of questions, one after the other
 
@@ -79,15 +77,15 @@ module _ (s : Setup) (v : ℕ) (queue : List Frame) (bytes : List ℕ) where
   abbrev f : Frame
   f = decode (s .epsilon) bytes
 
-  judge-by : (k : ℕ) → firstNo (judgeQuestions s v queue bytes) ≡ k → judge s v queue bytes ≡ verdictBy k (placeFor s v queue f)
+  judge-by : (k : ℕ) → firstNo (judgeQuestions s v queue bytes) ≡ k → judge s v (judgeQuestions s v) queue bytes ≡ verdictBy k (placeFor s v queue f)
   unfolding judge
   judge-by k e = rw e
 
-  refused-by : (k : ℕ) → (k ≡ 0 → ⊥) → firstNo (judgeQuestions s v queue bytes) ≡ k → refused k ≡ judge s v queue bytes
+  refused-by : (k : ℕ) → (k ≡ 0 → ⊥) → firstNo (judgeQuestions s v queue bytes) ≡ k → refused k ≡ judge s v (judgeQuestions s v) queue bytes
   refused-by zero h e = absurd (h refl)
   refused-by (suc k) h e = sym (judge-by (suc k) e)
 
-  pub form-no : (k : ℕ) → k ≡ firstNo (frameQuestions s bytes) → (k ≡ 0 → ⊥) → refused k ≡ judge s v queue bytes
+  pub form-no : (k : ℕ) → k ≡ firstNo (frameQuestions s bytes) → (k ≡ 0 → ⊥) → refused k ≡ judge s v (judgeQuestions s v) queue bytes
   unfolding judgeQuestions
   form-no zero e h = absurd (h refl)
   form-no (suc k) e h = refused-by (suc k) h (first-answers (frameQuestions s bytes) _ k (sym e))
@@ -97,7 +95,7 @@ module _ (s : Setup) (v : ℕ) (queue : List Frame) (bytes : List ℕ) where
     unfolding judgeQuestions
     from-place = others-answer (frameQuestions s bytes) _ (frame-numbered s bytes) form
 
-    pub time-no : (k : ℕ) → k ≡ firstNo (timeQuestions s v f) → (k ≡ 0 → ⊥) → refused k ≡ judge s v queue bytes
+    pub time-no : (k : ℕ) → k ≡ firstNo (timeQuestions s v f) → (k ≡ 0 → ⊥) → refused k ≡ judge s v (judgeQuestions s v) queue bytes
     unfolding timeQuestions placeQuestions
     time-no zero e h = absurd (h refl)
     time-no (suc k) e h =
@@ -108,7 +106,7 @@ module _ (s : Setup) (v : ℕ) (queue : List Frame) (bytes : List ℕ) where
       unfolding timeQuestions placeQuestions
       from-repeat = from-place ∙ others-answer (timeQuestions s v f) (askRepeat queue f ∷ askRoom s queue ∷ []) (time-numbered s v f) time
 
-      pub repeat-no : any (sameOrigin f) queue ≡ true → refused 16 ≡ judge s v queue bytes
+      pub repeat-no : any (sameOrigin f) queue ≡ true → refused 16 ≡ judge s v (judgeQuestions s v) queue bytes
       unfolding askRepeat firstNo
       repeat-no h = refused-by 16 (λ e. let z : _≡_ {A = ℕ} 16 0 = e in omega arith) (from-repeat ∙ rw h)
 
@@ -117,12 +115,12 @@ module _ (s : Setup) (v : ℕ) (queue : List Frame) (bytes : List ℕ) where
         unfolding askRepeat firstNo
         from-room = from-repeat ∙ rw new
 
-        pub room-no : depth (s .n) (s .epsilon) (s .delta) ≤ length queue → refused 17 ≡ judge s v queue bytes
+        pub room-no : depth (s .n) (s .epsilon) (s .delta) ≤ length queue → refused 17 ≡ judge s v (judgeQuestions s v) queue bytes
         unfolding askRoom firstNo
         room-no h =
             refused-by 17 (λ e. let z : _≡_ {A = ℕ} 17 0 = e in omega arith) (from-room ∙ rw (le-ltb (length queue) (depth (s .n) (s .epsilon) (s .delta)) h))
 
-        pub all-yes : length queue < depth (s .n) (s .epsilon) (s .delta) → taken (placeFor s v queue f) ≡ judge s v queue bytes
+        pub all-yes : length queue < depth (s .n) (s .epsilon) (s .delta) → taken (placeFor s v queue f) ≡ judge s v (judgeQuestions s v) queue bytes
         unfolding askRoom firstNo
         all-yes h = sym (judge-by 0 (from-room ∙ rw (lt-ltb (length queue) (depth (s .n) (s .epsilon) (s .delta)) h)))
 
@@ -135,12 +133,12 @@ verdict-refused : (k place number : ℕ) → verdictBy k place ≡ refused numbe
 verdict-refused zero place number e z = let y : _≡_ {A = ℕ} 0 1 = cc in omega arith
 verdict-refused (suc k) place number e z = let y : suc k ≡ number = ap verdictNumber e in omega arith
 
-pub taken-passed : (s : Setup) (v : ℕ) (queue : List Frame) (bytes : List ℕ) (place : ℕ) → judge s v queue bytes ≡ taken place
+pub taken-passed : (s : Setup) (v : ℕ) (queue : List Frame) (bytes : List ℕ) (place : ℕ) → judge s v (judgeQuestions s v) queue bytes ≡ taken place
     → (firstNo (judgeQuestions s v queue bytes) ≡ 0) × (placeFor s v queue (decode (s .epsilon) bytes) ≡ place)
 unfolding judge
 taken-passed s v queue bytes place e = verdict-taken (firstNo (judgeQuestions s v queue bytes)) (placeFor s v queue (decode (s .epsilon) bytes)) place e
 
-pub refused-number : (s : Setup) (v : ℕ) (queue : List Frame) (bytes : List ℕ) (number : ℕ) → judge s v queue bytes ≡ refused number → number ≡ 0 → ⊥
+pub refused-number : (s : Setup) (v : ℕ) (queue : List Frame) (bytes : List ℕ) (number : ℕ) → judge s v (judgeQuestions s v) queue bytes ≡ refused number → number ≡ 0 → ⊥
 unfolding judge
 refused-number s v queue bytes number e = verdict-refused (firstNo (judgeQuestions s v queue bytes)) (placeFor s v queue (decode (s .epsilon) bytes)) number e
 
@@ -164,24 +162,26 @@ taken-located {place} h = record { stands = λ place′ e. let same : place ≡ 
 
 pub fits-when : (s : Setup) (v : ℕ) (bytes : List ℕ) → firstNo (frameQuestions s bytes) ≡ 0 → s .modulus ≤ readingOf s v (decode (s .epsilon) bytes) + (s .delta + s .epsilon)
     → notEarly s v (decode (s .epsilon) bytes) ≡ true → fits s v bytes ≡ true
-unfolding fits passes notOverdue dueNear due sum readingOf
+unfolding fits passes
 fits-when s v bytes form late early =
-    let f : Frame = decode (s .epsilon) bytes in
-    and-intro (eq-eqb (firstNo (frameQuestions s bytes)) 0 form)
-    (and-intro early (le-leb (s .modulus) (near (s .epsilon) (s .modulus) v (f .stamp .r) + f .stamp .c + s .delta + s .epsilon) (omega arith)))
+    and-intro (eq-eqb (firstNo (frameQuestions s bytes)) 0 form) (and-intro early (overdue-to s v (decode (s .epsilon) bytes) (omega arith)))
 
 pub judged-form : (s : Setup) (v : ℕ) (queue : List Frame) (bytes : List ℕ) → firstNo (judgeQuestions s v queue bytes) ≡ 0 → firstNo (frameQuestions s bytes) ≡ 0
 unfolding judgeQuestions
 judged-form s v queue bytes e = first-none (frameQuestions s bytes) (placeQuestions s v queue (decode (s .epsilon) bytes)) e
 
+-- and so has one that is taken
+pub taken-readable : (s : Setup) (v : ℕ) (queue : List Frame) (bytes : List ℕ) (place : ℕ) → Timed s v → judge s v (judgeQuestions s v) queue bytes ≡ taken place → Readable s v bytes
+taken-readable s v queue bytes place t e = record { timed = t; passed = judged-form s v queue bytes (taken-passed s v queue bytes place e .0) }
+
 -- ---- the table of origins
 
-pub window-of : (s : Setup) (v : ℕ) (f : Frame) → queues.InWindow s v f → FrameOk s f → InWindow s v f
-window-of s v f w ok = record { station-below = ok .station-below; r-below = ok .r-below; not-before = omega (arith, w .low) }
+pub placeable-of : (s : Setup) (v : ℕ) (f : Frame) → InWindow s v f → FrameOk s f → Placeable s v f
+placeable-of s v f w ok = record { station-below = ok .station-below; r-below = ok .r-below; not-before = omega (arith, w .low) }
 
 -- a frame that has passed 13 has a place in the table of origins
-pub late-window : (s : Setup) (v : ℕ) (f : Frame) → FrameOk s f → s .modulus ≤ readingOf s v f + (s .delta + s .epsilon) → InWindow s v f
-late-window s v f ok h = record { station-below = ok .station-below; r-below = ok .r-below; not-before = omega arith }
+pub late-placeable : (s : Setup) (v : ℕ) (f : Frame) → FrameOk s f → s .modulus ≤ readingOf s v f + (s .delta + s .epsilon) → Placeable s v f
+late-placeable s v f ok h = record { station-below = ok .station-below; r-below = ok .r-below; not-before = omega arith }
 
 pub time-late : (s : Setup) (v : ℕ) (f : Frame) → firstNo (timeQuestions s v f) ≡ 0 → s .modulus ≤ readingOf s v f + (s .delta + s .epsilon)
 unfolding timeQuestions askLate
@@ -198,12 +198,12 @@ marked-by true = refl
 marked-by false = refl
 
 -- question 16 by one look-up
-pub marked-is : (s : Setup) (v : ℕ) (buffer table starts : List ℕ) (f : Frame) → Timed s v → Queued s v buffer table starts → InWindow s v f
+pub marked-is : (s : Setup) (v : ℕ) (buffer table starts : List ℕ) (f : Frame) → Timed s v → Queued s v buffer table starts → Placeable s v f
     → isMarked s v f table ≡ any (sameOrigin f) (held (s .epsilon) buffer)
 unfolding isMarked
 marked-is s v buffer table starts f t q w =
     let lim : Limits s = limits-from s (t .limits) in
     let ok : QueueOk s v (held (s .epsilon) buffer) = sound-queue s v buffer lim (q .sound) in
     ap (λ (l : List ℕ). eqb (getD l (slotOf s v f) 0) 1) (q .table-is)
-    ∙ (ap (λ (x : ℕ). eqb x 1) (seen-at s v (limits-from s (t .limits)) (t .below) (held (s .epsilon) buffer) f (λ g m. window-of s v g (queue-window s v (held (s .epsilon) buffer) lim ok g m) (ok .frames g m)) w)
+    ∙ (ap (λ (x : ℕ). eqb x 1) (seen-at s v (limits-from s (t .limits)) (t .below) (held (s .epsilon) buffer) f (λ g m. placeable-of s v g (queue-window s v (held (s .epsilon) buffer) lim ok g m) (ok .frames g m)) w)
     ∙ marked-by (any (sameOrigin f) (held (s .epsilon) buffer)))

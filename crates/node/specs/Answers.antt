@@ -19,8 +19,8 @@ answerOf a =
     }
 
 -- the answer, and the buffers as the call left them
-abbrev pub outputOf : Answer → List ℕ → List ℕ → List ℕ → List ℕ → Output
-outputOf a holdback outgoing verdicts delivery =
+abbrev pub callOutput : Answer → List ℕ → List ℕ → List ℕ → List ℕ → Output
+callOutput a holdback outgoing verdicts delivery =
     record {
       answer = answerOf a;
       holdback = holdback;

@@ -6,18 +6,17 @@ use mathlib.Core.Bool.{Bool, true, not, cond}
 use mathlib.Core.List.{List, []}
 use lib.ListN.{length}
 use Rattle.laws.specs.Lists.{select, overlay, insertAt}
-use Rattle.model.specs.Setup.{Setup, inLimits}
-use Rattle.model.specs.Timestamp.{Timestamp, trimmed, widened, soundTables, step, replaced, absorb}
-use Rattle.model.specs.Frame.{encode, decode}
+use Rattle.model.specs.Setup.{Setup, inLimits, verdictLength}
+use Rattle.model.specs.Timestamp.{Timestamp, trimmed, widened}
+use Rattle.model.specs.Frame.{Frame, twoAt, encode, decode}
 use Rattle.model.specs.Batch.{exactBatch, batchEntries}
 use Rattle.model.specs.Holdback.{held, soundHoldback, encodeFrames, encodeHoldback}
 use Rattle.model.specs.Question.{firstNo, frameQuestions}
 use Rattle.model.specs.Codec.{frameOf}
-use Rattle.model.specs.Judge.{Heard, judge, taken, readingOf, hear}
-use Rattle.model.specs.Tick.{holdbackSize, dueNow, takenCount}
+use Rattle.model.specs.Judge.{Heard, judge, judgeQuestions, taken, hear, absorbAll}
+use Rattle.model.specs.Tick.{holdbackSize, tablesSound, openingStamp, openingQueue, dueNow, takenCount}
 use Rattle.holdback.specs.Queue.{frameStart, endOf}
 use Rattle.holdback.specs.Seen.{seenTable}
-use Rattle.holdback.specs.Sound.{openedQueue}
 use Rattle.holdback.specs.Starts.{startsOf}
 
 -- a call that has passed 1 and 2
@@ -42,112 +41,118 @@ pub record Queued (s : Setup) (v : ℕ) (buffer table starts : List ℕ) : Type 
   pub table-is : table ≡ seenTable s v (held (s .epsilon) buffer)
   pub starts-is : starts ≡ startsOf s v buffer
 
--- a frame that is to be taken, at its place
-pub record Taking (s : Setup) (v : ℕ) (buffer : List ℕ) (place : ℕ) (bytes : List ℕ) : Type 0 where
+-- how many frames a queue has, and where they end
+pub record Extent (epsilon : ℕ) (buffer : List ℕ) (count stop : ℕ) : Type 0 where
+  pub count-is : count ≡ twoAt buffer 0
+  pub ends : stop ≡ endOf epsilon buffer
+
+-- ---- a frame taken: on the queue
+
+-- a frame that is to be taken, at its place, and where that stands
+pub record Taking (s : Setup) (v : ℕ) (buffer : List ℕ) (place at : ℕ) (bytes : List ℕ) : Type 0 where
   pub timed : Timed s v
   pub size : length buffer ≡ holdbackSize s
   pub sound : soundHoldback s v buffer ≡ true
-  pub judged : judge s v (held (s .epsilon) buffer) bytes ≡ taken place
+  pub judged : judge s v (judgeQuestions s v) (held (s .epsilon) buffer) bytes ≡ taken place
+  pub starts : at ≡ frameStart (s .epsilon) buffer place
 
--- where its place stands, and where the frames end
-pub record Placing (epsilon : ℕ) (buffer : List ℕ) (place at stop : ℕ) : Type 0 where
-  pub starts : at ≡ frameStart epsilon buffer place
-  pub ends : stop ≡ endOf epsilon buffer
-
--- what taking it leaves
-pub record Took (s : Setup) (v : ℕ) (t : Timestamp) (place : ℕ) (bytes buffer : List ℕ) (t′ : Timestamp) (buffer′ table′ starts′ : List ℕ) : Type 0 where
-  pub stamp : t′ ≡ widened (absorb (s .epsilon) (s .modulus) (trimmed (s .epsilon) t) (readingOf s v (decode (s .epsilon) bytes)) (decode (s .epsilon) bytes .stamp))
+-- what putting it on the queue leaves
+pub record Enqueued (s : Setup) (v place : ℕ) (bytes buffer : List ℕ) (count stop : ℕ) (buffer′ table′ starts′ : List ℕ) : Type 0 where
   pub queued : Queued s v buffer′ table′ starts′
+  pub extent : Extent (s .epsilon) buffer′ (count + 1) (stop + length bytes)
   pub buffer-is : buffer′ ≡ overlay (encodeFrames (insertAt place (decode (s .epsilon) bytes) (held (s .epsilon) buffer))) buffer
   pub queue : held (s .epsilon) buffer′ ≡ insertAt place (decode (s .epsilon) bytes) (held (s .epsilon) buffer)
-  pub ends : endOf (s .epsilon) buffer′ ≡ endOf (s .epsilon) buffer + length bytes
 
--- what hearing asks: the places past the 2ε counts are 0, the batch is exact, and there is a place for each verdict
+-- ---- the hearing
+
+-- what it asks: the places past the 2ε counts are 0, the batch is exact, and there is a place for each verdict
 pub record Listening (epsilon : ℕ) (t : Timestamp) (batch verdicts : List ℕ) : Type 0 where
   pub narrow : t ≡ widened (trimmed epsilon t)
   pub exact : exactBatch batch ≡ true
-  pub room : 255 ≤ length verdicts
+  pub room : verdictLength ≤ length verdicts
 
--- what hearing starts from
-abbrev pub heardFrom : ℕ → Timestamp → List ℕ → Heard
-heardFrom epsilon t buffer = record { stamp = trimmed epsilon t; queue = held epsilon buffer; verdicts = [] }
+-- a batch heard with those frames on the queue
+abbrev pub heardWith : Setup → ℕ → List Frame → List ℕ → Heard
+heardWith s v queue batch = hear s v (judgeQuestions s v) (record { queue = queue; verdicts = [] }) (batchEntries batch)
 
-abbrev pub heardAll : Setup → ℕ → Timestamp → List ℕ → List ℕ → Heard
-heardAll s v t batch buffer = hear s v (heardFrom (s .epsilon) t buffer) (batchEntries batch)
+-- what goes on the queue, and the verdicts
+abbrev pub heardAll : Setup → ℕ → List ℕ → List ℕ → Heard
+heardAll s v batch buffer = heardWith s v (held (s .epsilon) buffer) batch
 
--- what hearing leaves
-pub record HeardAll (s : Setup) (v : ℕ) (t : Timestamp) (batch buffer verdicts : List ℕ) (t′ : Timestamp) (count stop : ℕ) (buffer′ table′ starts′ verdicts′ : List ℕ) : Type 0 where
-  pub stamp : t′ ≡ widened (heardAll s v t batch buffer .stamp)
+pub record HeardQueue (s : Setup) (v : ℕ) (batch buffer verdicts : List ℕ) (took count stop : ℕ) (buffer′ table′ starts′ verdicts′ : List ℕ) : Type 0 where
   pub queued : Queued s v buffer′ table′ starts′
-  pub ends : stop ≡ endOf (s .epsilon) buffer′
-  pub buffer-is : buffer′ ≡ overlay (encodeFrames (heardAll s v t batch buffer .queue)) buffer
-  pub queue : held (s .epsilon) buffer′ ≡ heardAll s v t batch buffer .queue
-  pub numbers : verdicts′ ≡ overlay (heardAll s v t batch buffer .verdicts) verdicts
-  pub counted : count ≡ takenCount (heardAll s v t batch buffer .verdicts)
+  pub extent : Extent (s .epsilon) buffer′ count stop
+  pub buffer-is : buffer′ ≡ overlay (encodeFrames (heardAll s v batch buffer .queue)) buffer
+  pub queue : held (s .epsilon) buffer′ ≡ heardAll s v batch buffer .queue
+  pub numbers : verdicts′ ≡ overlay (heardAll s v batch buffer .verdicts) verdicts
+  pub taken-is : took ≡ takenCount (heardAll s v batch buffer .verdicts)
+
+-- what goes into the stamp, by the verdicts
+pub record HeardStamp (s : Setup) (v : ℕ) (t : Timestamp) (batch buffer : List ℕ) (t′ : Timestamp) : Type 0 where
+  pub stamp : t′ ≡ widened (absorbAll s v (trimmed (s .epsilon) t) (batchEntries batch) (heardAll s v batch buffer .verdicts))
+
+-- ---- the opening
 
 -- 01, tick 1 and 2: the tables judged, and the stamp with which hearing starts
-unfoldable pub stampSound : Setup → ℕ → Timestamp → Bool
-stampSound s v t = soundTables (s .n) (s .epsilon) (s .modulus) v (trimmed (s .epsilon) t)
-
-unfoldable pub openedStamp : Setup → ℕ → Timestamp → Timestamp
-openedStamp s v t = cond (stampSound s v t) (step v (trimmed (s .epsilon) t)) (replaced (s .epsilon) v)
-
 pub record StampOpened (s : Setup) (v : ℕ) (t t′ : Timestamp) (repair : ℕ) : Type 0 where
-  pub stamp : t′ ≡ widened (openedStamp s v t)
-  pub repaired : repair ≡ cond (stampSound s v t) 0 1
+  pub stamp : t′ ≡ widened (openingStamp s v t)
+  pub repaired : repair ≡ cond (tablesSound s v t) 0 1
 
 -- 01, tick 1: the queue judged, and emptied if it is unsound
 unfoldable pub openedBuffer : Setup → ℕ → List ℕ → List ℕ
 openedBuffer s v buffer = cond (soundHoldback s v buffer) buffer (encodeHoldback (length buffer) [])
 
-pub record QueueOpened (s : Setup) (v : ℕ) (buffer : List ℕ) (repair stop : ℕ) (buffer′ table′ starts′ : List ℕ) : Type 0 where
+pub record QueueOpened (s : Setup) (v : ℕ) (buffer : List ℕ) (repair count stop : ℕ) (buffer′ table′ starts′ : List ℕ) : Type 0 where
   pub repaired : repair ≡ cond (soundHoldback s v buffer) 0 2
   pub queued : Queued s v buffer′ table′ starts′
-  pub ends : stop ≡ endOf (s .epsilon) buffer′
+  pub extent : Extent (s .epsilon) buffer′ count stop
   pub buffer-is : buffer′ ≡ openedBuffer s v buffer
-  pub queue : held (s .epsilon) buffer′ ≡ openedQueue s v buffer
+  pub queue : held (s .epsilon) buffer′ ≡ openingQueue s v buffer
 
--- what the first three steps ask, of a call that has passed 1 and 2
+-- ---- the first three steps
+
+-- what they ask, of a call that has passed 1 and 2
 pub record Attending (s : Setup) (batch buffer verdicts : List ℕ) : Type 0 where
   pub size : length buffer ≡ holdbackSize s
   pub exact : exactBatch batch ≡ true
-  pub room : 255 ≤ length verdicts
+  pub room : verdictLength ≤ length verdicts
 
--- what they start from, and what they leave
-abbrev pub openedHeard : Setup → ℕ → Timestamp → List ℕ → Heard
-openedHeard s v t buffer = record { stamp = openedStamp s v t; queue = openedQueue s v buffer; verdicts = [] }
+-- what they leave: the queue and the verdicts
+abbrev pub listenedAll : Setup → ℕ → List ℕ → List ℕ → Heard
+listenedAll s v batch buffer = heardWith s v (openingQueue s v buffer) batch
 
-abbrev pub listenedAll : Setup → ℕ → Timestamp → List ℕ → List ℕ → Heard
-listenedAll s v t batch buffer = hear s v (openedHeard s v t buffer) (batchEntries batch)
-
-pub record ListenedAll (s : Setup) (v : ℕ) (t : Timestamp) (batch buffer verdicts : List ℕ) (t′ : Timestamp) (repair count stop : ℕ) (buffer′ verdicts′ : List ℕ) : Type 0 where
-  pub stamp : t′ ≡ widened (listenedAll s v t batch buffer .stamp)
-  pub repaired : repair ≡ cond (stampSound s v t) 0 1 + cond (soundHoldback s v buffer) 0 2
+pub record ListenedQueue (s : Setup) (v : ℕ) (batch buffer verdicts : List ℕ) (took count stop : ℕ) (buffer′ verdicts′ : List ℕ) : Type 0 where
   pub size : length buffer′ ≡ holdbackSize s
   pub sound : soundHoldback s v buffer′ ≡ true
-  pub ends : stop ≡ endOf (s .epsilon) buffer′
-  pub buffer-is : buffer′ ≡ overlay (encodeFrames (listenedAll s v t batch buffer .queue)) (openedBuffer s v buffer)
-  pub queue : held (s .epsilon) buffer′ ≡ listenedAll s v t batch buffer .queue
-  pub numbers : verdicts′ ≡ overlay (listenedAll s v t batch buffer .verdicts) verdicts
-  pub counted : count ≡ takenCount (listenedAll s v t batch buffer .verdicts)
+  pub extent : Extent (s .epsilon) buffer′ count stop
+  pub buffer-is : buffer′ ≡ overlay (encodeFrames (listenedAll s v batch buffer .queue)) (openedBuffer s v buffer)
+  pub queue : held (s .epsilon) buffer′ ≡ listenedAll s v batch buffer .queue
+  pub numbers : verdicts′ ≡ overlay (listenedAll s v batch buffer .verdicts) verdicts
+  pub taken-is : took ≡ takenCount (listenedAll s v batch buffer .verdicts)
 
--- 01, tick 5: the frame that is sent, if one is
-unfoldable pub sentBy : ℕ → ℕ → Timestamp → Bool → List ℕ → List ℕ
-sentBy epsilon own t send payload = cond send (encode (frameOf epsilon own t payload)) []
+-- and the stamp
+pub record ListenedStamp (s : Setup) (v : ℕ) (t : Timestamp) (batch buffer : List ℕ) (t′ : Timestamp) : Type 0 where
+  pub stamp : t′ ≡ widened (absorbAll s v (openingStamp s v t) (batchEntries batch) (listenedAll s v batch buffer .verdicts))
+
+-- ---- sending and delivering
+
+-- 01, tick 5: the bytes of the frame that is sent, if one is
+unfoldable pub bytesToSend : ℕ → ℕ → Timestamp → Bool → List ℕ → List ℕ
+bytesToSend epsilon own t send payload = cond send (encode (frameOf epsilon own t payload)) []
 
 pub record Sent (epsilon own : ℕ) (t : Timestamp) (send : Bool) (payload buffer : List ℕ) (size : ℕ) (buffer′ : List ℕ) : Type 0 where
-  pub long : size ≡ length (sentBy epsilon own t send payload)
-  pub bytes : buffer′ ≡ overlay (sentBy epsilon own t send payload) buffer
+  pub long : size ≡ length (bytesToSend epsilon own t send payload)
+  pub bytes : buffer′ ≡ overlay (bytesToSend epsilon own t send payload) buffer
 
 -- 01, tick 6: what delivering asks, and leaves
-pub record Closing (s : Setup) (v stop : ℕ) (buffer delivery : List ℕ) : Type 0 where
+pub record Closing (s : Setup) (v count stop : ℕ) (buffer delivery : List ℕ) : Type 0 where
   pub timed : Timed s v
   pub size : length buffer ≡ holdbackSize s
   pub sound : soundHoldback s v buffer ≡ true
-  pub ends : stop ≡ endOf (s .epsilon) buffer
+  pub extent : Extent (s .epsilon) buffer count stop
   pub room : holdbackSize s ≤ length delivery
 
 pub record Delivered (s : Setup) (v : ℕ) (buffer delivery : List ℕ) (count : ℕ) (buffer′ delivery′ : List ℕ) : Type 0 where
-  pub counted : count ≡ length (select (dueNow s v) (held (s .epsilon) buffer))
+  pub count-is : count ≡ length (select (dueNow s v) (held (s .epsilon) buffer))
   pub kept : buffer′ ≡ encodeHoldback (holdbackSize s) (select (λ f. not (dueNow s v f)) (held (s .epsilon) buffer))
   pub given : delivery′ ≡ overlay (encodeFrames (select (dueNow s v) (held (s .epsilon) buffer))) delivery

@@ -10,8 +10,9 @@ use Rattle.model.specs.Question.{Question}
 use Rattle.model.specs.Judge.{taken, refused, askLate, askEarly, askCounts}
 use Rattle.model.specs.Judge as judging
 use Rattle.model.specs.Tick.{Input}
-use Rattle.timestamp.specs.Views.{setupOf, stampOf}
-use Rattle.timestamp.specs.declared.limits.Setup.{Setup}
+use Rattle.setup.specs.Views.{setupOf}
+use Rattle.setup.specs.declared.limits.Setup.{Setup}
+use Rattle.timestamp.specs.Views.{stampOf}
 use Rattle.timestamp.specs.declared.stamp.Timestamp.{Timestamp}
 use Rattle.holdback.specs.Queue.{frameStart}
 use Rattle.holdback.specs.declared.change.Place.{Place}
@@ -19,10 +20,11 @@ use Rattle.node.specs.declared.verdict.Verdict.{Verdict}
 use Rattle.node.specs.declared.verdict.Verdict.the-variants.{Taken, Refused}
 
 -- the arguments of a call
-abbrev pub inputOf : Setup → ℕ → Timestamp → List ℕ → List ℕ → Bool → List ℕ → List ℕ → List ℕ → List ℕ → Input
-inputOf setup clock tables holdback batch send payload outgoing verdicts delivery =
+abbrev pub callInput : Setup → ℕ → ℕ → Timestamp → List ℕ → List ℕ → Bool → List ℕ → List ℕ → List ℕ → List ℕ → Input
+callInput setup own clock tables holdback batch send payload outgoing verdicts delivery =
     record {
       setup = setupOf setup;
+      own = own;
       clock = clock;
       tables = stampOf tables;
       holdback = holdback;

@@ -1,18 +1,21 @@
 // 01, "Of the call, in order": questions 1 to 6.
-use timestamp::Setup;
-use timestamp::holdback_length;
-use timestamp::in_limits;
-use timestamp::longest_frame;
+use setup::LONGEST_PAYLOAD;
+use setup::Setup;
+use setup::VERDICT_LENGTH;
+use setup::holdback_length;
+use setup::longest_frame;
+use setup::valid_for;
 ghost use mathlib.Core.Path.{_≡_};
 ghost use mathlib.Core.Bool.{Bool};
 ghost use Rattle.model.specs.Question.{firstNo};
 ghost use Rattle.model.specs.Tick.{callQuestions};
 ghost use Rattle.timestamp.specs.declared.stamp.Timestamp as stamps;
-ghost use Rattle.node.specs.Views.{inputOf};
+ghost use Rattle.node.specs.Views.{callInput};
 
 // The number of the first no, or 0. Neither the tables nor whether to send is asked about.
 pub fn check_call(
     setup: Setup,
+    own: u32,
     clock: usize,
     holdback: &[u8],
     batch: &[u8],
@@ -21,11 +24,11 @@ pub fn check_call(
     verdicts: &[u8],
     delivery: &[u8],
 ) -> u8
-    ensures { λ r. ⌜ ((tables : stamps.Timestamp) (send : Bool) → r ≡ firstNo (callQuestions (inputOf setup clock tables
+    ensures { λ r. ⌜ ((tables : stamps.Timestamp) (send : Bool) → r ≡ firstNo (callQuestions (callInput setup own clock tables
         (now (holdback .entry)) (now (batch .entry)) send (now (payload .entry)) (now (outgoing .entry))
         (now (verdicts .entry)) (now (delivery .entry))))) ⌝ }
 {
-    if !in_limits(setup) {
+    if !valid_for(setup, own) {
         return 1;
     }
     let epsilon = setup.epsilon as usize;
@@ -36,7 +39,7 @@ pub fn check_call(
     if holdback.len() != size {
         return 3;
     }
-    if 32 < payload.len() {
+    if LONGEST_PAYLOAD < payload.len() {
         return 4;
     }
     if !batch::exact(batch) {
@@ -45,7 +48,7 @@ pub fn check_call(
     if outgoing.len() < longest_frame(epsilon) {
         return 6;
     }
-    if verdicts.len() < 255 {
+    if verdicts.len() < VERDICT_LENGTH {
         return 6;
     }
     if delivery.len() < size {

@@ -1,4 +1,5 @@
-// 01, tick 3: "Each frame of the bundle is judged in turn".
+// 01, tick 3: "Each frame of the bundle is judged in turn". A taken frame goes on the queue, and its stamp into the own one: two
+// halves that know nothing of each other.
 use crate::questions::judge;
 use crate::verdict::Verdict;
 use crate::verdict::number_of;
@@ -12,40 +13,49 @@ use holdback::put;
 use holdback::reading_of;
 use holdback::shift_starts;
 use holdback::sum_place;
-use splice::two_at;
-use timestamp::Setup;
+use setup::Setup;
 use timestamp::Timestamp;
 ghost use mathlib.Core.Path.{_≡_};
-ghost use Rattle.timestamp.specs.Views.{setupOf, stampOf};
-ghost use Rattle.holdback.specs.Queue.{endOf};
-ghost use Rattle.node.specs.States.{Timed, Queued, Taking, Placing, Took, Listening, HeardAll};
+ghost use Rattle.model.specs.Timestamp.{trimmed, widened};
+ghost use Rattle.model.specs.Frame.{decode};
+ghost use Rattle.model.specs.Judge.{absorbBy};
+ghost use Rattle.setup.specs.Views.{setupOf};
+ghost use Rattle.timestamp.specs.Views.{stampOf};
+ghost use Rattle.node.specs.States.{Timed, Readable, Queued, Extent, Taking, Enqueued, Listening, HeardQueue, HeardStamp};
 
-// "A taken frame goes on the shelf, and c and each count become the larger of own and frame's". Its origin is marked,
-// and the starts of the larger sums move.
-fn take(
+// "A taken frame goes on the shelf". Its origin is marked, and the starts of the larger sums move. The queue has `count` frames,
+// which end at `end`.
+fn enqueue(
     setup: Setup,
     clock: usize,
-    stamp: Timestamp,
     place: Place,
+    count: usize,
     end: usize,
     s: &[u8],
     holdback: &mut [u8],
     seen: &mut [u8],
     starts: &mut [u32],
-) -> Timestamp
-    requires { ⌜ Taking (setupOf setup) clock (now holdback) (place .index) (now s) ⌝ }
-    requires { ⌜ Placing (setup .epsilon) (now holdback) (place .index) (place .at) end ⌝ }
+)
+    requires { ⌜ Taking (setupOf setup) clock (now holdback) (place .index) (place .at) (now s) ⌝ }
     requires { ⌜ Queued (setupOf setup) clock (now holdback) (now seen) (now starts) ⌝ }
-    ensures { λ r. ⌜ Took (setupOf setup) clock (stampOf stamp) (place .index) (now (s .entry)) (now (holdback .entry))
-        (stampOf r) (now (holdback .exit)) (now (seen .exit)) (now (starts .exit)) ⌝ }
+    requires { ⌜ Extent (setup .epsilon) (now holdback) count end ⌝ }
+    ensures { λ _. ⌜ Enqueued (setupOf setup) clock (place .index) (now (s .entry)) (now (holdback .entry)) count end
+        (now (holdback .exit)) (now (seen .exit)) (now (starts .exit)) ⌝ }
 {
-    let epsilon = setup.epsilon as usize;
-    let modulus = setup.modulus as usize;
-    let count = two_at(holdback, 0);
-    put(epsilon, holdback, count, end, place, s);
+    put(setup.epsilon as usize, holdback, count, end, place, s);
     let k = sum_place(setup, clock, s);
     shift_starts(starts, k + 1, (START_UNIT + s.len()) as u32);
     mark(setup, clock, s, seen);
+}
+
+// "c and each count become the larger of own and frame's, both placed relative to v".
+fn absorb_frame(setup: Setup, clock: usize, stamp: Timestamp, s: &[u8]) -> Timestamp
+    requires { ⌜ Readable (setupOf setup) clock (now s) ⌝ }
+    ensures { λ r. ⌜ stampOf r
+        ≡ widened (absorbBy 0 (setupOf setup) clock (decode (setup .epsilon) (now (s .entry))) (trimmed (setup .epsilon) (stampOf stamp))) ⌝ }
+{
+    let epsilon = setup.epsilon as usize;
+    let modulus = setup.modulus as usize;
     let reading = reading_of(setup, clock, s);
     let other = stamp_of(epsilon, s);
     stamp.absorb(epsilon, modulus, reading, other)
@@ -56,17 +66,20 @@ pub struct Heard {
     pub stamp: Timestamp,
     // how many frames were taken
     pub taken: usize,
-    // where the queue's frames end
+    // how many frames the queue has
+    pub count: usize,
+    // where they end
     pub end: usize,
 }
 
 // The hearing loop. The batch's walker says where each entry stands. A verdict is taken apart for its place; of a refused
-// frame the number is recorded, and it goes on. The queue's frames end at `end`, and a taken one moves that by its length.
+// frame the number is recorded, and it goes on. A taken one is one frame more for the queue, and moves its end by the frame's length.
 pub fn hear(
     setup: Setup,
     clock: usize,
     stamp: Timestamp,
     batch: &[u8],
+    count: usize,
     end: usize,
     holdback: &mut [u8],
     seen: &mut [u8],
@@ -75,37 +88,42 @@ pub fn hear(
 ) -> Heard
     requires { ⌜ Timed (setupOf setup) clock ⌝ }
     requires { ⌜ Queued (setupOf setup) clock (now holdback) (now seen) (now starts) ⌝ }
-    requires { ⌜ end ≡ endOf (setup .epsilon) (now holdback) ⌝ }
+    requires { ⌜ Extent (setup .epsilon) (now holdback) count end ⌝ }
     requires { ⌜ Listening (setup .epsilon) (stampOf stamp) (now batch) (now verdicts) ⌝ }
-    ensures { λ r. ⌜ HeardAll (setupOf setup) clock (stampOf stamp) (now (batch .entry)) (now (holdback .entry)) (now (verdicts .entry))
-        (stampOf (r .stamp)) (r .taken) (r .end) (now (holdback .exit)) (now (seen .exit)) (now (starts .exit)) (now (verdicts .exit)) ⌝ }
+    ensures { λ r. ⌜ HeardQueue (setupOf setup) clock (now (batch .entry)) (now (holdback .entry)) (now (verdicts .entry))
+        (r .taken) (r .count) (r .end) (now (holdback .exit)) (now (seen .exit)) (now (starts .exit)) (now (verdicts .exit)) ⌝ }
+    ensures { λ r. ⌜ HeardStamp (setupOf setup) clock (stampOf stamp) (now (batch .entry)) (now (holdback .entry)) (stampOf (r .stamp)) ⌝ }
 {
-    let count = count_of(batch);
-    let mut own = stamp;
+    let entries = count_of(batch);
+    let mut absorbed = stamp;
     let mut taken = 0;
+    let mut held = count;
     let mut stop = end;
     let mut at = 1;
     let mut i = 0;
-    while i < count {
+    while i < entries {
         let step = walk_step(batch, at);
         let start = step.start;
         at = step.end;
         let s = &batch[start..at];
-        let verdict = judge(setup, clock, holdback, seen, starts, s);
+        let verdict = judge(setup, clock, holdback, held, seen, starts, s);
         let Verdict::Taken(place) = verdict else {
             verdicts[i] = number_of(verdict);
             i += 1;
             continue;
         };
-        own = take(setup, clock, own, place, stop, s, holdback, seen, starts);
+        enqueue(setup, clock, place, held, stop, s, holdback, seen, starts);
+        absorbed = absorb_frame(setup, clock, absorbed, s);
+        held += 1;
         stop += s.len();
         verdicts[i] = 0;
         taken += 1;
         i += 1;
     }
     Heard {
-        stamp: own,
+        stamp: absorbed,
         taken,
+        count: held,
         end: stop,
     }
 }

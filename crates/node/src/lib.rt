@@ -7,9 +7,5 @@ mod sending;
 mod ticking;
 mod verdict;
 
-pub use call::check_call;
-pub use questions::judge;
 pub use ticking::Answer;
 pub use ticking::tick;
-pub use verdict::Verdict;
-pub use verdict::number_of;

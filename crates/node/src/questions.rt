@@ -2,19 +2,19 @@
 use crate::verdict::Verdict;
 use frame::c_of;
 use frame::check;
+use frame::counts_part;
 use holdback::place_for;
 use holdback::reading_of;
 use holdback::repeats;
-use splice::two_at;
-use timestamp::Setup;
+use setup::Setup;
+use setup::depth;
 use timestamp::counts_at_most;
-use timestamp::depth;
 ghost use mathlib.Core.Path.{_≡_};
-ghost use Rattle.model.specs.Frame.{decode};
+ghost use Rattle.model.specs.Frame.{twoAt, decode};
 ghost use Rattle.model.specs.Question.{firstNo};
 ghost use Rattle.model.specs.Holdback.{held};
 ghost use Rattle.model.specs.Judge as model;
-ghost use Rattle.timestamp.specs.Views.{setupOf};
+ghost use Rattle.setup.specs.Views.{setupOf};
 ghost use Rattle.node.specs.Views.{verdictOf, Located, timeQuestions};
 ghost use Rattle.node.specs.States.{Timed, Readable, Queued};
 
@@ -32,26 +32,29 @@ pub fn check_time(setup: Setup, clock: usize, s: &[u8]) -> u8
     if modulus + (epsilon - 1) < reading + c_of(s) {
         return 14;
     }
+    let counts = counts_part(epsilon, s);
     let from = modulus + epsilon - reading;
-    if !counts_at_most(s, 6 + from, 6 + 2 * epsilon, setup.n as usize - 1) {
+    if !counts_at_most(counts, from, counts.len(), setup.n as usize - 1) {
         return 15;
     }
     0
 }
 
-// One frame judged: the first no's number, or its place in the queue, and where that stands. The tables of origins and of starts are
-// those of the queue's frames.
+// One frame judged: the first no's number, or its place in the queue, and where that stands. The queue has `count` frames, and
+// the tables of origins and of starts are those of its frames.
 pub fn judge(
     setup: Setup,
     clock: usize,
     holdback: &[u8],
+    count: usize,
     seen: &[u8],
     starts: &[u32],
     s: &[u8],
 ) -> Verdict
     requires { ⌜ Timed (setupOf setup) clock ⌝ }
     requires { ⌜ Queued (setupOf setup) clock (now holdback) (now seen) (now starts) ⌝ }
-    ensures { λ r. ⌜ verdictOf r ≡ model.judge (setupOf setup) clock (held (setup .epsilon) (now (holdback .entry))) (now (s .entry)) ⌝ }
+    requires { ⌜ count ≡ twoAt (now holdback) 0 ⌝ }
+    ensures { λ r. ⌜ verdictOf r ≡ model.judge (setupOf setup) clock (model.judgeQuestions (setupOf setup) clock) (held (setup .epsilon) (now (holdback .entry))) (now (s .entry)) ⌝ }
     ensures { λ r. ⌜ Located (setup .epsilon) (now (holdback .entry)) r ⌝ }
 {
     let form = check(setup, s);
@@ -65,7 +68,6 @@ pub fn judge(
     if repeats(setup, clock, s, seen) {
         return Verdict::Refused(16);
     }
-    let count = two_at(holdback, 0);
     if depth(
         setup.n as usize,
         setup.epsilon as usize,

@@ -2,11 +2,10 @@
 use holdback::cut_due;
 use holdback::empty;
 use holdback::sound;
-use splice::two_at;
-use timestamp::Setup;
+use setup::Setup;
 ghost use mathlib.Core.Path.{_≡_};
 ghost use lib.ListN.{replicate};
-ghost use Rattle.timestamp.specs.Views.{setupOf};
+ghost use Rattle.setup.specs.Views.{setupOf};
 ghost use Rattle.holdback.specs.Seen.{tableLength};
 ghost use Rattle.holdback.specs.Starts.{allFront};
 ghost use Rattle.node.specs.States.{Timed, Stored, Closing, QueueOpened, Delivered};
@@ -15,7 +14,9 @@ ghost use Rattle.node.specs.States.{Timed, Stored, Closing, QueueOpened,
 pub struct OpenedQueue {
     // 2 where it was emptied
     pub repair: u8,
-    // where its frames end
+    // how many frames it has
+    pub count: usize,
+    // where they end
     pub end: usize,
 }
 
@@ -31,30 +32,35 @@ pub fn open_queue(
     requires { ⌜ Timed (setupOf setup) clock ⌝ }
     requires { ⌜ Stored (setupOf setup) (now holdback) ⌝ }
     requires { ⌜ (now seen ≡ replicate tableLength 0) × (now starts ≡ allFront) ⌝ }
-    ensures { λ r. ⌜ QueueOpened (setupOf setup) clock (now (holdback .entry)) (r .repair) (r .end) (now (holdback .exit)) (now (seen .exit)) (now (starts .exit)) ⌝ }
+    ensures { λ r. ⌜ QueueOpened (setupOf setup) clock (now (holdback .entry)) (r .repair) (r .count) (r .end) (now (holdback .exit)) (now (seen .exit)) (now (starts .exit)) ⌝ }
 {
     let walk = sound(setup, clock, holdback, seen, starts);
     if walk.sound {
         return OpenedQueue {
             repair: 0,
+            count: walk.count,
             end: walk.end,
         };
     }
     empty(holdback);
-    OpenedQueue { repair: 2, end: 2 }
+    OpenedQueue {
+        repair: 2,
+        count: walk.count,
+        end: walk.end,
+    }
 }
 
 // 01, tick 6: every frame that is due "is handed out, in order, and leaves the shelf". Answers how many.
 pub fn deliver(
     setup: Setup,
     clock: usize,
+    count: usize,
     end: usize,
     holdback: &mut [u8],
     delivery: &mut [u8],
 ) -> usize
-    requires { ⌜ Closing (setupOf setup) clock end (now holdback) (now delivery) ⌝ }
+    requires { ⌜ Closing (setupOf setup) clock count end (now holdback) (now delivery) ⌝ }
     ensures { λ r. ⌜ Delivered (setupOf setup) clock (now (holdback .entry)) (now (delivery .entry)) r (now (holdback .exit)) (now (delivery .exit)) ⌝ }
 {
-    let count = two_at(holdback, 0);
     cut_due(setup, clock, holdback, count, end, delivery)
 }

@@ -1,6 +1,6 @@
 // 01, tick 5: "If a ticket is to be sent, the frame carries this stamp".
 use frame::lay;
-use timestamp::Setup;
+use setup::Setup;
 use timestamp::Timestamp;
 ghost use Rattle.timestamp.specs.Views.{stampOf};
 ghost use Rattle.frame.specs.Lay.{Room};
@@ -9,20 +9,21 @@ ghost use Rattle.node.specs.States.{Sent};
 // Lays the frame down in the outgoing buffer, if one is to be sent. Answers its length, 0 if none.
 pub fn send_frame(
     setup: Setup,
+    own: u32,
     stamp: Timestamp,
     send: bool,
     payload: &[u8],
     outgoing: &mut [u8],
 ) -> usize
-    requires { ⌜ Room (setup .epsilon) (setup .own) (stampOf stamp) (now payload) (now outgoing) ⌝ }
-    ensures { λ r. ⌜ Sent (setup .epsilon) (setup .own) (stampOf stamp) send (now (payload .entry)) (now (outgoing .entry)) r (now (outgoing .exit)) ⌝ }
+    requires { ⌜ Room (setup .epsilon) own (stampOf stamp) (now payload) (now outgoing) ⌝ }
+    ensures { λ r. ⌜ Sent (setup .epsilon) own (stampOf stamp) send (now (payload .entry)) (now (outgoing .entry)) r (now (outgoing .exit)) ⌝ }
 {
     if !send {
         return 0;
     }
     lay(
         setup.epsilon as usize,
-        setup.own as usize,
+        own as usize,
         stamp,
         payload,
         outgoing,

@@ -7,15 +7,16 @@ use crate::sending::send_frame;
 use holdback::FRONT;
 use holdback::START_PLACES;
 use holdback::TABLE_LENGTH;
-use timestamp::Setup;
+use setup::Setup;
 use timestamp::Timestamp;
 ghost use mathlib.Core.Path.{_≡_};
 ghost use Rattle.model.specs.Question.{firstNo};
 ghost use Rattle.model.specs.Tick as model;
-ghost use Rattle.timestamp.specs.Views.{setupOf, stampOf};
-ghost use Rattle.node.specs.Views.{inputOf};
-ghost use Rattle.node.specs.Answers.{outputOf};
-ghost use Rattle.node.specs.States.{Timed, StampOpened, Attending, ListenedAll};
+ghost use Rattle.setup.specs.Views.{setupOf};
+ghost use Rattle.timestamp.specs.Views.{stampOf};
+ghost use Rattle.node.specs.Views.{callInput};
+ghost use Rattle.node.specs.Answers.{callOutput};
+ghost use Rattle.node.specs.States.{Timed, StampOpened, Attending, ListenedQueue, ListenedStamp};
 
 // The stamp with which hearing starts, and its share of the repair.
 pub struct Opening {
@@ -45,7 +46,9 @@ pub struct Listened {
     pub stamp: Timestamp,
     pub repair: u8,
     pub taken: usize,
-    // where the queue's frames end
+    // how many frames the queue has
+    pub count: usize,
+    // where they end
     pub end: usize,
 }
 
@@ -60,31 +63,36 @@ fn listen(
 ) -> Listened
     requires { ⌜ Timed (setupOf setup) clock ⌝ }
     requires { ⌜ Attending (setupOf setup) (now batch) (now holdback) (now verdicts) ⌝ }
-    ensures { λ r. ⌜ ListenedAll (setupOf setup) clock (stampOf tables) (now (batch .entry)) (now (holdback .entry)) (now (verdicts .entry))
-        (stampOf (r .stamp)) (r .repair) (r .taken) (r .end) (now (holdback .exit)) (now (verdicts .exit)) ⌝ }
+    ensures { λ r. ⌜ r .repair ≡ model.repairOf (setupOf setup) clock (stampOf tables) (now (holdback .entry)) ⌝ }
+    ensures { λ r. ⌜ ListenedQueue (setupOf setup) clock (now (batch .entry)) (now (holdback .entry)) (now (verdicts .entry))
+        (r .taken) (r .count) (r .end) (now (holdback .exit)) (now (verdicts .exit)) ⌝ }
+    ensures { λ r. ⌜ ListenedStamp (setupOf setup) clock (stampOf tables) (now (batch .entry)) (now (holdback .entry)) (stampOf (r .stamp)) ⌝ }
 {
     let mut seen = [0u8; TABLE_LENGTH];
     let mut starts = [FRONT; START_PLACES];
     let opening = open_stamp(setup, clock, tables);
     let opened = open_queue(setup, clock, holdback, &mut seen, &mut starts);
     let stamp = opening.stamp;
+    let count = opened.count;
     let end = opened.end;
     let heard = hear(
         setup,
         clock,
         stamp,
         batch,
+        count,
         end,
         holdback,
         &mut seen,
         &mut starts,
         verdicts,
     );
-    let own = heard.stamp;
+    let absorbed = heard.stamp;
     Listened {
-        stamp: own,
+        stamp: absorbed,
         repair: opening.repair + opened.repair,
         taken: heard.taken,
+        count: heard.count,
         end: heard.end,
     }
 }
@@ -104,6 +112,7 @@ pub struct Answer {
 // An accepted call.
 fn accept(
     setup: Setup,
+    own: u32,
     clock: usize,
     tables: Timestamp,
     holdback: &mut [u8],
@@ -114,17 +123,24 @@ fn accept(
     verdicts: &mut [u8],
     delivery: &mut [u8],
 ) -> Answer
-    requires { ⌜ firstNo (model.callQuestions (inputOf setup clock tables (now holdback) (now batch) send (now payload)
+    requires { ⌜ firstNo (model.callQuestions (callInput setup own clock tables (now holdback) (now batch) send (now payload)
         (now outgoing) (now verdicts) (now delivery))) ≡ 0 ⌝ }
-    ensures { λ r. ⌜ outputOf r (now (holdback .exit)) (now (outgoing .exit)) (now (verdicts .exit)) (now (delivery .exit))
-        ≡ model.tick (inputOf setup clock tables (now (holdback .entry)) (now (batch .entry)) send (now (payload .entry))
+    ensures { λ r. ⌜ callOutput r (now (holdback .exit)) (now (outgoing .exit)) (now (verdicts .exit)) (now (delivery .exit))
+        ≡ model.tick (callInput setup own clock tables (now (holdback .entry)) (now (batch .entry)) send (now (payload .entry))
         (now (outgoing .entry)) (now (verdicts .entry)) (now (delivery .entry))) ⌝ }
 {
     let listened = listen(setup, clock, tables, batch, holdback, verdicts);
-    let own = listened.stamp;
-    let stamp = own.count_own(setup.epsilon as usize, clock);
-    let sent = send_frame(setup, stamp, send, payload, outgoing);
-    let delivered = deliver(setup, clock, listened.end, holdback, delivery);
+    let absorbed = listened.stamp;
+    let stamp = absorbed.count_own(setup.epsilon as usize, clock);
+    let sent = send_frame(setup, own, stamp, send, payload, outgoing);
+    let delivered = deliver(
+        setup,
+        clock,
+        listened.count,
+        listened.end,
+        holdback,
+        delivery,
+    );
     Answer {
         number: 0,
         tables: stamp,
@@ -138,6 +154,7 @@ fn accept(
 // The tick. Any arguments get an answer; a refused call keeps its tables and all buffers.
 pub fn tick(
     setup: Setup,
+    own: u32,
     clock: usize,
     tables: Timestamp,
     holdback: &mut [u8],
@@ -148,12 +165,13 @@ pub fn tick(
     verdicts: &mut [u8],
     delivery: &mut [u8],
 ) -> Answer
-    ensures { λ r. ⌜ outputOf r (now (holdback .exit)) (now (outgoing .exit)) (now (verdicts .exit)) (now (delivery .exit))
-        ≡ model.tick (inputOf setup clock tables (now (holdback .entry)) (now (batch .entry)) send (now (payload .entry))
+    ensures { λ r. ⌜ callOutput r (now (holdback .exit)) (now (outgoing .exit)) (now (verdicts .exit)) (now (delivery .exit))
+        ≡ model.tick (callInput setup own clock tables (now (holdback .entry)) (now (batch .entry)) send (now (payload .entry))
         (now (outgoing .entry)) (now (verdicts .entry)) (now (delivery .entry))) ⌝ }
 {
     let number = check_call(
         setup,
+        own,
         clock,
         holdback,
         batch,
@@ -174,6 +192,7 @@ pub fn tick(
     }
     accept(
         setup,
+        own,
         clock,
         tables,
         holdback,

@@ -20,7 +20,8 @@ use Rattle.lemmas.proofs.OneTick.{Accepted, accepted-call, hearing-end, deliver
 use Rattle.trace.specs.Text.{payloadText, giveLine, giveLines, tickLine, tickLines, linesOf}
 use Rattle.trace.proofs.Numerals.{digitCount-le, digitCount-most}
 use Rattle.trace.proofs.Putting.{length-tick, length-give, length-hex, payload-empty, payload-hex}
-use Rattle.replay.specs.Playing.{Ready, textRoom}
+use Rattle.trace.specs.Trace.{largestHoldback}
+use Rattle.replay.specs.Playing.{textRoom}
 
 payload-short : (payload : List ℕ) → length payload ≤ 32 → length (payloadText payload) ≤ 64
 payload-short payload h =
@@ -61,19 +62,19 @@ delivered-few i a =
     omega (
       arith,
       select-length-le (dueNow (i .setup) (i .clock)) (heardOf i .queue),
-      queue-room (i .setup) (i .clock) (heardOf i .queue) (a .limits) (a .clock-below) (hearing-end i a .queue),
+      queue-room (i .setup) (i .clock) (heardOf i .queue) (a .limits) (a .clock-below) (hearing-end i a),
     )
 
-gives-short : (i : Input) → Accepted i → Ready (i .setup) → length (giveLines (i .setup .epsilon) (tick i .delivery)) ≤ 126242
+gives-short : (i : Input) → Accepted i → holdbackSize (i .setup) ≤ largestHoldback → length (giveLines (i .setup .epsilon) (tick i .delivery)) ≤ 126242
 unfolding giveLines
-gives-short i a ready =
+gives-short i a small =
     let lines = ap (λ (q : List Frame). length (joined giveLine q)) (delivered-are i a) in
     omega (
       arith,
       lines,
       length-joined-le giveLine (deliveredOf i) 79 (λ f m. give-short (i .setup) f (a .limits) (delivered-frames i a f m)),
       delivered-few i a,
-      depth-few (i .setup) (a .limits) (ready .small),
+      depth-few (i .setup) (a .limits) small,
     )
 
 -- figures of 64 bits
@@ -84,9 +85,9 @@ pub record Figured (clock : ℕ) (a : Answer) : Type 0 where
   pub taken-small : a .taken < 2 ^ 64
   pub delivered-small : a .delivered < 2 ^ 64
 
-pub lines-fit : (i : Input) → tick i .answer .number ≡ 0 → Ready (i .setup) → Figured (i .clock) (tick i .answer) → length (linesOf i (tick i)) ≤ textRoom
+pub lines-fit : (i : Input) → tick i .answer .number ≡ 0 → holdbackSize (i .setup) ≤ largestHoldback → Figured (i .clock) (tick i .answer) → length (linesOf i (tick i)) ≤ textRoom
 unfolding linesOf tickLines
-lines-fit i e ready small =
+lines-fit i e few small =
     let a = tick i .answer in
     let line = tickLine (i .clock) (a .repair) (a .tables .c) (a .taken) (a .sent) (a .delivered) in
     omega (
@@ -98,5 +99,5 @@ lines-fit i e ready small =
       digitCount-most (a .tables .c) (small .c-small),
       digitCount-most (a .taken) (small .taken-small),
       digitCount-most (a .delivered) (small .delivered-small),
-      gives-short i (accepted-call i e) ready,
+      gives-short i (accepted-call i e) few,
     )

@@ -2,19 +2,19 @@
 use Prim.Native.Nat.{ℕ, zero, suc, _+_, _*_, _≤_}
 use native.Mathlib.Omega.{arith}
 use mathlib.Core.Path.{_≡_, refl, ap}
-use mathlib.Core.Bool.{Bool, true, false, cond}
+use mathlib.Core.Bool.{Bool, true, false, _&&_, cond}
 use mathlib.Core.List.{List, [], _∷_}
 use Rattle.laws.specs.Lists.{any}
 use Rattle.laws.proofs.Numbers.{clash, and-intro, or-right}
-use Rattle.model.specs.Setup.{Setup, inLimits, width, longestFrame}
+use Rattle.model.specs.Setup.{inLimits, isMember, width, longestFrame}
 use Rattle.model.specs.Timestamp.{Timestamp}
 use Rattle.model.specs.Question.{Question, ask, firstNo, askSetup}
 use Rattle.model.specs.Codec.{askPayload}
 use Rattle.model.specs.Tick.{Input, Output, holdbackSize, roomy, callQuestions, refusal, acceptance, tick}
-use Rattle.lemmas.proofs.Questions.{first-yes, other-yes, limits-from}
+use Rattle.lemmas.proofs.Questions.{first-yes, other-yes, setup-from}
 use Rattle.lemmas.proofs.OneTick.{tick-by}
 use Rattle.trace.specs.Text.{textEnd}
-use Rattle.trace.specs.Trace.{traceSetup, setupLength, setupNumber, tickNumber, largestHoldback}
+use Rattle.trace.specs.Trace.{NodeSetup, isValid, traceSetup, setupLength, setupNumber, countNumber, endNumber, tickNumber, largestHoldback}
 use Rattle.trace.specs.Replay.{callOf, calledTurn, turnBy, turn}
 use borrow.Author.Tests.{leb-true, le-leb, eq-eqb}
 use lib.Dec.{leb, eqb}
@@ -38,6 +38,15 @@ setup-among bytes =
     first-among replayNumbers _ 5 _ (λ _. refl)
     (first-among replayNumbers _ 1 _ (λ _. refl) (first-among replayNumbers _ 1 _ (λ _. refl) (ap (among replayNumbers) none-no)))
 
+-- a count of ticks, and what follows the last tick
+pub count-among : (bytes : List ℕ) → among runNumbers (countNumber bytes) ≡ true
+unfolding among any countNumber
+count-among bytes = first-among runNumbers _ 5 _ (λ _. refl) (ap (among runNumbers) none-no)
+
+pub end-among : (more : ℕ) → among runNumbers (endNumber more) ≡ true
+unfolding among any endNumber
+end-among more = first-among runNumbers _ 5 _ (λ _. refl) (ap (among runNumbers) none-no)
+
 -- what the ticks stop with, the whole trace stops with
 pub run-among : (x : ℕ) → among runNumbers x ≡ true → among replayNumbers x ≡ true
 unfolding among any
@@ -48,14 +57,14 @@ pub setup-ready : (bytes : List ℕ) → setupNumber bytes ≡ 0 → Ready (trac
 unfolding setupNumber
 setup-ready bytes e =
     let e₁ = other-yes (leb setupLength (length bytes)) 4 _ e in
-    let e₂ = other-yes (inLimits (traceSetup bytes)) 0 _ e₁ in
+    let e₂ = other-yes (isValid (traceSetup bytes)) 0 _ e₁ in
     record {
-      limits = first-yes (inLimits (traceSetup bytes)) 0 _ e₁;
-      small = leb-true (holdbackSize (traceSetup bytes)) largestHoldback (first-yes (leb (holdbackSize (traceSetup bytes)) largestHoldback) 0 _ e₂);
+      valid = first-yes (isValid (traceSetup bytes)) 0 _ e₁;
+      small = leb-true (holdbackSize (traceSetup bytes .setup)) largestHoldback (first-yes (leb (holdbackSize (traceSetup bytes .setup)) largestHoldback) 0 _ e₂);
     }
 
 -- of the questions of a call only 2, 4 and 5 are open
-call-among : (i : Input) → inLimits (i .setup) ≡ true → eqb (length (i .holdback)) (holdbackSize (i .setup)) ≡ true → roomy i ≡ true
+call-among : (i : Input) → (inLimits (i .setup) && isMember (i .setup) (i .own)) ≡ true → eqb (length (i .holdback)) (holdbackSize (i .setup)) ≡ true → roomy i ≡ true
     → among runNumbers (firstNo (callQuestions i)) ≡ true
 unfolding among any callQuestions askSetup askPayload
 call-among i limits size room =
@@ -75,13 +84,13 @@ answer-number i = go (firstNo (callQuestions i)) refl
     go zero e = ap (λ (o : Output). o .answer .number) (tick-by i zero e)
     go (suc k) e = ap (λ (o : Output). o .answer .number) (tick-by i (suc k) e)
 
-module _ (s : Setup) (tables : Timestamp) (holdback bytes : List ℕ) (ready : Ready s) (size : length holdback ≡ holdbackSize s) where
+module _ (s : NodeSetup) (tables : Timestamp) (holdback bytes : List ℕ) (ready : Ready s) (size : length holdback ≡ holdbackSize (s .setup)) where
   -- the buffers that are lent have room
   lent-room : roomy (callOf s tables holdback bytes) ≡ true
   unfolding roomy callOf longestFrame width
   lent-room =
-      let wide : 39 + 2 * s .epsilon ≤ 71 = omega (arith, limits-from s (ready .limits) .epsilon-most) in
-      and-intro (le-leb (39 + 2 * s .epsilon) 71 wide) (and-intro refl (le-leb (holdbackSize s) largestHoldback (ready .small)))
+      let wide : 39 + 2 * s .setup .epsilon ≤ 71 = omega (arith, setup-from (s .setup) (s .own) (ready .valid) .0 .epsilon-most) in
+      and-intro (le-leb (39 + 2 * s .setup .epsilon) 71 wide) (and-intro refl (le-leb (holdbackSize (s .setup)) largestHoldback (ready .small)))
 
   pub turn-among : among runNumbers (turn s tables holdback bytes .number) ≡ true
   unfolding among any turn calledTurn tickNumber callOf
@@ -91,7 +100,7 @@ module _ (s : Setup) (tables : Timestamp) (holdback bytes : List ℕ) (ready : R
       i = callOf s tables holdback bytes
 
       go : (k : ℕ) → among runNumbers k ≡ true → among runNumbers (turnBy k s tables holdback bytes .number) ≡ true
-      go zero h = rw (answer-number i) (call-among i (ready .limits) (eq-eqb (length holdback) (holdbackSize s) size) lent-room)
+      go zero h = rw (answer-number i) (call-among i (ready .valid) (eq-eqb (length holdback) (holdbackSize (s .setup)) size) lent-room)
       go (suc k) h = h
 
 -- where a line ends that was written into a buffer

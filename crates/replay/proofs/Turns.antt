@@ -10,21 +10,21 @@ use native.Mathlib.Nat.{zero-add}
 use borrow.Author.Tests.{le-leb}
 use Rattle.laws.specs.Lists.{overlay}
 use Rattle.splice.specs.Bytes.{pasted}
-use Rattle.model.specs.Setup.{Setup}
 use Rattle.model.specs.Timestamp.{Timestamp}
 use Rattle.model.specs.Tick.{Input, Output, holdbackSize, tick}
-use Rattle.trace.specs.Text.{tickLines, linesOf, written, textEnd}
-use Rattle.trace.specs.Trace.{clockOf, sendOf, batchOf, payloadOf, tickNumber}
-use Rattle.trace.specs.Replay.{Turn, callOf, textBy, calledTurn, turnBy, turn}
+use Rattle.trace.specs.Text.{tickLines, linesOf, textWritten, textEnd}
+use Rattle.trace.specs.Trace.{NodeSetup, clockOf, sendOf, batchOf, payloadOf, tickNumber}
+use Rattle.trace.specs.Replay.{Turn, callOf, textBy, calledTurn, turnBy, turn, tablesAt, turnAt}
 use Rattle.replay.specs.Playing.{Ready, Result, resultBy, textRoom, among, runNumbers}
 use Rattle.replay.proofs.Fits.{Figured, lines-fit}
 use Rattle.replay.proofs.Refusals.{turn-among}
 
 -- the arguments of the call, read from the bytes
-pub call-is : (s : Setup) (tables : Timestamp) (holdback bytes : List ℕ) {clock : ℕ} {send : Bool} {batch payload : List ℕ}
+pub call-is : (s : NodeSetup) (tables : Timestamp) (holdback bytes : List ℕ) {clock : ℕ} {send : Bool} {batch payload : List ℕ}
     → clock ≡ clockOf bytes → send ≡ sendOf bytes → batch ≡ batchOf bytes → payload ≡ payloadOf bytes
     → record {
-      setup = s;
+      setup = s .setup;
+      own = s .own;
       clock = clock;
       tables = tables;
       holdback = holdback;
@@ -39,7 +39,7 @@ pub call-is : (s : Setup) (tables : Timestamp) (holdback bytes : List ℕ) {cloc
 unfolding callOf
 call-is s tables holdback bytes c d b p = rw (c, d, b, p)
 
-module _ (s : Setup) (tables : Timestamp) (holdback bytes text : List ℕ) where
+module _ (s : NodeSetup) (tables : Timestamp) (holdback bytes text : List ℕ) where
   by-number : {k : ℕ} → k ≡ tickNumber bytes → turnBy k s tables holdback bytes ≡ turn s tables holdback bytes
   unfolding turn
   by-number e = ap (λ (m : ℕ). turnBy m s tables holdback bytes) e
@@ -69,15 +69,15 @@ module _ (s : Setup) (tables : Timestamp) (holdback bytes text : List ℕ) where
   -- an accepted one
   pub turn-played : (o : Output) (clock : ℕ) {size : ℕ} {lines : List ℕ} → Ready s → textRoom ≤ length text → 0 ≡ tickNumber bytes
       → o ≡ tick (callOf s tables holdback bytes) → o .answer .number ≡ 0 → clock ≡ clockOf bytes → Figured clock (o .answer)
-      → size ≡ textEnd text 0 (tickLines clock (o .answer .repair) (o .answer .tables .c) (o .answer .taken) (o .answer .sent) (o .answer .delivered) (s .epsilon) (o .delivery))
-      → lines ≡ written text 0 (tickLines clock (o .answer .repair) (o .answer .tables .c) (o .answer .taken) (o .answer .sent) (o .answer .delivered) (s .epsilon) (o .delivery))
+      → size ≡ textEnd text 0 (tickLines clock (o .answer .repair) (o .answer .tables .c) (o .answer .taken) (o .answer .sent) (o .answer .delivered) (s .setup .epsilon) (o .delivery))
+      → lines ≡ textWritten text 0 (tickLines clock (o .answer .repair) (o .answer .tables .c) (o .answer .taken) (o .answer .sent) (o .answer .delivered) (s .setup .epsilon) (o .delivery))
       → record { number = 0; tables = o .answer .tables; size = size; holdback = o .holdback; text = lines } ≡ resultBy (turn s tables holdback bytes) text
-  unfolding resultBy overlay written textEnd pasted callOf linesOf
+  unfolding resultBy overlay textWritten textEnd pasted callOf linesOf
   turn-played o clock {size} {lines} ready room e same number clock-is small ends bytes-are =
       let i : Input = callOf s tables holdback bytes in
       let all : List ℕ = linesOf i o in
       let figures : Figured (i .clock) (tick i .answer) = rw (← same, ← clock-is) small in
-      let fits : length all ≤ textRoom = rw same (lines-fit i (ap (λ (x : Output). x .answer .number) (sym same) ∙ number) ready figures) in
+      let fits : length all ≤ textRoom = rw same (lines-fit i (ap (λ (x : Output). x .answer .number) (sym same) ∙ number) (ready .small) figures) in
       let has-room : leb (0 + length all) (length text) ≡ true = le-leb (0 + length all) (length text) (omega arith) in
       let size-is : size ≡ length all = rw (clock-is, has-room) at ends ∙ zero-add (length all) in
       let lines-are : lines ≡ all ++ drop (length all) text = rw (clock-is, has-room) at bytes-are ∙ ap (λ (k : ℕ). all ++ drop k text) (zero-add (length all)) in
@@ -89,8 +89,8 @@ unfolding resultBy overlay
 result-within r t text e =
     omega (arith, ap (λ (x : Result). x .size) e, ap (λ (x : Result). length (x .text)) e, length-append (t .text) (drop (length (t .text)) text))
 
-pub result-among : (r : Result) (s : Setup) (tables : Timestamp) (holdback bytes text : List ℕ) → Ready s → length holdback ≡ holdbackSize s
-    → r ≡ resultBy (turn s tables holdback bytes) text → among runNumbers (r .number) ≡ true
-unfolding resultBy
-result-among r s tables holdback bytes text ready size e =
-    ap (λ (x : Result). among runNumbers (x .number)) e ∙ turn-among s tables holdback bytes ready size
+pub result-among : (i : ℕ) (r : Result) (s : NodeSetup) (tables : Timestamp) (holdback bytes text : List ℕ) → Ready s → length holdback ≡ holdbackSize (s .setup)
+    → r ≡ resultBy (turnAt i s tables holdback bytes) text → among runNumbers (r .number) ≡ true
+unfolding resultBy turnAt
+result-among i r s tables holdback bytes text ready size e =
+    ap (λ (x : Result). among runNumbers (x .number)) e ∙ turn-among s (tablesAt i s tables bytes) holdback bytes ready size

@@ -1,36 +1,38 @@
 // One tick of a trace: called, and its lines rendered.
 use node::tick;
-use timestamp::Setup;
+use setup::VERDICT_LENGTH;
 use timestamp::Timestamp;
-use trace::Figures;
+use trace::NodeSetup;
+use trace::TickFigures;
 use trace::batch_of;
 use trace::one_before;
 use trace::payload_of;
 use trace::put_lines;
 use trace::read_call;
 ghost use mathlib.Core.Path.{_≡_};
-ghost use mathlib.Core.Bool.{cond};
-ghost use lib.Dec.{eqb};
-ghost use Rattle.timestamp.specs.Views.{setupOf, stampOf};
-ghost use Rattle.trace.specs.Replay.{turn, freshBefore};
-ghost use Rattle.replay.specs.Playing.{Ready, Prepared, refusedBy, resultOf, resultBy};
+ghost use Prim.Native.Nat.{suc, _<_, _^_};
+ghost use Rattle.timestamp.specs.Views.{stampOf};
+ghost use Rattle.trace.specs.Views.{nodeSetupOf};
+ghost use Rattle.trace.specs.Replay.{tablesAt, turn, turnAt};
+ghost use Rattle.replay.specs.Playing.{Ready, Prepared, refusedBy, resultOf, playedOf, resultBy};
 
 // The tables with which tick `i` starts. 01: "It starts fresh one before the first clock", which is
 // read from the first tick's `bytes`; a later tick has those that the one before left.
-pub fn tables_at(i: usize, setup: Setup, tables: Timestamp, bytes: &[u8]) -> Timestamp
-    requires { ⌜ Ready (setupOf setup) ⌝ }
-    ensures { λ r. ⌜ stampOf r ≡ cond (eqb i 0) (freshBefore (setupOf setup) (now (bytes .entry))) (stampOf tables) ⌝ }
+fn tables_at(i: usize, node: NodeSetup, tables: Timestamp, bytes: &[u8]) -> Timestamp
+    requires { ⌜ Ready (nodeSetupOf node) ⌝ }
+    ensures { λ r. ⌜ stampOf r ≡ tablesAt i (nodeSetupOf node) (stampOf tables) (now (bytes .entry)) ⌝ }
 {
     if 0 < i {
         return tables;
     }
+    let setup = node.setup;
     let call = read_call(bytes);
     let clock = one_before(setup.modulus as usize, call.clock);
     Timestamp::fresh(setup.epsilon as usize, clock)
 }
 
 // What a tick comes to, beside the buffers.
-pub struct Played {
+struct Played {
     // 0, or the number of its refusal
     pub number: u8,
     pub tables: Timestamp,
@@ -50,26 +52,28 @@ fn refused(number: u8, tables: Timestamp) -> Played
 }
 
 // One tick, given by its `bytes`. Its lines are written at the start of `text`.
-pub fn play(
-    setup: Setup,
+fn play(
+    node: NodeSetup,
     tables: Timestamp,
     holdback: &mut [u8],
     bytes: &[u8],
     text: &mut [u8],
 ) -> Played
-    requires { ⌜ Prepared (setupOf setup) (now holdback) (now text) ⌝ }
+    requires { ⌜ Prepared (nodeSetupOf node) (now holdback) (now text) ⌝ }
     ensures { λ r. ⌜ resultOf r (now (holdback .exit)) (now (text .exit))
-        ≡ resultBy (turn (setupOf setup) (stampOf tables) (now (holdback .entry)) (now (bytes .entry))) (now (text .entry)) ⌝ }
+        ≡ resultBy (turn (nodeSetupOf node) (stampOf tables) (now (holdback .entry)) (now (bytes .entry))) (now (text .entry)) ⌝ }
 {
     let call = read_call(bytes);
     if call.number != 0 {
         return refused(call.number, tables);
     }
+    let setup = node.setup;
     let mut outgoing = [0u8; 71];
-    let mut verdicts = [0u8; 255];
+    let mut verdicts = [0u8; VERDICT_LENGTH];
     let mut delivery = [0u8; 65536];
     let answer = tick(
         setup,
+        node.own,
         call.clock,
         tables,
         holdback,
@@ -84,7 +88,7 @@ pub fn play(
     if answer.number != 0 {
         return refused(answer.number, after);
     }
-    let figures = Figures {
+    let figures = TickFigures {
         clock: call.clock,
         repair: answer.repair as usize,
         c: after.c,
@@ -97,5 +101,43 @@ pub fn play(
         number: 0,
         tables: after,
         size,
+    }
+}
+
+// The ticks of a trace so far.
+pub struct Progress {
+    // how many were played
+    pub ticks: usize,
+    // 0, or the number of the refusal at which they stopped
+    pub number: u8,
+    // what the latest left
+    pub tables: Timestamp,
+    // how many bytes its lines have
+    pub size: usize,
+}
+
+// The next tick, given by its `bytes`. Its lines are written at the start of `text`.
+pub fn play_next(
+    node: NodeSetup,
+    progress: Progress,
+    holdback: &mut [u8],
+    bytes: &[u8],
+    text: &mut [u8],
+) -> Progress
+    requires { ⌜ Prepared (nodeSetupOf node) (now holdback) (now text) ⌝ }
+    requires { ⌜ suc (progress .ticks) < 2 ^ 64 ⌝ }
+    ensures { λ r. ⌜ r .ticks ≡ suc (progress .ticks) ⌝ }
+    ensures { λ r. ⌜ resultOf (playedOf r) (now (holdback .exit)) (now (text .exit))
+        ≡ resultBy (turnAt (progress .ticks) (nodeSetupOf node) (stampOf (progress .tables)) (now (holdback .entry)) (now (bytes .entry))) (now (text .entry)) ⌝ }
+{
+    let before = progress.tables;
+    let start = tables_at(progress.ticks, node, before, bytes);
+    let played = play(node, start, holdback, bytes, text);
+    let tables = played.tables;
+    Progress {
+        ticks: progress.ticks + 1,
+        number: played.number,
+        tables,
+        size: played.size,
     }
 }

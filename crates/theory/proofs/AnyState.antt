@@ -1,22 +1,30 @@
 -- Demand 2 from any state: verdicts, figures and bounds of every accepted call.
 -- Assumes nothing.
-use Prim.Native.Nat.{ℕ, _+_, _%_}
+use Prim.Native.Nat.{ℕ, _+_}
 use native.Mathlib.Nat.{zero-add}
 use mathlib.Core.Path.{_≡_, ap, _∙_, sym}
-use mathlib.Core.Bool.{true}
+use mathlib.Core.Bool.{cond}
 use lib.ListN.{length, take}
 use Rattle.laws.specs.Lists.{overlay}
 use Rattle.laws.proofs.Lists.{take-overlay}
-use Rattle.model.specs.Timestamp.{Timestamp, trimmed, soundTables}
+use Rattle.model.specs.Timestamp.{trimmed, soundTables}
+use Rattle.model.specs.Holdback.{soundHoldback}
 use Rattle.model.specs.Batch.{batchEntries}
-use Rattle.model.specs.Tick.{Input, Output, heardOf, newStamp, deliveredOf, takenCount, acceptance, tick}
+use Rattle.model.specs.Tick.{Input, Output, tablesSound, repairOf, opening, heardOf, deliveredOf, takenCount, acceptance, tick}
 use Rattle.theory.specs.Demand2.{heardBefore, Demand2Any}
-use Rattle.lemmas.proofs.Counts.{trimmed-widened}
-use Rattle.lemmas.proofs.OneTick.{Accepted, accepted-call, opening, hear-length, new-sound, new-tables, shelf-sound, tables-are, verdicts-are, verdict-byte, sent-is, delivered-bytes, sent-bytes}
+use Rattle.lemmas.proofs.OneTick.{Accepted, accepted-call, hear-length, tables-next, shelf-sound, verdicts-are, verdict-byte, sent-is, delivered-bytes, sent-bytes}
 
 taken-is : (i : Input) → Accepted i → tick i .answer .taken ≡ takenCount (heardOf i .verdicts)
 unfolding acceptance
 taken-is i a = ap (λ (o : Output). o .answer .taken) (a .accepted)
+
+repair-is :
+    (i : Input) → Accepted i
+    → tick i .answer .repair
+    ≡ cond (soundTables (i .setup .n) (i .setup .epsilon) (i .setup .modulus) (i .clock) (trimmed (i .setup .epsilon) (i .tables))) 0 1
+    + cond (soundHoldback (i .setup) (i .clock) (i .holdback)) 0 2
+unfolding acceptance repairOf tablesSound
+repair-is i a = ap (λ (o : Output). o .answer .repair) (a .accepted)
 
 delivered-is : (i : Input) → Accepted i → tick i .answer .delivered ≡ length (deliveredOf i)
 unfolding acceptance
@@ -31,25 +39,18 @@ verdicts-front i a =
     (sym (hear-length (i .setup) (i .clock) (opening i) (batchEntries (i .batch)) ∙ zero-add (length (batchEntries (i .batch)))))
     ∙ take-overlay (heardOf i .verdicts) (i .verdicts))
 
-bounds-kept :
-    (i : Input) → Accepted i
-    → soundTables (i .setup .n) (i .setup .epsilon) (i .setup .modulus) ((i .clock + 1) % i .setup .modulus) (trimmed (i .setup .epsilon) (tick i .answer .tables)) ≡ true
-bounds-kept i a =
-    ap (λ (t : Timestamp). soundTables (i .setup .n) (i .setup .epsilon) (i .setup .modulus) ((i .clock + 1) % i .setup .modulus) t)
-    (ap (trimmed (i .setup .epsilon)) (tables-are i a) ∙ trimmed-widened (i .setup .epsilon) (newStamp i) (a .limits .epsilon-most) (new-sound i a .wide))
-    ∙ new-tables i a
-
 pub demand2-any : Demand2Any
-unfolding heardBefore
+unfolding heardBefore tablesSound
 demand2-any i h =
     let a = accepted-call i h in
     record {
       verdict = λ k entry e. verdict-byte i a k entry e;
+      repair = repair-is i a;
       taken = taken-is i a ∙ ap takenCount (sym (verdicts-front i a));
       delivered = delivered-is i a;
       delivery = delivered-bytes i a;
       sent = sent-is i a;
       outgoing = sent-bytes i a;
-      bounded = bounds-kept i a;
+      bounded = tables-next i a;
       boundedQueue = shelf-sound i a;
     }

@@ -2,25 +2,27 @@
 -- Assumes nothing.
 use Prim.Native.Nat.{ℕ, _+_, _-_, _≤_, _<_, Ordering·lt}
 use native.Mathlib.Omega.{arith}
-use mathlib.Core.Path.{_≡_, sym, _∙_}
+use mathlib.Core.Path.{_≡_, sym, _∙_, ap}
 use mathlib.Core.Logic.{inl, inr}
 use mathlib.Core.List.{List, _++_}
 use lib.ListN.{length, getD}
+use Rattle.laws.specs.Lists.{placedAt}
 use Rattle.laws.specs.Lex.{lexCompare}
 use Rattle.laws.proofs.Numbers.{lt-or-ge}
 use Rattle.laws.proofs.Lists.{getD-tab}
 use Rattle.laws.proofs.Lex.{lex-head-lt, lex-head-eq, lex-append, lex-dominated}
-use Rattle.model.specs.Timestamp.{Timestamp, countAt, sum}
+use Rattle.model.specs.Setup.{Setup}
+use Rattle.model.specs.Timestamp.{Timestamp, sum}
 use Rattle.model.specs.Frame.{Frame}
-use Rattle.model.specs.Order.{key, countsDown}
+use Rattle.model.specs.Order.{keyBy, key, countsDown}
 use Rattle.lemmas.proofs.Bounds.{Sound}
-use Rattle.lemmas.proofs.Counts.{count-index, length-down}
+use Rattle.lemmas.proofs.Counts.{count-index, length-down, down-counts}
 
 -- entry k of the counts of a key is for the clock k below the sum
-counts-down-at : (epsilon R : ℕ) (t : Timestamp) (k : ℕ) → k < epsilon → getD (countsDown epsilon t) k 0 ≡ countAt R (t .kn) (R + t .c + epsilon - k)
-unfolding countsDown
+counts-down-at : (epsilon R : ℕ) (t : Timestamp) (k : ℕ) → k < epsilon → getD (countsDown epsilon t) k 0 ≡ placedAt R (t .kn) (R + t .c + epsilon - k)
 counts-down-at epsilon R t k h =
-    getD-tab epsilon (λ k. getD (t .kn) (epsilon + t .c - k) 0) k 0 h
+    ap (λ (l : List ℕ). getD l k 0) (down-counts epsilon t)
+    ∙ getD-tab epsilon (λ k. placedAt 0 (t .kn) (epsilon + t .c - k)) k 0 h
     ∙ sym (count-index R (t .kn) (R + t .c + epsilon - k) (epsilon + t .c - k) (omega arith))
 
 -- lists of one length of which the first comes first, whatever follows
@@ -31,8 +33,8 @@ lex-append-lt a b c d e h = lex-append a b c d e ∙ rw h
 pub counts-down-first :
     (n epsilon R R′ : ℕ) (t t′ : Timestamp) → Sound n epsilon t → Sound n epsilon t′
     → R + t .c ≡ R′ + t′ .c
-    → ((w : ℕ) → R′ < w → countAt R (t .kn) w ≤ countAt R′ (t′ .kn) w)
-    → countAt R (t .kn) (R′ + epsilon) < countAt R′ (t′ .kn) (R′ + epsilon)
+    → ((w : ℕ) → R′ < w → placedAt R (t .kn) w ≤ placedAt R′ (t′ .kn) w)
+    → placedAt R (t .kn) (R′ + epsilon) < placedAt R′ (t′ .kn) (R′ + epsilon)
     → lexCompare (countsDown epsilon t) (countsDown epsilon t′) ≡ Ordering·lt
 counts-down-first n epsilon R R′ t t′ s s′ e le lt =
     let W : R + t .c + epsilon ≡ R′ + t′ .c + epsilon = omega arith in
@@ -43,19 +45,19 @@ counts-down-first n epsilon R R′ t t′ s s′ e le lt =
     (rw (counts-down-at epsilon R t (t′ .c) (s′ .close), counts-down-at epsilon R′ t′ (t′ .c) (s′ .close), W, at-own) lt)
 
 pub cause-first :
-    (n epsilon R R′ : ℕ) (f f′ : Frame) → Sound n epsilon (f .stamp) → Sound n epsilon (f′ .stamp)
+    (s : Setup) (R R′ : ℕ) (f f′ : Frame) → Sound (s .n) (s .epsilon) (f .stamp) → Sound (s .n) (s .epsilon) (f′ .stamp)
     → R + f .stamp .c ≤ R′ + f′ .stamp .c
-    → ((w : ℕ) → R′ < w → countAt R (f .stamp .kn) w ≤ countAt R′ (f′ .stamp .kn) w)
-    → countAt R (f .stamp .kn) (R′ + epsilon) < countAt R′ (f′ .stamp .kn) (R′ + epsilon)
-    → lexCompare (key epsilon R f) (key epsilon R′ f′) ≡ Ordering·lt
-unfolding key sum
-cause-first n epsilon R R′ f f′ s s′ e le lt =
+    → ((w : ℕ) → R′ < w → placedAt R (f .stamp .kn) w ≤ placedAt R′ (f′ .stamp .kn) w)
+    → placedAt R (f .stamp .kn) (R′ + s .epsilon) < placedAt R′ (f′ .stamp .kn) (R′ + s .epsilon)
+    → lexCompare (key s R f) (key s R′ f′) ≡ Ordering·lt
+unfolding key keyBy sum
+cause-first s R R′ f f′ o o′ e le lt =
     elim (lt-or-ge (R + f .stamp .c) (R′ + f′ .stamp .c)) [
       | inl h ↦ lex-head-lt (R + f .stamp .c) (R′ + f′ .stamp .c) _ _ h
       | inr h ↦
           let q : R + f .stamp .c ≡ R′ + f′ .stamp .c = omega arith in
           lex-head-eq (R + f .stamp .c) (R′ + f′ .stamp .c) _ _ q
-          ∙ lex-append-lt (countsDown epsilon (f .stamp)) (countsDown epsilon (f′ .stamp)) _ _
-          (length-down epsilon (f .stamp) ∙ sym (length-down epsilon (f′ .stamp)))
-          (counts-down-first n epsilon R R′ (f .stamp) (f′ .stamp) s s′ q le lt)
+          ∙ lex-append-lt (countsDown (s .epsilon) (f .stamp)) (countsDown (s .epsilon) (f′ .stamp)) _ _
+          (length-down (s .epsilon) (f .stamp) ∙ sym (length-down (s .epsilon) (f′ .stamp)))
+          (counts-down-first (s .n) (s .epsilon) R R′ (f .stamp) (f′ .stamp) o o′ q le lt)
     ]

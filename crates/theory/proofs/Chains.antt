@@ -16,8 +16,7 @@ use Rattle.model.specs.Setup.{Setup}
 use Rattle.model.specs.Run.{Done, isAccepted}
 use Rattle.theory.specs.Demand3.{Leads, later, takes, on}
 use Rattle.theory.proofs.HearLoop.{some-inj}
-use Rattle.theory.proofs.Stabilize.{sends-accepted}
-use Rattle.theory.proofs.World.{eventKey, AllKept}
+use Rattle.theory.proofs.World.{eventKey, sends-accepted, AllKept}
 
 -- a list's beginning
 module _ {A : Type 0} where

@@ -1,77 +1,50 @@
 -- What is delivered at v is what is due at v, in order.
 -- Assumes nothing.
-use Prim.Native.Nat.{ℕ, suc, _+_, _-_, _%_, _≤_, _<_}
+use Prim.Native.Nat.{ℕ, _+_, _%_, _≤_, _<_}
 use native.Mathlib.Omega.{arith}
 use native.Mathlib.Nat.{zero-add}
-use mathlib.Core.Path.{_≡_, sym, ap, ap₂, subst, _∙_}
+use mathlib.Core.Path.{_≡_, refl, sym, ap, ap₂, subst, _∙_}
 use mathlib.Core.Logic.{inl, inr}
 use mathlib.Core.Bool.{Bool, true, _&&_, not}
 use mathlib.Core.List.{List, [], _∷_, _++_, map, List·Memᴰ}
 use mathlib.Core.Option.{some}
 use lib.Dec.{leb, eqb}
-use lib.ListN.{getD, getElem?}
-use lib.Seq.{getD-at, getD-append-add}
+use lib.ListN.{getElem?}
 use borrow.Author.Tests.{leb-true, le-leb, eqb-true, eq-eqb}
-use Rattle.laws.specs.Lists.{any, select, sortBy, tab, apart}
+use Rattle.laws.specs.Lists.{any, select, sortBy, apart}
 use Rattle.laws.specs.Lex.{lexCompare}
 use Rattle.laws.proofs.Numbers.{and-intro, and-left, and-right, false-of-no, not-of-false}
-use Rattle.laws.proofs.Lists.{length-tab, select-map, map-ext, map-map, mem-select, mem-of-select, mem-map, mem-of-map, mem-selectFrom-zero, mem-of-selectFrom-zero, getElem?-snoc-cases, getElem?-append, getElem?-lt}
-use Rattle.laws.proofs.Lex.{lex-shift}
+use Rattle.laws.proofs.Lists.{select-map, map-ext, map-map, mem-select, mem-of-select, mem-map, mem-of-map, mem-selectFrom-zero, mem-of-selectFrom-zero, getElem?-snoc-cases, getElem?-append, getElem?-lt}
 use Rattle.laws.proofs.Sorted.{Sorted, sorted-of-chained, sorted-select, sorted-unique, sorted-rekey, sorted-map, apart-of-pairwise, pairwise-selectFrom}
 use Rattle.laws.proofs.InsertionSort.{mem-sortBy, mem-of-sortBy, sorted-sortBy}
 use Rattle.model.specs.Setup.{Setup}
-use Rattle.model.specs.Timestamp.{near, sum}
+use Rattle.model.specs.Timestamp.{sum}
 use Rattle.model.specs.Frame.{Frame, encode, decode}
-use Rattle.model.specs.Order.{countsDown, key, keyNear, compareFrames, before, due, dueNear}
+use Rattle.model.specs.Order.{readingOf, key, keyNear, compareFrames, before, due, dueNear}
 use Rattle.model.specs.Tick.{dueNow}
 use Rattle.model.specs.Run.{Done, isAccepted, sends, messageBytes, messageFrame}
-use Rattle.theory.specs.Premises.{withOwn}
 use Rattle.theory.specs.Demand3.{heardIn, earlier, dueAt, messageKey}
 use Rattle.lemmas.proofs.Bounds.{Limits, QueueOk}
-use Rattle.lemmas.proofs.Reading.{near-true}
+use Rattle.lemmas.proofs.Queue.{key-origin, key-lower}
+use Rattle.theory.proofs.Event.{event-reads}
 use Rattle.lemmas.proofs.RoundTrip.{decode-encode}
 use Rattle.theory.proofs.HearLoop.{followed-sends, followed-from, event-station}
-use Rattle.theory.proofs.World.{eventFrame, followed, heardAt, Explained, AllExplained, AllPresent, Event, dueFollowed, followedFrame}
-
--- the places of a key
-key-station : (epsilon R : ℕ) (f : Frame) → getD (key epsilon R f) (suc epsilon) 0 ≡ f .station
-unfolding key countsDown
-key-station epsilon R f =
-    getD-at (tab epsilon (λ k. getD (f .stamp .kn) (epsilon + f .stamp .c - k) 0)) (f .station) (R ∷ []) 0 epsilon (length-tab epsilon (λ k. getD (f .stamp .kn) (epsilon + f .stamp .c - k) 0))
-
-key-reading : (epsilon R : ℕ) (f : Frame) → getD (key epsilon R f) (suc (epsilon + 1)) 0 ≡ R
-unfolding key countsDown
-key-reading epsilon R f =
-    ap (λ (n : ℕ). getD (counts ++ (f .station ∷ R ∷ [])) (n + 1) 0) (sym (length-tab epsilon (λ k. getD (f .stamp .kn) (epsilon + f .stamp .c - k) 0)))
-    ∙ getD-append-add counts (f .station ∷ R ∷ []) 1 0
-  where
-    counts : List ℕ
-    counts = tab epsilon (λ k. getD (f .stamp .kn) (epsilon + f .stamp .c - k) 0)
+use Rattle.theory.proofs.World.{eventFrame, followed, heardAt, Explained, AllExplained, AllPresent, CallEvent, dueFollowed, followedFrame}
 
 -- all readings may be moved by the same
-key-shift : (epsilon k R R′ : ℕ) (f f′ : Frame) → lexCompare (key epsilon (R + k) f) (key epsilon (R′ + k) f′) ≡ lexCompare (key epsilon R f) (key epsilon R′ f′)
-unfolding key sum countsDown
-key-shift epsilon k R R′ f f′ =
-    let e : R + k + f .stamp .c ≡ R + f .stamp .c + k = omega arith in
-    let e′ : R′ + k + f′ .stamp .c ≡ R′ + f′ .stamp .c + k = omega arith in
-    rw (e, e′)
-    (lex-shift k (R + f .stamp .c) (R′ + f′ .stamp .c) (f .station) (f′ .station) R R′ (tab epsilon (λ j. getD (f .stamp .kn) (epsilon + f .stamp .c - j) 0)) (tab epsilon (λ j. getD (f′ .stamp .kn) (epsilon + f′ .stamp .c - j) 0))
-    (length-tab epsilon (λ j. getD (f .stamp .kn) (epsilon + f .stamp .c - j) 0) ∙ sym (length-tab epsilon (λ j. getD (f′ .stamp .kn) (epsilon + f′ .stamp .c - j) 0))))
-
 key-moved :
-    (epsilon a b u u′ w w′ : ℕ) (f f′ : Frame) → u + a ≡ w + b → u′ + a ≡ w′ + b
-    → lexCompare (key epsilon u f) (key epsilon u′ f′) ≡ lexCompare (key epsilon w f) (key epsilon w′ f′)
-key-moved epsilon a b u u′ w w′ f f′ e e′ =
-    sym (key-shift epsilon a u u′ f f′) ∙ (ap₂ (λ (x y : ℕ). lexCompare (key epsilon x f) (key epsilon y f′)) e e′ ∙ key-shift epsilon b w w′ f f′)
+    (s : Setup) (a b u u′ w w′ : ℕ) (f f′ : Frame) → u + a ≡ w + b → u′ + a ≡ w′ + b
+    → lexCompare (key s u f) (key s u′ f′) ≡ lexCompare (key s w f) (key s w′ f′)
+key-moved s a b u u′ w w′ f f′ e e′ = sym (key-lower s a (u + a) u (u′ + a) u′ f f′ refl refl) ∙ key-lower s b (u + a) w (u′ + a) w′ f f′ (sym e) (sym e′)
 
 same-call : Done → Done → Bool
 same-call a b = eqb (a .own) (b .own) && eqb (a .clock) (b .clock)
 
 -- the calls past, then the call d for v, whose hearing left the queue
 module _
-    (s : Setup) (from own v node : ℕ) (past : List Done) (d : Done) (queue : List Frame) (limits : Limits (withOwn s own))
-    (sound : QueueOk (withOwn s own) (v % s .modulus) queue)
-    (events : (k : ℕ) (m : Done) → getElem? past k ≡ some m → isAccepted (m .output) ≡ true → Event s m)
+    (s : Setup) (from v node : ℕ) (past : List Done) (d : Done) (queue : List Frame) (limits : Limits s)
+    (sound : QueueOk s (v % s .modulus) queue)
+    (events : (k : ℕ) (m : Done) → getElem? past k ≡ some m → isAccepted (m .output) ≡ true → CallEvent s m)
     (unique : (k l : ℕ) (a b : Done) → getElem? past k ≡ some a → getElem? past l ≡ some b → isAccepted (a .output) ≡ true → isAccepted (b .output) ≡ true
     → a .own ≡ b .own → a .clock ≡ b .clock → k ≡ l)
     (clock-is : d .clock ≡ v)
@@ -84,35 +57,35 @@ module _
     -- a message of the list
     abbrev Found : ℕ → Done → Type 0
     Found k m =
-        (getElem? past k ≡ some m) × (followed from m ≡ true) × (due (s .epsilon) (s .delta) (m .clock) (eventFrame s m .stamp .c) ≡ v)
+        (getElem? past k ≡ some m) × (followed from m ≡ true) × (due s (m .clock) (eventFrame s m .stamp .c) ≡ v)
         × (heardAt (past ++ (d ∷ [])) node k ≡ true)
 
     accepted : (m : Done) → followed from m ≡ true → isAccepted (m .output) ≡ true
     unfolding sends
     accepted m f = and-left (isAccepted (m .output)) (m .call .send) (followed-sends from m f)
 
-    event : (k : ℕ) (m : Done) → getElem? past k ≡ some m → followed from m ≡ true → Event s m
+    event : (k : ℕ) (m : Done) → getElem? past k ≡ some m → followed from m ≡ true → CallEvent s m
     event k m at f = events k m at (accepted m f)
 
     -- the test of the list
     abbrev test : ℕ → Done → Bool
     test k m = followed from m && (dueAt s v m && any (heardIn node k) (past ++ (d ∷ [])))
 
-    due-of : (k : ℕ) (m : Done) → Event s m → sends m ≡ true → dueAt s v m ≡ true → due (s .epsilon) (s .delta) (m .clock) (eventFrame s m .stamp .c) ≡ v
+    due-of : (k : ℕ) (m : Done) → CallEvent s m → sends m ≡ true → dueAt s v m ≡ true → due s (m .clock) (eventFrame s m .stamp .c) ≡ v
     unfolding dueAt
     due-of k m ev sent e =
-        subst (λ (f : Frame). due (s .epsilon) (s .delta) (m .clock) (f .stamp .c) ≡ v) (ev .message sent)
-        (eqb-true (due (s .epsilon) (s .delta) (m .clock) (messageFrame m .stamp .c)) v e)
+        subst (λ (f : Frame). due s (m .clock) (f .stamp .c) ≡ v) (ev .message sent)
+        (eqb-true (due s (m .clock) (messageFrame m .stamp .c)) v e)
 
-    of-due : (k : ℕ) (m : Done) → Event s m → sends m ≡ true → due (s .epsilon) (s .delta) (m .clock) (eventFrame s m .stamp .c) ≡ v → dueAt s v m ≡ true
+    of-due : (k : ℕ) (m : Done) → CallEvent s m → sends m ≡ true → due s (m .clock) (eventFrame s m .stamp .c) ≡ v → dueAt s v m ≡ true
     unfolding dueAt
     of-due k m ev sent e =
-        eq-eqb (due (s .epsilon) (s .delta) (m .clock) (messageFrame m .stamp .c)) v
-        (subst (λ (f : Frame). due (s .epsilon) (s .delta) (m .clock) (f .stamp .c) ≡ v) (sym (ev .message sent)) e)
+        eq-eqb (due s (m .clock) (messageFrame m .stamp .c)) v
+        (subst (λ (f : Frame). due s (m .clock) (f .stamp .c) ≡ v) (sym (ev .message sent)) e)
 
     -- the call itself is due later
     not-itself : dueAt s v d ≡ true → ⊥
-    unfolding dueAt due sum withOwn
+    unfolding dueAt due sum
     not-itself e =
         omega (arith, eqb-true (d .clock + messageFrame d .stamp .c + s .delta + s .epsilon) v e, limits .epsilon-pos)
 
@@ -144,13 +117,11 @@ module _
         (and-intro (f .1) (and-intro (of-due k m (event k m (f .0) (f .1)) (followed-sends from m (f .1)) (f .2)) (f .3)))
 
     -- its reading is its true clock
-    reading : (k : ℕ) (m : Done) → Found k m → near (s .epsilon) (s .modulus) (v % s .modulus) (eventFrame s m .stamp .r) + v ≡ s .modulus + m .clock
-    unfolding due sum withOwn
+    reading : (k : ℕ) (m : Done) → Found k m → readingOf s (v % s .modulus) (eventFrame s m) + v ≡ s .modulus + m .clock
+    unfolding due sum
     reading k m f =
         let ev = event k m (f .0) (f .1) in
-        rw (ev .r-is)
-        (near-true (s .epsilon) (s .modulus) v (m .clock) (limits .epsilon-pos) (omega (arith, limits .modulus-least, limits .epsilon-pos))
-        (omega (arith, f .2, ev .frame .sound .close)) (omega (arith, f .2, ev .frame .sound .close, limits .modulus-least)))
+        event-reads s v m limits ev (omega (arith, f .2, ev .frame .sound .close)) (omega (arith, f .2, ev .frame .sound .close, limits .modulus-least))
 
     -- the list has no call twice
     list-apart : apart same-call list ≡ true
@@ -169,25 +140,22 @@ module _
             let bad : ⊥ = omega arith in bad))
 
     -- the key of a message of the list, with its frame named
-    message-key : (k : ℕ) (m : Done) → Found k m → messageKey s m ≡ key (s .epsilon) (m .clock) (eventFrame s m)
+    message-key : (k : ℕ) (m : Done) → Found k m → messageKey s m ≡ key s (m .clock) (eventFrame s m)
     unfolding messageKey
-    message-key k m f = ap (key (s .epsilon) (m .clock)) (event k m (f .0) (f .1) .message (followed-sends from m (f .1)))
+    message-key k m f = ap (key s (m .clock)) (event k m (f .0) (f .1) .message (followed-sends from m (f .1)))
 
     list-keys : (x y : Done) → List·Memᴰ x list → List·Memᴰ y list → messageKey s x ≡ messageKey s y → same-call x y ≡ true
     unfolding same-call
     list-keys x y mx my e =
         let f = found x mx in
         let g = found y my in
-        let q : key (s .epsilon) (x .clock) (eventFrame s x) ≡ key (s .epsilon) (y .clock) (eventFrame s y) =
+        let q : key s (x .clock) (eventFrame s x) ≡ key s (y .clock) (eventFrame s y) =
         sym (message-key (f .0) x (f .1)) ∙ (e ∙ message-key (g .0) y (g .1)) in
-        and-intro
-        (eq-eqb (x .own) (y .own)
-        (sym (event-station s x) ∙ (sym (key-station (s .epsilon) (x .clock) (eventFrame s x)) ∙ (ap (λ (l : List ℕ). getD l (suc (s .epsilon)) 0) q ∙ (key-station (s .epsilon) (y .clock) (eventFrame s y) ∙ event-station s y)))))
-        (eq-eqb (x .clock) (y .clock)
-        (sym (key-reading (s .epsilon) (x .clock) (eventFrame s x)) ∙ (ap (λ (l : List ℕ). getD l (suc (s .epsilon + 1)) 0) q ∙ key-reading (s .epsilon) (y .clock) (eventFrame s y))))
+        let (stations, clocks) = key-origin s (x .clock) (y .clock) (eventFrame s x) (eventFrame s y) q in
+        and-intro (eq-eqb (x .own) (y .own) (sym (event-station s x) ∙ (stations ∙ event-station s y))) (eq-eqb (x .clock) (y .clock) clocks)
 
     abbrev keyAt : Frame → List ℕ
-    keyAt f = keyNear (s .epsilon) (s .modulus) (v % s .modulus) f
+    keyAt f = keyNear s (v % s .modulus) f
 
     same-order : (x y : Done) → List·Memᴰ x list → List·Memᴰ y list → lexCompare (messageKey s x) (messageKey s y) ≡ lexCompare (keyAt (eventFrame s x)) (keyAt (eventFrame s y))
     unfolding keyNear
@@ -195,8 +163,8 @@ module _
         let f = found x mx in
         let g = found y my in
         ap₂ lexCompare (message-key (f .0) x (f .1)) (message-key (g .0) y (g .1))
-        ∙ key-moved (s .epsilon) (s .modulus) v (x .clock) (y .clock)
-        (near (s .epsilon) (s .modulus) (v % s .modulus) (eventFrame s x .stamp .r)) (near (s .epsilon) (s .modulus) (v % s .modulus) (eventFrame s y .stamp .r))
+        ∙ key-moved s (s .modulus) v (x .clock) (y .clock)
+        (readingOf s (v % s .modulus) (eventFrame s x)) (readingOf s (v % s .modulus) (eventFrame s y))
         (eventFrame s x) (eventFrame s y) (omega (arith, reading (f .0) x (f .1))) (omega (arith, reading (g .0) y (g .1)))
 
     abbrev sorted : List Done
@@ -211,31 +179,30 @@ module _
 
     -- what is delivered and followed
     abbrev chosen : List Frame
-    chosen = select (λ f. followedFrame s from v (encode f)) (select (dueNow (withOwn s own) (v % s .modulus)) queue)
+    chosen = select (λ f. followedFrame s from v (encode f)) (select (dueNow s (v % s .modulus)) queue)
 
     sorted-chosen : Sorted keyAt chosen
-    unfolding before compareFrames withOwn
+    unfolding before compareFrames
     sorted-chosen =
-        sorted-select keyAt (λ f. followedFrame s from v (encode f)) (select (dueNow (withOwn s own) (v % s .modulus)) queue)
-        (sorted-select keyAt (dueNow (withOwn s own) (v % s .modulus)) queue (sorted-of-chained keyAt queue (sound .ordered)))
+        sorted-select keyAt (λ f. followedFrame s from v (encode f)) (select (dueNow s (v % s .modulus)) queue)
+        (sorted-select keyAt (dueNow s (v % s .modulus)) queue (sorted-of-chained keyAt queue (sound .ordered)))
 
     decoded : (f : Frame) → List·Memᴰ f queue → decode (s .epsilon) (encode f) ≡ f
-    unfolding withOwn
     decoded f mem = decode-encode (s .epsilon) f (sound .frames f mem .sound .wide)
 
     into : (f : Frame) → List·Memᴰ f chosen → List·Memᴰ f (map (eventFrame s) sorted)
-    unfolding followedFrame dueNow dueNear due sum withOwn
+    unfolding followedFrame dueNow dueNear due sum
     into f mem =
-        let a = mem-of-select (λ g. followedFrame s from v (encode g)) (select (dueNow (withOwn s own) (v % s .modulus)) queue) mem in
-        let b = mem-of-select (dueNow (withOwn s own) (v % s .modulus)) queue (a .0) in
+        let a = mem-of-select (λ g. followedFrame s from v (encode g)) (select (dueNow s (v % s .modulus)) queue) mem in
+        let b = mem-of-select (dueNow s (v % s .modulus)) queue (a .0) in
         go (b .0) (members f (b .0))
-        (eqb-true (near (s .epsilon) (s .modulus) (v % s .modulus) (f .stamp .r) + f .stamp .c + s .delta + s .epsilon) (s .modulus) (b .1))
-        (leb-true (s .modulus + from) (near (s .epsilon) (s .modulus) (v % s .modulus) (f .stamp .r) + v)
-        (subst (λ (g : Frame). leb (s .modulus + from) (near (s .epsilon) (s .modulus) (v % s .modulus) (g .stamp .r) + v) ≡ true) (decoded f (b .0)) (a .1)))
+        (eqb-true (readingOf s (v % s .modulus) f + f .stamp .c + s .delta + s .epsilon) (s .modulus) (b .1))
+        (leb-true (s .modulus + from) (readingOf s (v % s .modulus) f + v)
+        (subst (λ (g : Frame). leb (s .modulus + from) (readingOf s (v % s .modulus) g + v) ≡ true) (decoded f (b .0)) (a .1)))
       where
         go : List·Memᴰ f queue → Explained s from past (heardAt (past ++ (d ∷ [])) node) v f
-            → near (s .epsilon) (s .modulus) (v % s .modulus) (f .stamp .r) + f .stamp .c + s .delta + s .epsilon ≡ s .modulus
-            → s .modulus + from ≤ near (s .epsilon) (s .modulus) (v % s .modulus) (f .stamp .r) + v
+            → readingOf s (v % s .modulus) f + f .stamp .c + s .delta + s .epsilon ≡ s .modulus
+            → s .modulus + from ≤ readingOf s (v % s .modulus) f + v
             → List·Memᴰ f (map (eventFrame s) sorted)
         go mq (inl h) due-now fol = let bad : ⊥ = omega arith in absurd bad
         go mq (inr x) due-now fol =
@@ -245,7 +212,7 @@ module _
             (mem-map (eventFrame s) (mem-sortBy (earlier s) (listed (x .0) (x .1) (x .2, x .3, q, x .4))))
 
     back : (f : Frame) → List·Memᴰ f (map (eventFrame s) sorted) → List·Memᴰ f chosen
-    unfolding followedFrame dueNow dueNear due sum withOwn
+    unfolding followedFrame dueNow dueNear due sum
     back f mem =
         let a = mem-of-map (eventFrame s) sorted mem in
         let b = found (a .0) (mem-of-sortBy (earlier s) list (a .1)) in
@@ -255,16 +222,16 @@ module _
         go k m g =
             let q : List·Memᴰ (eventFrame s m) queue = present k m (g .0) (g .1) (g .3) (omega (arith, g .2)) in
             mem-select (λ h. followedFrame s from v (encode h))
-            (mem-select (dueNow (withOwn s own) (v % s .modulus)) q
-            (eq-eqb (near (s .epsilon) (s .modulus) (v % s .modulus) (eventFrame s m .stamp .r) + eventFrame s m .stamp .c + s .delta + s .epsilon) (s .modulus) (omega (arith, g .2, reading k m g))))
-            (subst (λ (h : Frame). leb (s .modulus + from) (near (s .epsilon) (s .modulus) (v % s .modulus) (h .stamp .r) + v) ≡ true) (sym (decoded (eventFrame s m) q))
-            (le-leb (s .modulus + from) (near (s .epsilon) (s .modulus) (v % s .modulus) (eventFrame s m .stamp .r) + v) (omega (arith, reading k m g, followed-from from m (g .1)))))
+            (mem-select (dueNow s (v % s .modulus)) q
+            (eq-eqb (readingOf s (v % s .modulus) (eventFrame s m) + eventFrame s m .stamp .c + s .delta + s .epsilon) (s .modulus) (omega (arith, g .2, reading k m g))))
+            (subst (λ (h : Frame). leb (s .modulus + from) (readingOf s (v % s .modulus) h + v) ≡ true) (sym (decoded (eventFrame s m) q))
+            (le-leb (s .modulus + from) (readingOf s (v % s .modulus) (eventFrame s m) + v) (omega (arith, reading k m g, followed-from from m (g .1)))))
 
     pub delivery :
-        select (followedFrame s from v) (map encode (select (dueNow (withOwn s own) (v % s .modulus)) queue))
+        select (followedFrame s from v) (map encode (select (dueNow s (v % s .modulus)) queue))
         ≡ map messageBytes sorted
     delivery =
-        select-map (followedFrame s from v) encode (select (dueNow (withOwn s own) (v % s .modulus)) queue)
+        select-map (followedFrame s from v) encode (select (dueNow s (v % s .modulus)) queue)
         ∙ (ap (map encode) (sorted-unique keyAt chosen (map (eventFrame s) sorted) sorted-chosen sorted-frames into back)
         ∙ (map-map encode (eventFrame s) sorted
         ∙ sym (map-ext messageBytes (λ (m : Done). encode (eventFrame s m)) sorted bytes)))

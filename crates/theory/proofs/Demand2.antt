@@ -1,6 +1,6 @@
 -- Demand 2 from fresh stations: every accepted call does what the published program does, reduced modulo B.
 -- Assumes nothing.
-use Prim.Native.Nat.{ℕ, suc, _+_, _<_}
+use Prim.Native.Nat.{ℕ, _+_, _<_}
 use native.Mathlib.Omega.{arith}
 use mathlib.Core.Path.{_≡_, refl, sym, ap, subst, _∙_}
 use mathlib.Core.Logic.{_⊎_, inl, inr}
@@ -19,66 +19,68 @@ use Rattle.model.specs.Run.{Node, Source, sentBy, stale, Call, Done, World, isA
 use Rattle.theory.specs.Premises.{largestClock, staleUntil, allowed, keeps, isSent, noneStale}
 use Rattle.theory.specs.Demand2.{Published, outcomeOf, publish, publishAll, publishedStart, Matched, Demand2Fresh}
 use Rattle.theory.specs.Demand3.{heardIn}
-use Rattle.theory.proofs.World.{Good, Legal, EntryOk}
+use Rattle.theory.proofs.World.{act-is, sends-accepted, Good, Legal, EntryOk}
 use Rattle.theory.proofs.Event.{done-clock}
 use Rattle.theory.proofs.HearLoop.{some-inj}
-use Rattle.theory.proofs.Stabilize.{sends-accepted, called, step-good, refused-good, act-is, refused-node}
+use Rattle.theory.proofs.Refused.{refused-node, refused-good}
+use Rattle.theory.proofs.Promises.{ends}
+use Rattle.theory.proofs.Invariant.{step-good}
 use Rattle.theory.proofs.Start.{allowed-fact}
 use Rattle.theory.proofs.PublishedRun.{Copies, Twin, Paired, LastAs, settles-fresh, sent-as-snoc, ranked-snoc, twin-stays}
 use Rattle.theory.proofs.PublishedCall.{heardHere, frame-is, same-as, ranked-last, twin-moves}
 use Rattle.theory.proofs.PublishedStart.{paired-fresh}
 
 -- what the call sends in the published program
-abbrev sentHere : Setup → List (Option Message) → Call → Node → Process → Option Message
-sentHere s sent call node p = cond (call .send) (some (messageOf (s .epsilon) (suc (node .clock)) p (heardHere sent call) (call .payload))) none
+abbrev sentHere : Setup → List (Option Message) → Call → ℕ → Process → Option Message
+sentHere s sent call v p = cond (call .send) (some (messageOf (s .epsilon) v p (heardHere sent call) (call .payload))) none
 
 -- an accepted call
-module _ (s : Setup) (w : World) (u : Published) (call : Call) (node : Node) (paired : Paired s w u) (legal : Legal s 0 w call node)
+module _ (s : Setup) (w : World) (u : Published) (call : Call) (node : Node) (v : ℕ) (paired : Paired s w u) (legal : Legal s 0 w call node v)
     (p : Process) (p-at : getElem? (u .processes) (call .node) ≡ some p) (twin : Twin s (w .past) (u .sent) (call .node) node p) where
-  moved : doneOf node call .clock ≡ suc (node .clock)
-  moved = done-clock s node call (called s 0 0 (settles-fresh s) w call node (paired .good) legal)
+  moved : doneOf node call .clock ≡ v
+  moved = done-clock s node call (legal .called)
 
   published :
       publish s u (doneOf node call)
       ≡ record {
-        processes = set (u .processes) (call .node) (advanced (s .epsilon) (s .delta) (suc (node .clock)) p (heardHere (u .sent) call));
-        sent = u .sent ++ (sentHere s (u .sent) call node p ∷ []);
+        processes = set (u .processes) (call .node) (advanced (s .epsilon) (s .delta) v p (heardHere (u .sent) call));
+        sent = u .sent ++ (sentHere s (u .sent) call v p ∷ []);
       }
   unfolding publish outcomeOf doneOf
-  published = rw (legal .accepted, p-at, moved) refl
+  published = rw (legal .called .accepted, p-at, moved) refl
 
   -- what is sent is the message
-  sent-is : (m : Message) → sentHere s (u .sent) call node p ≡ some m → (call .send ≡ true) × (messageOf (s .epsilon) (suc (node .clock)) p (heardHere (u .sent) call) (call .payload) ≡ m)
+  sent-is : (m : Message) → sentHere s (u .sent) call v p ≡ some m → (call .send ≡ true) × (messageOf (s .epsilon) v p (heardHere (u .sent) call) (call .payload) ≡ m)
   sent-is m e = go (call .send) refl e
     where
       go :
-          (b : Bool) → call .send ≡ b → cond b (some (messageOf (s .epsilon) (suc (node .clock)) p (heardHere (u .sent) call) (call .payload))) none ≡ some m
-          → (call .send ≡ true) × (messageOf (s .epsilon) (suc (node .clock)) p (heardHere (u .sent) call) (call .payload) ≡ m)
+          (b : Bool) → call .send ≡ b → cond b (some (messageOf (s .epsilon) v p (heardHere (u .sent) call) (call .payload))) none ≡ some m
+          → (call .send ≡ true) × (messageOf (s .epsilon) v p (heardHere (u .sent) call) (call .payload) ≡ m)
       go true q e = (q, some-inj e)
       go false q e = let z : _≡_ {A = ℕ} 0 1 = cc in absurd (omega arith)
 
-  sent-event : (m : Message) → sentHere s (u .sent) call node p ≡ some m → m .event ≡ eventOf (s .epsilon) (suc (node .clock)) p (heardHere (u .sent) call)
+  sent-event : (m : Message) → sentHere s (u .sent) call v p ≡ some m → m .event ≡ eventOf (s .epsilon) v p (heardHere (u .sent) call)
   sent-event m e = sym (ap (λ (x : Message). x .event) (sent-is m e .1)) ∙ (unfold messageOf in refl)
 
-  copies : Copies s (messageOf (s .epsilon) (suc (node .clock)) p (heardHere (u .sent) call) (call .payload)) (doneOf node call)
+  copies : Copies s (messageOf (s .epsilon) v p (heardHere (u .sent) call) (call .payload)) (doneOf node call)
   copies =
       record {
-        frame = frame-is s w (u .sent) call node p (paired .good) legal (paired .sent-as) (paired .ranked) twin;
+        frame = frame-is s w (u .sent) call node v p (paired .good) legal (paired .sent-as) (paired .ranked) twin;
         clock-is = unfold messageOf eventOf nextEvent in (sym moved);
       }
 
-  last-as : LastAs s (doneOf node call) (sentHere s (u .sent) call node p)
+  last-as : LastAs s (doneOf node call) (sentHere s (u .sent) call v p)
   unfolding sends doneOf
   last-as =
       record {
         each = λ h.
             let send : call .send ≡ true = and-right (isAccepted (outputOf node call)) (call .send) h in (
-              messageOf (s .epsilon) (suc (node .clock)) p (heardHere (u .sent) call) (call .payload),
-              ap (λ (b : Bool). cond b (some (messageOf (s .epsilon) (suc (node .clock)) p (heardHere (u .sent) call) (call .payload))) none) send,
+              messageOf (s .epsilon) v p (heardHere (u .sent) call) (call .payload),
+              ap (λ (b : Bool). cond b (some (messageOf (s .epsilon) v p (heardHere (u .sent) call) (call .payload))) none) send,
               copies,
             );
         only = λ m e.
-            (and-intro (legal .accepted) (sent-is m e .0), subst (λ (x : Message). Copies s x (doneOf node call)) (sent-is m e .1) copies);
+            (and-intro (legal .called .accepted) (sent-is m e .0), subst (λ (x : Message). Copies s x (doneOf node call)) (sent-is m e .1) copies);
       }
 
   abbrev world′ : World
@@ -87,8 +89,8 @@ module _ (s : Setup) (w : World) (u : Published) (call : Call) (node : Node) (pa
   abbrev published′ : Published
   published′ =
       record {
-        processes = set (u .processes) (call .node) (advanced (s .epsilon) (s .delta) (suc (node .clock)) p (heardHere (u .sent) call));
-        sent = u .sent ++ (sentHere s (u .sent) call node p ∷ []);
+        processes = set (u .processes) (call .node) (advanced (s .epsilon) (s .delta) v p (heardHere (u .sent) call));
+        sent = u .sent ++ (sentHere s (u .sent) call v p ∷ []);
       }
 
   abbrev Paired-at : ℕ → Node → Type 0
@@ -96,22 +98,22 @@ module _ (s : Setup) (w : World) (u : Published) (call : Call) (node : Node) (pa
 
   own-twin : Paired-at (call .node) (nodeAfter node (outputOf node call))
   own-twin = (
-    advanced (s .epsilon) (s .delta) (suc (node .clock)) p (heardHere (u .sent) call),
-    getElem?-set-same (u .processes) (call .node) (advanced (s .epsilon) (s .delta) (suc (node .clock)) p (heardHere (u .sent) call))
+    advanced (s .epsilon) (s .delta) v p (heardHere (u .sent) call),
+    getElem?-set-same (u .processes) (call .node) (advanced (s .epsilon) (s .delta) v p (heardHere (u .sent) call))
         (getElem?-lt (u .processes) (call .node) p-at),
-    twin-moves s w (u .sent) call node p (paired .good) legal (paired .sent-as) (paired .ranked) twin (sentHere s (u .sent) call node p) sent-event,
+    twin-moves s w (u .sent) call node v p (paired .good) legal (paired .sent-as) (paired .ranked) twin (sentHere s (u .sent) call v p) sent-event,
   )
 
   quiet : (j : ℕ) → (call .node ≡ j → ⊥) → (k : ℕ) → heardIn j k (doneOf node call) ≡ false
   unfolding heardIn doneOf
-  quiet j ne k = rw (legal .accepted, ne-eqb (call .node) j ne) refl
+  quiet j ne k = rw (legal .called .accepted, ne-eqb (call .node) j ne) refl
 
   other-twin : (j : ℕ) (a : Node) → (call .node ≡ j → ⊥) → getElem? (w .nodes) j ≡ some a → Paired-at j a
   other-twin j a ne at =
       let (q, q-at, t) = paired .twins j a at in (
         q,
-        getElem?-set-other (u .processes) (call .node) j (advanced (s .epsilon) (s .delta) (suc (node .clock)) p (heardHere (u .sent) call)) ne ∙ q-at,
-        twin-stays s (w .past) (u .sent) j a q (doneOf node call) (sentHere s (u .sent) call node p) (paired .sent-as .same-length) (paired .good .heard-before j)
+        getElem?-set-other (u .processes) (call .node) j (advanced (s .epsilon) (s .delta) v p (heardHere (u .sent) call)) ne ∙ q-at,
+        twin-stays s (w .past) (u .sent) j a q (doneOf node call) (sentHere s (u .sent) call v p) (paired .sent-as .same-length) (paired .good .heard-before j)
             (quiet j ne) (λ m e. unfold doneOf in ne) t,
       )
 
@@ -130,19 +132,19 @@ module _ (s : Setup) (w : World) (u : Published) (call : Call) (node : Node) (pa
       subst (λ (y : World). Paired s y (publish s u (doneOf node call))) (sym (act-is w call node (legal .at)))
       (subst (Paired s world′) (sym published)
       (record {
-        good = subst (Good s 0 0) (act-is w call node (legal .at)) (step-good s 0 0 (settles-fresh s) w call node (paired .good) legal);
-        sent-as = sent-as-snoc s (w .past) (u .sent) (doneOf node call) (sentHere s (u .sent) call node p) (paired .sent-as) last-as;
+        good = subst (Good s 0 0) (act-is w call node (legal .at)) (step-good s 0 0 w call node v (paired .good) legal (ends s 0 0 (settles-fresh s) w call node v (paired .good) legal));
+        sent-as = sent-as-snoc s (w .past) (u .sent) (doneOf node call) (sentHere s (u .sent) call v p) (paired .sent-as) last-as;
         ranked =
-            ranked-snoc s (w .past) (u .sent) (doneOf node call) (sentHere s (u .sent) call node p) (paired .sent-as .same-length) (paired .ranked)
+            ranked-snoc s (w .past) (u .sent) (doneOf node call) (sentHere s (u .sent) call v p) (paired .sent-as .same-length) (paired .ranked)
             (λ k m m′ d e m-at d-at here.
-            ranked-last s w (u .sent) call node p (paired .good) legal (paired .sent-as) (paired .ranked) twin k m m′ d (sent-event m′ e) m-at d-at
+            ranked-last s w (u .sent) call node v p (paired .good) legal (paired .sent-as) (paired .ranked) twin k m m′ d (sent-event m′ e) m-at d-at
             (unfold doneOf in here));
         twins = all-twins;
       }))
 
   matched-here : Matched s u (doneOf node call)
   unfolding doneOf
-  matched-here = (p, p-at, same-as s w (u .sent) call node p (paired .good) legal (paired .sent-as) (paired .ranked) twin)
+  matched-here = (p, p-at, same-as s w (u .sent) call node v p (paired .good) legal (paired .sent-as) (paired .ranked) twin)
 
 -- and sends nothing
 module _ (s : Setup) (w : World) (u : Published) (call : Call) (node : Node) (paired : Paired s w u) (at : getElem? (w .nodes) (call .node) ≡ some node)
@@ -170,7 +172,7 @@ module _ (s : Setup) (w : World) (u : Published) (call : Call) (node : Node) (pa
       subst (λ (y : World). Paired s y (publish s u (doneOf node call))) (sym (act-is w call node at))
       (subst (Paired s (record { nodes = set (w .nodes) (call .node) (nodeAfter node (outputOf node call)); past = w .past ++ (doneOf node call ∷ []) })) (sym not-published)
       (record {
-        good = subst (Good s 0 0) (act-is w call node at) (refused-good s 0 0 (settles-fresh s) w call node (paired .good) at refused);
+        good = subst (Good s 0 0) (act-is w call node at) (refused-good s 0 0 w call node (paired .good) at refused);
         sent-as =
             sent-as-snoc s (w .past) (u .sent) (doneOf node call) none (paired .sent-as)
             (record { each = λ h. absurd (clash (sends-accepted (doneOf node call) h) (unfold doneOf in refused)); only = λ m e. absurd (none-sent m e) });
@@ -194,17 +196,15 @@ unfolding isSent
 sent-entry s floor past nodes v bytes (sentBy k) h entry = entry
 sent-entry s floor past nodes v bytes stale h entry = absurd (clash h refl)
 
-legal-fresh : (s : Setup) (floor : ℕ) (w : World) (call : Call) (node : Node) → Legal s floor w call node → every isSent (call .sources) ≡ true → Legal s 0 w call node
-legal-fresh s floor w call node legal all-sent =
+legal-fresh : (s : Setup) (floor : ℕ) (w : World) (call : Call) (node : Node) (v : ℕ) → Legal s floor w call node v → every isSent (call .sources) ≡ true → Legal s 0 w call node v
+legal-fresh s floor w call node v legal all-sent =
     record {
       at = legal .at;
-      accepted = legal .accepted;
-      setup-is = legal .setup-is;
-      clock-is = legal .clock-is;
+      called = legal .called;
       together = legal .together;
       lengths = legal .lengths;
       entry = λ e bytes o at o-at.
-          sent-entry s floor (w .past) (act w call .nodes) (suc (node .clock)) bytes o (every-mem isSent all-sent (getElem?-mem (call .sources) e o-at))
+          sent-entry s floor (w .past) (act w call .nodes) v bytes o (every-mem isSent all-sent (getElem?-mem (call .sources) e o-at))
           (legal .entry e bytes o at o-at);
     }
 
@@ -280,14 +280,14 @@ one-matched s x start w call paired matched ok fresh = go (allowed-fact s x (sta
 
     go :
         (node : Node) × (getElem? (w .nodes) (call .node) ≡ some node)
-        × ((isAccepted (outputOf node call) ≡ false) ⊎ Legal s (staleUntil s x + s .epsilon) w call node)
+        × ((isAccepted (outputOf node call) ≡ false) ⊎ Legal s (staleUntil s x + s .epsilon) w call node (doneOf node call .clock))
         → Paired s (act w call) (publishAll s start (act w call .past)) × AllMatched s start (act w call .past)
     go (node, at, inl refused) =
         grown node at (paired-refused s w u call node paired at refused) (λ acc. absurd (clash acc (unfold doneOf in refused)))
     go (node, at, inr legal) =
-        let here = legal-fresh s (staleUntil s x + s .epsilon) w call node legal (last-sent w call node at (legal .accepted) fresh) in
+        let here = legal-fresh s (staleUntil s x + s .epsilon) w call node (doneOf node call .clock) legal (last-sent w call node at (legal .called .accepted) fresh) in
         let (p, p-at, twin) = paired .twins (call .node) node at in
-        grown node at (paired-accepted s w u call node paired here p p-at twin) (λ acc. matched-here s w u call node paired here p p-at twin)
+        grown node at (paired-accepted s w u call node (doneOf node call .clock) paired here p p-at twin) (λ acc. matched-here s w u call node (doneOf node call .clock) paired here p p-at twin)
 
 all-matched :
     (s : Setup) (x : ℕ) (start : Published) (calls : List Call) (w : World) → Paired s w (publishAll s start (w .past)) → AllMatched s start (w .past)

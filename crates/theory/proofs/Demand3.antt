@@ -17,12 +17,12 @@ use Rattle.model.specs.Holdback.{heldBytes}
 use Rattle.laws.specs.Lex.{lexCompare}
 use Rattle.model.specs.Setup.{Setup}
 use Rattle.model.specs.Run.{Node, sentBy, Call, Done, World, act, isAccepted, runFrom, atStart, sends, messageBytes}
-use Rattle.theory.specs.Premises.{withOwn, goodStart, largestClock, staleUntil, keeps, allowed}
+use Rattle.theory.specs.Premises.{goodStart, largestClock, staleUntil, keeps, allowed}
 use Rattle.theory.specs.Demand3.{coveredFrom, covered, isFrom, heardIn, messageKey, earlier, dueHere, coveredFrame, Promised, Demand3}
 use Rattle.theory.proofs.HearLoop.{Settles, followed-sends}
-use Rattle.theory.proofs.World.{Good, Kept, AllKept, eventKey, followed, followedFrame, dueFollowed, heardAt}
-use Rattle.theory.proofs.Stabilize.{Legals, run-all, sends-accepted}
-use Rattle.theory.proofs.Start.{group-start, good-start, largest-clock, allowed-fact}
+use Rattle.theory.proofs.World.{sends-accepted, Good, Kept, AllKept, eventKey, followed, followedFrame, dueFollowed, heardAt}
+use Rattle.theory.proofs.Stabilize.{Legals, run-all}
+use Rattle.theory.proofs.Start.{good-start, largest-clock, allowed-fact}
 use Rattle.theory.proofs.Chains.{in-take, below-take, leads-less}
 
 -- the clock from which counts are right
@@ -38,10 +38,10 @@ unfolding staleUntil rightFrom
 early s x v h = omega arith
 
 starts : (s : Setup) (nodes : List Node) → goodStart s nodes ≡ true → Good s (rightFrom s (largestClock nodes)) (coveredFrom s (largestClock nodes)) (atStart nodes)
-unfolding rightFrom coveredFrom withOwn
+unfolding rightFrom coveredFrom
 starts s nodes h =
-    good-start s (rightFrom s (largestClock nodes)) (coveredFrom s (largestClock nodes)) nodes h (omega arith)
-    (λ i node at. omega (arith, largest-clock nodes i node at, group-start s nodes h .limits i node at .epsilon-pos))
+    good-start s (rightFrom s (largestClock nodes)) (coveredFrom s (largestClock nodes)) nodes h
+    (λ i node at. omega (arith, largest-clock nodes i node at))
 
 legals : (s : Setup) (x : ℕ) (calls : List Call) (w : World) → keeps s x w calls ≡ true → Legals s (rightFrom s x) (coveredFrom s x) (settles s x) w calls
 unfolding keeps Legals

@@ -8,6 +8,11 @@ pub mod Stamps
 pub mod Event
 pub mod HearLoop
 pub mod Delivery
+pub mod Opening
+pub mod Entries
+pub mod Refused
+pub mod Promises
+pub mod Invariant
 pub mod Stabilize
 pub mod Chains
 pub mod Start

@@ -1,8 +1,7 @@
 -- One accepted call: what the tick makes of its node is what the published program makes of its process.
 -- Assumes nothing.
-use Prim.Native.Nat.{ℕ, suc, _+_, _%_, _<_}
+use Prim.Native.Nat.{ℕ, _+_, _%_, _<_}
 use native.Mathlib.Omega.{arith}
-use native.Mathlib.Numerals.{add-one}
 use native.Mathlib.Nat.{zero-add}
 use mathlib.Core.Path.{_≡_, refl, sym, ap, ap₂, subst, _∙_}
 use mathlib.Core.Logic.{_⊎_, inl, inr}
@@ -14,7 +13,7 @@ use lib.Dec.{eqb}
 use lib.ListN.{length, getElem?, length-map}
 use borrow.Author.Tests.{eqb-false, eq-eqb}
 use Rattle.laws.specs.Lists.{any, select, apart, overlay, chained}
-use Rattle.laws.proofs.Numbers.{lt-or-ge, clash, true-or-false, or-left, or-right, or-cases, false-of-no, false-of-not, mod-add-left}
+use Rattle.laws.proofs.Numbers.{lt-or-ge, clash, true-or-false, or-left, or-right, or-cases, false-of-no, false-of-not}
 use Rattle.laws.proofs.Lists.{getElem?-lt, getElem?-append, getElem?-snoc-cases, mem-of-map, mem-of-select}
 use Rattle.laws.proofs.Sorted.{lessBy, Sorted, sorted-of-chained, apart-append, apart-select}
 use Rattle.model.specs.Setup.{Setup}
@@ -24,24 +23,25 @@ use Rattle.model.specs.Order.{keyNear, compareFrames, before}
 use Rattle.model.specs.Codec.{frameOf}
 use Rattle.model.specs.Batch.{batchEntries}
 use Rattle.model.specs.Holdback.{encodeFrames, encodeHoldback}
-use Rattle.model.specs.Judge.{Heard, hear}
-use Rattle.model.specs.Tick.{Output, holdbackSize, ownStamp, tablesSound, queueSound, repairOf, heardOf, newStamp, sentBytes, dueNow, deliveredOf, keptOf, takenCount, acceptance}
+use Rattle.model.specs.Judge.{Heard, hear, absorbAll}
+use Rattle.model.specs.Tick.{Output, holdbackSize, openingStamp, openingQueue, repairOf, heardOf, newStamp, sentBytes, dueNow, deliveredOf, keptOf, takenCount, acceptance}
 use Rattle.model.specs.Published.{Event, Message, Process, known, rank, sameMessage, newOnes, nextEvent, eventOf, deliverable, inOrder, buffered, deliveredAt, advanced, messageOf}
 use Rattle.model.specs.Run.{Node, Call, Done, World, inputOf, outputOf, doneOf, nodeAfter}
-use Rattle.theory.specs.Premises.{withOwn}
 use Rattle.theory.specs.Demand2.{reduced, reducedFrame, messagesHeard, verdictsOn, outcomeOf, SameAs}
 use Rattle.theory.specs.Demand3.{isFrom, heardIn}
 use Rattle.lemmas.proofs.Counts.{trimmed-same}
 use Rattle.lemmas.proofs.Bounds.{Limits, Sound}
-use Rattle.lemmas.proofs.OneTick.{hearing-end, tables-are, holdback-is, delivery-is, outgoing-is, sent-is, verdicts-are, next-repair}
-use Rattle.theory.proofs.World.{nextInput, nextStamp, nextQueue, eventFrame, heardAt, Good, Legal}
-use Rattle.theory.proofs.Event.{Due-call, accepted-input, setup-at, clock-at, done-clock, after-clock, sound-at, opens-stamp, opens-queue, leaves-stamp, leaves-queue}
+use Rattle.lemmas.proofs.OneTick.{numbersOf, hearing-end, tables-are, holdback-is, delivery-is, outgoing-is, sent-is, verdicts-are}
+use Rattle.theory.proofs.World.{Memory, NodeOk, eventFrame, heardAt, Good, Legal}
+use Rattle.theory.proofs.Event.{accepted-input, setup-at, clock-at, done-clock, after-clock, sound-at, leaves-tables, leaves-queue}
 use Rattle.theory.proofs.Event as event
-use Rattle.theory.proofs.Stabilize.{heardTo, stateAt, called, around, entry-at, loop-at}
-use Rattle.theory.proofs.PublishedEvent.{ReadsTrue, absorbAll, event-stamp, event-wide, Knows, knows-refl, knows-trans, next-knows, next-more}
+use Rattle.theory.proofs.Opening.{opens-tables, opens-shelf, opens-calm}
+use Rattle.theory.proofs.Entries.{heardTo, startHere, stateAt, heard-all, absorbed-all}
+use Rattle.theory.proofs.Promises.{around, unreached, entry-at, queue-at}
+use Rattle.theory.proofs.PublishedEvent.{ReadsTrue, absorbEvents, event-stamp, event-wide, Knows, knows-refl, knows-trans, next-knows, next-more}
 use Rattle.theory.proofs.PublishedQueue.{SameMembers, delivered-same, kept-members, kept-same, rank-before}
 use Rattle.theory.proofs.PublishedHear.{SeenIs, News, same-self, news-stamp, news-queue, news-taken, news-from, news-all, news-sent, news-apart, news-verdicts}
-use Rattle.theory.proofs.PublishedRun.{SentAs, Ranked, Waits, Twin, heard-snoc, grown-at, settles-fresh, waits-reads, told, one-rank, copied-ok, news-of}
+use Rattle.theory.proofs.PublishedRun.{SentAs, RankedSent, Waits, Twin, heard-snoc, grown-at, settles-fresh, waits-reads, waits-next, told, one-rank, copied-ok, news-of}
 
 -- the messages heard in a call, and the new ones among them
 abbrev pub heardHere : List (Option Message) → Call → List Message
@@ -49,20 +49,6 @@ heardHere sent call = messagesHeard sent (call .sources)
 
 abbrev pub newHere : List (Option Message) → Call → Process → List Message
 newHere sent call p = newOnes (p .received) (messagesHeard sent (call .sources))
-
--- what the hearing starts from
-abbrev pub startHere : Setup → Node → Heard
-startHere s node = record { stamp = nextStamp s node; queue = nextQueue s node; verdicts = [] }
-
-batch-at : (node : Node) (call : Call) → inputOf node call .batch ≡ call .batch
-unfolding inputOf
-batch-at node call = refl
-
-heard-all :
-    (s : Setup) (node : Node) (call : Call) → Due-call s node call
-    → heardOf (inputOf node call) ≡ hear (withOwn s (node .own)) (suc (node .clock) % s .modulus) (startHere s node) (batchEntries (call .batch))
-unfolding heardOf
-heard-all s node call c = rw (opens-stamp s node call c, opens-queue s node call c, setup-at s node call c, clock-at s node call c, batch-at node call) refl
 
 -- the calls heard, said another way
 seen-same : (sent : List (Option Message)) (heard heard′ : ℕ → Bool) (seen : List Message) → ((k : ℕ) → heard′ k ≡ heard k) → SeenIs sent heard seen → SeenIs sent heard′ seen
@@ -72,59 +58,77 @@ seen-same sent heard heard′ seen same is =
       back = λ k m at e. is .back k m at (sym (same k) ∙ e);
     }
 
-module _ (s : Setup) (w : World) (sent : List (Option Message)) (call : Call) (node : Node) (p : Process)
-    (good : Good s 0 0 w) (legal : Legal s 0 w call node) (sent-as : SentAs s (w .past) sent) (ranked : Ranked s (w .past) sent)
+module _ (s : Setup) (w : World) (sent : List (Option Message)) (call : Call) (node : Node) (v : ℕ) (p : Process)
+    (good : Good s 0 0 w) (legal : Legal s 0 w call node v) (sent-as : SentAs s (w .past) sent) (ranked : RankedSent s (w .past) sent)
     (twin : Twin s (w .past) sent (call .node) node p) where
-  due-call : Due-call s node call
-  due-call = called s 0 0 (settles-fresh s) w call node good legal
-
-  limits : Limits (withOwn s (node .own))
+  limits : Limits s
   limits = good .group .limits (call .node) node (legal .at)
+
+  -- no node is as it was before its first call
+  memory : Memory s node
+  memory = go (good .node (call .node) node (legal .at))
+    where
+      go : NodeOk s 0 0 w (call .node) node → Memory s node
+      go (inl old) = absurd (omega (arith, old .early, limits .epsilon-pos))
+      go (inr left) = left .memory
+
+  -- the node and its process at v
+  open-stamp : openingStamp s (v % s .modulus) (node .tables) ≡ step 1 (v % s .modulus) (reduced (s .modulus) (p .last))
+  open-stamp = opens-tables s node v limits memory (legal .called .turn) ∙ ap (step 1 (v % s .modulus)) (twin .stamp)
+
+  open-queue : SameMembers (s .modulus) (openingQueue s (v % s .modulus) (node .holdback)) (p .buffer)
+  open-queue = rw (opens-shelf s node v limits memory (legal .called .turn)) (twin .queue)
+
+  open-waits : (m : Message) → List·Memᴰ m (p .buffer) → Waits s v m
+  open-waits m t = subst (λ (x : ℕ). Waits s x m) (sym (legal .called .turn)) (waits-next s (node .clock) m (twin .undue m t) (twin .waiting m t))
+
+  next : p .last .r + 1 ≡ v
+  next = ap (λ (x : ℕ). x + 1) (twin .clock-is) ∙ sym (legal .called .turn)
 
   heard-start : (k : ℕ) → heardTo (w .past) call 0 k ≡ heardAt (w .past) (call .node) k
   unfolding any
   heard-start k = or-false (heardAt (w .past) (call .node) k)
 
-  news-here : News (withOwn s (node .own)) (suc (node .clock)) sent (heardTo (w .past) call 0) (startHere s node) (batchEntries (call .batch)) (call .sources) (newHere sent call p)
+  news-here : News s v sent (heardTo (w .past) call 0) (startHere s v node call) (batchEntries (call .batch)) (call .sources) (newHere sent call p)
   unfolding stateAt hear
   news-here =
-      news-of s w sent good sent-as (node .own) (suc (node .clock)) (nextStamp s node) (around s 0 0 (settles-fresh s) w call node good legal)
-      (batchEntries (call .batch)) (call .sources) (heardTo (w .past) call 0) (startHere s node) (p .received)
-      (loop-at s 0 0 (settles-fresh s) w call node good legal 0 (omega arith))
+      news-of s w sent good sent-as v (around s 0 0 (settles-fresh s) w call node v good legal) (unreached s 0 0 (settles-fresh s) w call node v good legal)
+      (batchEntries (call .batch)) (call .sources) (heardTo (w .past) call 0) (startHere s v node call) (p .received)
+      (queue-at s 0 0 (settles-fresh s) w call node v good legal 0 (omega arith))
       (seen-same sent (heardAt (w .past) (call .node)) (heardTo (w .past) call 0) (p .received) heard-start (twin .received)) (legal .lengths)
-      (entry-at s 0 0 (settles-fresh s) w call node good legal)
+      (entry-at s 0 0 (settles-fresh s) w call node v good legal)
 
   -- the new messages
-  new-waits : (m : Message) → List·Memᴰ m (newHere sent call p) → Waits s (suc (node .clock)) m
-  unfolding withOwn reducedFrame reduced
+  new-waits : (m : Message) → List·Memᴰ m (newHere sent call p) → Waits s v m
+  unfolding reducedFrame reduced
   new-waits m t =
-      let (k, bytes, a, first, there) = news-from (withOwn s (node .own)) (suc (node .clock)) sent news-here m t in
+      let (k, bytes, a, first, there) = news-from s v sent news-here m t in
       record { close = a .frame .sound .close; not-ahead = a .not-ahead; not-due = omega (arith, a .not-late) }
 
   -- buffered and new
   abbrev all : List Message
   all = p .buffer ++ newHere sent call p
 
-  all-waits : (m : Message) → List·Memᴰ m all → Waits s (suc (node .clock)) m
-  all-waits m t = elim (List·Memᴰ·append-cases (p .buffer) t) [ inl q ↦ twin .waiting m q | inr q ↦ new-waits m q ]
+  all-waits : (m : Message) → List·Memᴰ m all → Waits s v m
+  all-waits m t = elim (List·Memᴰ·append-cases (p .buffer) t) [ inl q ↦ open-waits m q | inr q ↦ new-waits m q ]
 
-  all-reads : (m : Message) → List·Memᴰ m all → ReadsTrue (s .epsilon) (s .modulus) (suc (node .clock)) (m .event .r)
-  all-reads m t = waits-reads s (node .own) (suc (node .clock)) m limits (all-waits m t)
+  all-reads : (m : Message) → List·Memᴰ m all → ReadsTrue (s .epsilon) (s .modulus) v (m .event .r)
+  all-reads m t = waits-reads s v m limits (all-waits m t)
 
   all-sent : (m : Message) → List·Memᴰ m all → (k : ℕ) × (getElem? sent k ≡ some (some m))
   all-sent m t =
       elim (List·Memᴰ·append-cases (p .buffer) t) [
         | inl q ↦ let (k, at, e) = twin .received .into m (twin .from-received m q) in (k, at)
-        | inr q ↦ let (k, bytes, a, first, there) = news-from (withOwn s (node .own)) (suc (node .clock)) sent news-here m q in (k, a .at)
+        | inr q ↦ let (k, bytes, a, first, there) = news-from s v sent news-here m q in (k, a .at)
       ]
 
   all-single : apart sameMessage all ≡ true
   all-single =
       apart-append sameMessage (p .buffer) (newHere sent call p) (twin .single)
-      (news-apart (withOwn s (node .own)) (suc (node .clock)) sent (told s w sent good sent-as) news-here)
+      (news-apart s v sent (told s w sent good sent-as) news-here)
       (λ x y m n.
       let (k, at, old) = twin .received .into x (twin .from-received x m) in
-      let (j, bytes, a, first, there) = news-from (withOwn s (node .own)) (suc (node .clock)) sent news-here y n in
+      let (j, bytes, a, first, there) = news-from s v sent news-here y n in
       false-of-no (sameMessage x y)
       (λ q.
       clash old
@@ -138,116 +142,114 @@ module _ (s : Setup) (w : World) (sent : List (Option Message)) (call : Call) (n
       subst (λ (x : Message). sameMessage m x ≡ true) same (same-self m)
 
   -- the new stamp is the new event
-  pub stamp-is : newStamp (inputOf node call) ≡ reduced (s .modulus) (eventOf (s .epsilon) (suc (node .clock)) p (heardHere sent call))
-  unfolding newStamp withOwn eventOf
+  pub stamp-is : newStamp (inputOf node call) ≡ reduced (s .modulus) (eventOf (s .epsilon) v p (heardHere sent call))
+  unfolding newStamp eventOf
   stamp-is =
-      ap (λ (h : Heard). countOwn (inputOf node call .setup .epsilon) (inputOf node call .clock) (h .stamp)) (heard-all s node call due-call)
-      ∙ (ap₂ (λ (t : Setup) (v : ℕ). countOwn (t .epsilon) v (hear (withOwn s (node .own)) (suc (node .clock) % s .modulus) (startHere s node) (batchEntries (call .batch)) .stamp))
-      (setup-at s node call due-call) (clock-at s node call due-call)
-      ∙ (ap (countOwn (s .epsilon) (suc (node .clock) % s .modulus)) (news-stamp (withOwn s (node .own)) (suc (node .clock)) sent news-here)
-      ∙ (ap (λ (t : Timestamp). countOwn (s .epsilon) (suc (node .clock) % s .modulus) (absorbAll (s .epsilon) (s .modulus) (suc (node .clock) % s .modulus) t new-events)) (twin .stamp)
-      ∙ event-stamp (s .epsilon) (s .modulus) (suc (node .clock)) (p .last) new-events (limits .epsilon-pos) (twin .wide) (omega (arith, twin .clock-is)) new-reads)))
+      ap (countOwn (inputOf node call .setup .epsilon) (inputOf node call .clock)) (absorbed-all s v node call (legal .called))
+      ∙ (ap₂ (λ (t : Setup) (u : ℕ). countOwn (t .epsilon) u
+      (absorbAll s (v % s .modulus) (openingStamp s (v % s .modulus) (node .tables)) (batchEntries (call .batch)) (numbersOf s (v % s .modulus) (startHere s v node call) (batchEntries (call .batch)))))
+      (setup-at s node call (legal .called)) (clock-at s node call (legal .called))
+      ∙ (ap (countOwn (s .epsilon) (v % s .modulus)) (news-stamp s v sent (openingStamp s (v % s .modulus) (node .tables)) news-here)
+      ∙ (ap (λ (t : Timestamp). countOwn (s .epsilon) (v % s .modulus) (absorbEvents (s .epsilon) (s .modulus) (v % s .modulus) t new-events)) open-stamp
+      ∙ event-stamp (s .epsilon) (s .modulus) v 1 (limits .epsilon-pos) (p .last) new-events (twin .wide) next new-reads)))
     where
       new-events : List Event
       new-events = map (λ (m : Message). m .event) (newHere sent call p)
 
-      new-reads : (e : Event) → List·Memᴰ e new-events → ReadsTrue (s .epsilon) (s .modulus) (suc (node .clock)) (e .r)
+      new-reads : (e : Event) → List·Memᴰ e new-events → ReadsTrue (s .epsilon) (s .modulus) v (e .r)
       new-reads e t =
           let (m, there, is) = mem-of-map (λ (x : Message). x .event) (newHere sent call p) t in
           rw is (all-reads m (Memᴰ·append-right (p .buffer) there))
 
   queue-is : SameMembers (s .modulus) (heardOf (inputOf node call) .queue) all
-  unfolding withOwn
   queue-is =
-      subst (λ (h : Heard). SameMembers (s .modulus) (h .queue) all) (sym (heard-all s node call due-call))
-      (news-queue (withOwn s (node .own)) (suc (node .clock)) sent (p .buffer) news-here (twin .queue))
+      subst (λ (h : Heard). SameMembers (s .modulus) (h .queue) all) (sym (heard-all s v node call (legal .called)))
+      (news-queue s v sent (p .buffer) news-here open-queue)
 
-  queue-sorted : Sorted (keyNear (s .epsilon) (s .modulus) (suc (node .clock) % s .modulus)) (heardOf (inputOf node call) .queue)
-  unfolding before compareFrames withOwn
+  queue-sorted : Sorted (keyNear s (v % s .modulus)) (heardOf (inputOf node call) .queue)
+  unfolding before compareFrames
   queue-sorted =
-      sorted-of-chained (keyNear (s .epsilon) (s .modulus) (suc (node .clock) % s .modulus)) (heardOf (inputOf node call) .queue)
-      (subst (λ (v : ℕ). chained (before (s .epsilon) (s .modulus) v) (heardOf (inputOf node call) .queue) ≡ true) (clock-at s node call due-call)
-      (subst (λ (t : Setup). chained (before (t .epsilon) (t .modulus) (inputOf node call .clock)) (heardOf (inputOf node call) .queue) ≡ true) (setup-at s node call due-call)
-      (hearing-end (inputOf node call) (accepted-input node call (legal .accepted)) .queue .ordered)))
+      sorted-of-chained (keyNear s (v % s .modulus)) (heardOf (inputOf node call) .queue)
+      (subst (λ (u : ℕ). chained (before s u) (heardOf (inputOf node call) .queue) ≡ true) (clock-at s node call (legal .called))
+      (subst (λ (t : Setup). chained (before t (inputOf node call .clock)) (heardOf (inputOf node call) .queue) ≡ true) (setup-at s node call (legal .called))
+      (hearing-end (inputOf node call) (accepted-input node call (legal .called .accepted)) .ordered)))
 
   pub delivered-is :
-      deliveredOf (inputOf node call) ≡ map (reducedFrame (s .modulus)) (deliveredAt (s .epsilon) (s .delta) (suc (node .clock)) p (heardHere sent call))
-  unfolding deliveredOf deliveredAt buffered withOwn
+      deliveredOf (inputOf node call) ≡ map (reducedFrame (s .modulus)) (deliveredAt (s .epsilon) (s .delta) v p (heardHere sent call))
+  unfolding deliveredOf deliveredAt buffered
   delivered-is =
-      ap₂ (λ (t : Setup) (v : ℕ). select (dueNow t v) (heardOf (inputOf node call) .queue)) (setup-at s node call due-call) (clock-at s node call due-call)
-      ∙ delivered-same (withOwn s (node .own)) (suc (node .clock)) (heardOf (inputOf node call) .queue) all queue-is queue-sorted all-reads all-single all-ranked
+      ap₂ (λ (t : Setup) (u : ℕ). select (dueNow t u) (heardOf (inputOf node call) .queue)) (setup-at s node call (legal .called)) (clock-at s node call (legal .called))
+      ∙ delivered-same s v (heardOf (inputOf node call) .queue) all queue-is queue-sorted all-reads all-single all-ranked
 
   -- what is kept is selected from the queue by the one setup and clock
-  kept-chosen : keptOf (inputOf node call) ≡ select (λ f. not (dueNow (withOwn s (node .own)) (suc (node .clock) % s .modulus) f)) (heardOf (inputOf node call) .queue)
+  kept-chosen : keptOf (inputOf node call) ≡ select (λ f. not (dueNow s (v % s .modulus) f)) (heardOf (inputOf node call) .queue)
   unfolding keptOf
   kept-chosen =
-      ap₂ (λ (t : Setup) (v : ℕ). select (λ f. not (dueNow t v f)) (heardOf (inputOf node call) .queue)) (setup-at s node call due-call) (clock-at s node call due-call)
+      ap₂ (λ (t : Setup) (u : ℕ). select (λ f. not (dueNow t u f)) (heardOf (inputOf node call) .queue)) (setup-at s node call (legal .called)) (clock-at s node call (legal .called))
 
   kept-is :
-      SameMembers (s .modulus) (keptOf (inputOf node call)) (select (λ m. not (deliverable (s .epsilon) (s .delta) (suc (node .clock)) m)) all)
-  unfolding withOwn
+      SameMembers (s .modulus) (keptOf (inputOf node call)) (select (λ m. not (deliverable (s .epsilon) (s .delta) v m)) all)
   kept-is =
-      subst (λ (l : List Frame). SameMembers (s .modulus) l (select (λ m. not (deliverable (s .epsilon) (s .delta) (suc (node .clock)) m)) all)) (sym kept-chosen)
-      (kept-members (withOwn s (node .own)) (suc (node .clock)) (heardOf (inputOf node call) .queue) all queue-is queue-sorted all-reads all-single all-ranked)
+      subst (λ (l : List Frame). SameMembers (s .modulus) l (select (λ m. not (deliverable (s .epsilon) (s .delta) v m)) all)) (sym kept-chosen)
+      (kept-members s v (heardOf (inputOf node call) .queue) all queue-is queue-sorted all-reads all-single all-ranked)
 
   pub kept-are :
       keptOf (inputOf node call)
-      ≡ map (reducedFrame (s .modulus)) (inOrder (s .epsilon) (advanced (s .epsilon) (s .delta) (suc (node .clock)) p (heardHere sent call) .buffer))
-  unfolding advanced buffered withOwn
+      ≡ map (reducedFrame (s .modulus)) (inOrder (s .epsilon) (advanced (s .epsilon) (s .delta) v p (heardHere sent call) .buffer))
+  unfolding advanced buffered
   kept-are =
       kept-chosen
-      ∙ kept-same (withOwn s (node .own)) (suc (node .clock)) (heardOf (inputOf node call) .queue) all queue-is queue-sorted all-reads all-single all-ranked
+      ∙ kept-same s v (heardOf (inputOf node call) .queue) all queue-is queue-sorted all-reads all-single all-ranked
 
   -- the message is the frame
   pub frame-is :
-      reducedFrame (s .modulus) (messageOf (s .epsilon) (suc (node .clock)) p (heardHere sent call) (call .payload)) ≡ eventFrame s (doneOf node call)
+      reducedFrame (s .modulus) (messageOf (s .epsilon) v p (heardHere sent call) (call .payload)) ≡ eventFrame s (doneOf node call)
   unfolding reducedFrame messageOf eventFrame frameOf doneOf
   frame-is =
-      let stamps : reduced (s .modulus) (eventOf (s .epsilon) (suc (node .clock)) p (heardHere sent call)) ≡ eventFrame s (doneOf node call) .stamp =
-      sym stamp-is ∙ sym (event.event-stamp s node call due-call) in
+      let stamps : reduced (s .modulus) (eventOf (s .epsilon) v p (heardHere sent call)) ≡ eventFrame s (doneOf node call) .stamp =
+      sym stamp-is ∙ sym (event.event-stamp s node call (legal .called)) in
       λ i. record { station = twin .number i; stamp = stamps i; payload = call .payload }
 
   -- what is sent
   sent-frame :
       frameOf (s .epsilon) (node .own) (newStamp (inputOf node call)) (call .payload)
-      ≡ reducedFrame (s .modulus) (messageOf (s .epsilon) (suc (node .clock)) p (heardHere sent call) (call .payload))
+      ≡ reducedFrame (s .modulus) (messageOf (s .epsilon) v p (heardHere sent call) (call .payload))
   unfolding reducedFrame messageOf frameOf
   sent-frame =
-      let stamps : trimmed (s .epsilon) (newStamp (inputOf node call)) ≡ reduced (s .modulus) (eventOf (s .epsilon) (suc (node .clock)) p (heardHere sent call)) =
-      trimmed-same (s .epsilon) (newStamp (inputOf node call)) (sound-at s node call due-call .wide) ∙ stamp-is in
+      let stamps : trimmed (s .epsilon) (newStamp (inputOf node call)) ≡ reduced (s .modulus) (eventOf (s .epsilon) v p (heardHere sent call)) =
+      trimmed-same (s .epsilon) (newStamp (inputOf node call)) (sound-at s node call (legal .called) .wide) ∙ stamp-is in
       λ i. record { station = sym (twin .number) i; stamp = stamps i; payload = call .payload }
 
   sent-are :
       sentBytes (inputOf node call)
-      ≡ cond (call .send) (encode (reducedFrame (s .modulus) (messageOf (s .epsilon) (suc (node .clock)) p (heardHere sent call) (call .payload)))) []
-  unfolding sentBytes inputOf withOwn
+      ≡ cond (call .send) (encode (reducedFrame (s .modulus) (messageOf (s .epsilon) v p (heardHere sent call) (call .payload)))) []
+  unfolding sentBytes inputOf
   sent-are =
-      ap (λ (t : Setup). cond (call .send) (encode (frameOf (t .epsilon) (t .own) (newStamp (inputOf node call)) (call .payload))) []) (legal .setup-is)
+      ap₂ (λ (t : Setup) (o : ℕ). cond (call .send) (encode (frameOf (t .epsilon) o (newStamp (inputOf node call)) (call .payload))) []) (legal .called .setup-is) (legal .called .own-is)
       ∙ ap (λ (f : Frame). cond (call .send) (encode f) []) sent-frame
 
-  no-repair : repairOf (inputOf node call) ≡ 0
-  unfolding repairOf tablesSound queueSound ownStamp inputOf nextInput withOwn
-  no-repair = rw (legal .setup-is, legal .clock-is) (twin .calm)
+  no-repair : repairOf (inputOf node call .setup) (inputOf node call .clock) (inputOf node call .tables) (inputOf node call .holdback) ≡ 0
+  unfolding inputOf
+  no-repair = rw (legal .called .setup-is, legal .called .clock-is) (opens-calm s node v limits memory (legal .called .turn))
 
   taken-are : takenCount (heardOf (inputOf node call) .verdicts) ≡ length (newHere sent call p)
-  unfolding withOwn takenCount select
+  unfolding takenCount select
   taken-are =
-      ap (λ (h : Heard). takenCount (h .verdicts)) (heard-all s node call due-call)
-      ∙ (news-taken (withOwn s (node .own)) (suc (node .clock)) sent news-here ∙ zero-add (length (newHere sent call p)))
+      ap (λ (h : Heard). takenCount (h .verdicts)) (heard-all s v node call (legal .called))
+      ∙ (news-taken s v sent news-here ∙ zero-add (length (newHere sent call p)))
 
   verdicts-heard : heardOf (inputOf node call) .verdicts ≡ verdictsOn (p .received) (heardHere sent call)
-  unfolding withOwn
   verdicts-heard =
-      ap (λ (h : Heard). h .verdicts) (heard-all s node call due-call)
-      ∙ news-verdicts (withOwn s (node .own)) (suc (node .clock)) sent (p .received) (told s w sent good sent-as) news-here
+      ap (λ (h : Heard). h .verdicts) (heard-all s v node call (legal .called))
+      ∙ news-verdicts s v sent (p .received) (told s w sent good sent-as) news-here
       (seen-same sent (heardAt (w .past) (call .node)) (heardTo (w .past) call 0) (p .received) heard-start (twin .received))
 
   pub same-as : SameAs s (outcomeOf s sent p (doneOf node call .clock) call) (doneOf node call)
-  unfolding outcomeOf doneOf outputOf acceptance inputOf withOwn
+  unfolding outcomeOf doneOf outputOf acceptance inputOf
   same-as =
       let i = inputOf node call in
-      let a = accepted-input node call (legal .accepted) in
-      subst (λ (n : ℕ). SameAs s (outcomeOf s sent p n call) (doneOf node call)) (sym (done-clock s node call due-call))
+      let a = accepted-input node call (legal .called .accepted) in
+      subst (λ (n : ℕ). SameAs s (outcomeOf s sent p n call) (doneOf node call)) (sym (done-clock s node call (legal .called)))
       (record {
         tables = tables-are i a ∙ ap widened stamp-is;
         repair = ap (λ (o : Output). o .answer .repair) (a .accepted) ∙ no-repair;
@@ -255,37 +257,37 @@ module _ (s : Setup) (w : World) (sent : List (Option Message)) (call : Call) (n
         verdicts = verdicts-are i a ∙ ap (λ (l : List ℕ). overlay l (call .verdicts)) verdicts-heard;
         holdback =
             holdback-is i a
-            ∙ ap₂ (λ (t : Setup) (l : List Frame). encodeHoldback (holdbackSize t) l) (setup-at s node call due-call) kept-are;
+            ∙ ap₂ (λ (t : Setup) (l : List Frame). encodeHoldback (holdbackSize t) l) (setup-at s node call (legal .called)) kept-are;
         outgoing = outgoing-is i a ∙ ap (λ (l : List ℕ). overlay l (call .outgoing)) sent-are;
         sent = sent-is i a ∙ ap length sent-are;
         delivery = delivery-is i a ∙ ap (λ (l : List Frame). overlay (encodeFrames l) (call .delivery)) delivered-is;
         delivered =
             ap (λ (o : Output). o .answer .delivered) (a .accepted)
-            ∙ (ap length delivered-is ∙ length-map (deliveredAt (s .epsilon) (s .delta) (suc (node .clock)) p (heardHere sent call)) (reducedFrame (s .modulus)));
+            ∙ (ap length delivered-is ∙ length-map (deliveredAt (s .epsilon) (s .delta) v p (heardHere sent call)) (reducedFrame (s .modulus)));
       })
 
   -- the new event
   abbrev new-event : Event
-  new-event = eventOf (s .epsilon) (suc (node .clock)) p (heardHere sent call)
+  new-event = eventOf (s .epsilon) v p (heardHere sent call)
 
-  new-clock : new-event .r ≡ suc (node .clock)
+  new-clock : new-event .r ≡ v
   unfolding eventOf nextEvent
   new-clock = refl
 
   new-knows : Knows (p .last) new-event
-  unfolding eventOf withOwn
+  unfolding eventOf
   new-knows =
-      next-knows (s .epsilon) (suc (node .clock)) (p .last) (map (λ (m : Message). m .event) (newHere sent call p)) (limits .epsilon-pos) (twin .wide) (omega (arith, twin .clock-is))
+      next-knows (s .epsilon) v (p .last) (map (λ (m : Message). m .event) (newHere sent call p)) (limits .epsilon-pos) (twin .wide) (omega (arith, next))
 
-  new-more : known (p .last) (suc (node .clock) + s .epsilon) < known new-event (suc (node .clock) + s .epsilon)
-  unfolding eventOf withOwn
+  new-more : known (p .last) (v + s .epsilon) < known new-event (v + s .epsilon)
+  unfolding eventOf
   new-more =
-      next-more (s .epsilon) (suc (node .clock)) (p .last) (map (λ (m : Message). m .event) (newHere sent call p)) (limits .epsilon-pos) (twin .wide) (omega (arith, twin .clock-is))
+      next-more (s .epsilon) v (p .last) (map (λ (m : Message). m .event) (newHere sent call p)) (limits .epsilon-pos) (twin .wide) (omega (arith, next))
 
   -- what its node sent before, the new event knows of
   new-knows-sent : (k : ℕ) (m : Message) (d : Done) → getElem? sent k ≡ some (some m) → getElem? (w .past) k ≡ some d → d .node ≡ call .node → Knows (m .event) new-event
   new-knows-sent k m d at d-at here =
-      knows-trans (m .event) (p .last) new-event (omega (arith, new-clock, twin .clock-is)) (twin .knows k m d at d-at here) new-knows
+      knows-trans (m .event) (p .last) new-event (omega (arith, new-clock, next)) (twin .knows k m d at d-at here) new-knows
 
   -- its message comes after those that its node sent before
   pub ranked-last :
@@ -295,31 +297,19 @@ module _ (s : Setup) (w : World) (sent : List (Option Message)) (call : Call) (n
   ranked-last k m m′ d e at d-at here =
       rank-before (s .n) (s .epsilon) (s .modulus) m m′ (copied-ok s w sent good sent-as k m at .sound)
       (subst (λ (x : Event). Sound (s .n) (s .epsilon) (reduced (s .modulus) x)) (sym e)
-      (subst (λ (t : Timestamp). Sound (s .n) (s .epsilon) t) stamp-is (sound-at s node call due-call)))
+      (subst (λ (t : Timestamp). Sound (s .n) (s .epsilon) t) stamp-is (sound-at s node call (legal .called))))
       (subst (λ (x : Event). Knows (m .event) x) (sym e) (new-knows-sent k m d at d-at here))
       (subst (λ (x : Event). known (m .event) (x .r + s .epsilon) < known x (x .r + s .epsilon)) (sym e) more)
     where
       more : known (m .event) (new-event .r + s .epsilon) < known new-event (new-event .r + s .epsilon)
       more =
           subst (λ (n : ℕ). known (m .event) (n + s .epsilon) < known new-event (n + s .epsilon)) (sym new-clock)
-          (omega (arith, new-more, twin .knows k m d at d-at here .counts (suc (node .clock) + s .epsilon) (omega (arith, twin .clock-is))))
-
-  -- what the call leaves needs no repair
-  no-repair-next : repairOf (nextInput s (nodeAfter node (outputOf node call))) ≡ 0
-  no-repair-next =
-      next-repair (inputOf node call) (nextInput s (nodeAfter node (outputOf node call))) (accepted-input node call (legal .accepted))
-      (unfold nextInput nodeAfter in (sym (setup-at s node call due-call))) turn (unfold nextInput nodeAfter outputOf in refl) (unfold nextInput nodeAfter outputOf in refl)
-    where
-      turn : nextInput s (nodeAfter node (outputOf node call)) .clock ≡ (inputOf node call .clock + 1) % inputOf node call .setup .modulus
-      turn =
-          unfold nextInput withOwn in
-          (ap (λ (x : ℕ). suc x % s .modulus) (after-clock s node call due-call)
-          ∙ sym (rw (setup-at s node call due-call, clock-at s node call due-call, mod-add-left, add-one) refl))
+          (omega (arith, new-more, twin .knows k m d at d-at here .counts (v + s .epsilon) (omega (arith, next))))
 
   heard-here : (k : ℕ) → heardAt (w .past ++ (doneOf node call ∷ [])) (call .node) k ≡ (heardAt (w .past) (call .node) k || any (isFrom k) (call .sources))
   heard-here k =
       heard-snoc (w .past) (doneOf node call) (call .node) k
-      ∙ ap (λ (b : Bool). heardAt (w .past) (call .node) k || b) (unfold heardIn doneOf in (rw (legal .accepted, eq-eqb (call .node) (call .node) refl) refl))
+      ∙ ap (λ (b : Bool). heardAt (w .past) (call .node) k || b) (unfold heardIn doneOf in (rw (legal .called .accepted, eq-eqb (call .node) (call .node) refl) refl))
 
   seen-next :
       (x : Option Message) → SeenIs (sent ++ (x ∷ [])) (heardAt (w .past ++ (doneOf node call ∷ [])) (call .node)) (p .received ++ newHere sent call p)
@@ -329,7 +319,7 @@ module _ (s : Setup) (w : World) (sent : List (Option Message)) (call : Call) (n
             elim (List·Memᴰ·append-cases (p .received) t) [
               | inl q ↦ let (k, at, e) = twin .received .into m q in (k, grown-at sent x k at, heard-here k ∙ or-left (any (isFrom k) (call .sources)) e)
               | inr q ↦
-                  let (k, bytes, a, first, there) = news-from (withOwn s (node .own)) (suc (node .clock)) sent news-here m q in
+                  let (k, bytes, a, first, there) = news-from s v sent news-here m q in
                   (k, grown-at sent x k (a .at), heard-here k ∙ or-right (heardAt (w .past) (call .node) k) there)
             ];
         back = λ k m at e. back k m at (or-cases (heardAt (w .past) (call .node) k) (any (isFrom k) (call .sources)) (sym (heard-here k) ∙ e));
@@ -345,34 +335,31 @@ module _ (s : Setup) (w : World) (sent : List (Option Message)) (call : Call) (n
           Memᴰ·append-left (newHere sent call p)
           (twin .received .back k m (known-before k m (omega (arith, good .heard-before (call .node) k h, sent-as .same-length)) at) h)
       back k m at (inr h) =
-          let at-old : getElem? sent k ≡ some (some m) = known-before k m (news-sent (withOwn s (node .own)) (suc (node .clock)) sent news-here k h) at in
+          let at-old : getElem? sent k ≡ some (some m) = known-before k m (news-sent s v sent news-here k h) at in
           elim (true-or-false (heardAt (w .past) (call .node) k)) [
             | inl e ↦ Memᴰ·append-left (newHere sent call p) (twin .received .back k m at-old e)
-            | inr e ↦ Memᴰ·append-right (p .received) (news-all (withOwn s (node .own)) (suc (node .clock)) sent news-here k m at-old (heard-start k ∙ e) h)
+            | inr e ↦ Memᴰ·append-right (p .received) (news-all s v sent news-here k m at-old (heard-start k ∙ e) h)
           ]
 
-  kept-waits :
-      (m : Message) → List·Memᴰ m (select (λ m. not (deliverable (s .epsilon) (s .delta) (suc (node .clock)) m)) all) → Waits s (suc (suc (node .clock))) m
+  kept-later :
+      (m : Message) → List·Memᴰ m (select (λ m. not (deliverable (s .epsilon) (s .delta) v m)) all) → v < m .event .r + m .event .c + s .delta + s .epsilon
   unfolding deliverable
-  kept-waits m t =
-      let (there, un) = mem-of-select (λ m. not (deliverable (s .epsilon) (s .delta) (suc (node .clock)) m)) all t in
-      let h = all-waits m there in
-      let apart-from : suc (node .clock) ≡ m .event .r + m .event .c + s .delta + s .epsilon → ⊥ =
-      eqb-false (suc (node .clock)) (m .event .r + m .event .c + s .delta + s .epsilon) (false-of-not (eqb (suc (node .clock)) (m .event .r + m .event .c + s .delta + s .epsilon)) un) in
-      record {
-        close = h .close;
-        not-ahead = omega (arith, h .not-ahead);
-        not-due =
-            elim (lt-or-ge (suc (node .clock)) (m .event .r + m .event .c + s .delta + s .epsilon)) [
-              | inl q ↦ q
-              | inr q ↦ absurd (apart-from (omega (arith, h .not-due)))
-            ];
-      }
+  kept-later m t =
+      let (there, un) = mem-of-select (λ m. not (deliverable (s .epsilon) (s .delta) v m)) all t in
+      let apart-from : v ≡ m .event .r + m .event .c + s .delta + s .epsilon → ⊥ =
+      eqb-false v (m .event .r + m .event .c + s .delta + s .epsilon) (false-of-not (eqb v (m .event .r + m .event .c + s .delta + s .epsilon)) un) in
+      elim (lt-or-ge v (m .event .r + m .event .c + s .delta + s .epsilon)) [
+        | inl q ↦ q
+        | inr q ↦ absurd (apart-from (omega (arith, all-waits m there .not-due)))
+      ]
+
+  kept-waits : (m : Message) → List·Memᴰ m (select (λ m. not (deliverable (s .epsilon) (s .delta) v m)) all) → Waits s v m
+  kept-waits m t = all-waits m (mem-of-select (λ m. not (deliverable (s .epsilon) (s .delta) v m)) all t .0)
 
   kept-received :
-      (m : Message) → List·Memᴰ m (select (λ m. not (deliverable (s .epsilon) (s .delta) (suc (node .clock)) m)) all) → List·Memᴰ m (p .received ++ newHere sent call p)
+      (m : Message) → List·Memᴰ m (select (λ m. not (deliverable (s .epsilon) (s .delta) v m)) all) → List·Memᴰ m (p .received ++ newHere sent call p)
   kept-received m t =
-      elim (List·Memᴰ·append-cases (p .buffer) (mem-of-select (λ m. not (deliverable (s .epsilon) (s .delta) (suc (node .clock)) m)) all t .0)) [
+      elim (List·Memᴰ·append-cases (p .buffer) (mem-of-select (λ m. not (deliverable (s .epsilon) (s .delta) v m)) all t .0)) [
         | inl q ↦ Memᴰ·append-left (newHere sent call p) (twin .from-received m q)
         | inr q ↦ Memᴰ·append-right (p .received) q
       ]
@@ -381,22 +368,20 @@ module _ (s : Setup) (w : World) (sent : List (Option Message)) (call : Call) (n
   pub twin-moves :
       (x : Option Message) → ((m : Message) → x ≡ some m → m .event ≡ new-event)
       → Twin s (w .past ++ (doneOf node call ∷ [])) (sent ++ (x ∷ [])) (call .node) (nodeAfter node (outputOf node call))
-      (advanced (s .epsilon) (s .delta) (suc (node .clock)) p (heardHere sent call))
+      (advanced (s .epsilon) (s .delta) v p (heardHere sent call))
   unfolding advanced buffered
   twin-moves x x-is =
       record {
         number = unfold nodeAfter in (twin .number);
-        clock-is = new-clock ∙ sym (after-clock s node call due-call);
-        wide = unfold eventOf in (event-wide (s .epsilon) (suc (node .clock)) (p .last ∷ map (λ (m : Message). m .event) (newHere sent call p)));
-        stamp =
-            leaves-stamp s node call due-call
-            ∙ ap₂ (λ (n : ℕ) (t : Timestamp). step (suc n % s .modulus) t) (sym (after-clock s node call due-call)) stamp-is;
-        calm = no-repair-next;
+        clock-is = new-clock ∙ sym (after-clock s node call (legal .called));
+        wide = unfold eventOf in (event-wide (s .epsilon) v (p .last ∷ map (λ (m : Message). m .event) (newHere sent call p)));
+        stamp = leaves-tables s node call (legal .called) ∙ stamp-is;
         queue =
-            subst (λ (l : List Frame). SameMembers (s .modulus) l (select (λ m. not (deliverable (s .epsilon) (s .delta) (suc (node .clock)) m)) all))
-            (sym (leaves-queue s node call due-call)) kept-is;
-        single = apart-select sameMessage (λ m. not (deliverable (s .epsilon) (s .delta) (suc (node .clock)) m)) all all-single;
-        waiting = λ m t. subst (λ (n : ℕ). Waits s (suc n) m) (sym (after-clock s node call due-call)) (kept-waits m t);
+            subst (λ (l : List Frame). SameMembers (s .modulus) l (select (λ m. not (deliverable (s .epsilon) (s .delta) v m)) all))
+            (sym (leaves-queue s node call (legal .called))) kept-is;
+        single = apart-select sameMessage (λ m. not (deliverable (s .epsilon) (s .delta) v m)) all all-single;
+        waiting = λ m t. subst (λ (n : ℕ). Waits s n m) (sym (after-clock s node call (legal .called))) (kept-waits m t);
+        undue = λ m t. subst (λ (n : ℕ). n < m .event .r + m .event .c + s .delta + s .epsilon) (sym (after-clock s node call (legal .called))) (kept-later m t);
         from-received = kept-received;
         received = seen-next x;
         knows = λ k m d at d-at here.

@@ -6,29 +6,29 @@ use mathlib.Core.Path.{_≡_, refl, sym, ap, _∙_}
 use mathlib.Core.Logic.{inl, inr}
 use mathlib.Core.Bool.{cond}
 use mathlib.Core.List.{List, [], _∷_, map, List·Memᴰ, List·Memᴰ·head, List·Memᴰ·tail}
-use lib.ListN.{length, drop, getD, set, replicate, length-append, length-drop, length-set}
+use lib.ListN.{length, drop, getD, set, replicate, length-append, length-drop, length-set, length-replicate}
 use lib.Dec.{eqb}
 use lib.Seq.{getD-set-same, getD-set-other}
-use Rattle.laws.specs.Lists.{tab, largest}
+use Rattle.laws.specs.Lists.{tab, largest, placedAt}
 use Rattle.laws.proofs.Numbers.{lt-or-ge, eq-or-ne}
 use Rattle.laws.proofs.Lists.{tab-ext, eq-tab, length-tab, getD-tab, replicate-tab, set-tab, largest-map-mem}
 use Rattle.model.specs.Setup.{width}
-use Rattle.model.specs.Timestamp.{Timestamp, countAt, sum, near, shift, step, absorb, countOwn, fresh}
+use Rattle.model.specs.Timestamp.{Timestamp, sum, near, shift, step, absorb, countOwn, fresh}
 use Rattle.model.specs.Published.{Event, known, beyond, initial, eventC, eventKn, counted, nextEvent}
 use Rattle.theory.specs.Demand2.{reduced}
-use Rattle.lemmas.proofs.Counts.{count-index, count-past, count-moved, absorb-at, absorb-wide, shift-at}
+use Rattle.lemmas.proofs.Counts.{count-zero, count-index, count-past, count-moved, absorb-at, absorb-wide, shift-at}
 
 -- what the tick makes of a stamp by taking these events' timestamps in turn, their clocks read near v
-unfoldable pub absorbAll : ℕ → ℕ → ℕ → Timestamp → List Event → Timestamp
-absorbAll epsilon B v t [] = t
-absorbAll epsilon B v t (e ∷ es) = absorbAll epsilon B v (absorb epsilon B t (near epsilon B v (e .r % B)) (reduced B e)) es
+unfoldable pub absorbEvents : ℕ → ℕ → ℕ → Timestamp → List Event → Timestamp
+absorbEvents epsilon B v t [] = t
+absorbEvents epsilon B v t (e ∷ es) = absorbEvents epsilon B v (absorb epsilon B t (near epsilon B v (e .r % B)) (reduced B e)) es
 
 -- the clock of an event, read near v, is its true clock
 abbrev pub ReadsTrue : ℕ → ℕ → ℕ → ℕ → Type 0
 ReadsTrue epsilon B v r = near epsilon B (v % B) (r % B) + v ≡ B + r
 
-pub known-count : (e : Event) (w : ℕ) → known e w ≡ countAt (e .r) (e .kn) w
-unfolding known countAt
+pub known-count : (e : Event) (w : ℕ) → known e w ≡ placedAt (e .r) (e .kn) w
+unfolding known placedAt
 known-count e w = refl
 
 twice : (epsilon : ℕ) → width epsilon ≡ epsilon + epsilon
@@ -44,101 +44,103 @@ module _ (epsilon B v : ℕ) where
 
   absorb-event-at :
       (t : Timestamp) (e : Event) → ReadsTrue epsilon B v (e .r) → (i : ℕ) → i < width epsilon
-      → getD (absorb epsilon B t (near epsilon B (v % B) (e .r % B)) (reduced B e) .kn) i 0 ≡ max (getD (t .kn) i 0) (known e (v + i))
+      → placedAt 0 (absorb epsilon B t (near epsilon B (v % B) (e .r % B)) (reduced B e) .kn) i ≡ max (placedAt 0 (t .kn) i) (known e (v + i))
   unfolding reduced
   absorb-event-at t e h i k =
       absorb-at epsilon B (near epsilon B (v % B) (e .r % B)) t (reduced B e) i k
       ∙ rw (count-moved (near epsilon B (v % B) (e .r % B)) (e .r) (e .kn) (B + i) (v + i) (omega arith), known-count e (v + i))
 
-  absorb-all-r : (t : Timestamp) (es : List Event) → absorbAll epsilon B (v % B) t es .r ≡ t .r
-  unfolding absorbAll absorb
+  absorb-all-r : (t : Timestamp) (es : List Event) → absorbEvents epsilon B (v % B) t es .r ≡ t .r
+  unfolding absorbEvents absorb
   absorb-all-r t [] = refl
   absorb-all-r t (e ∷ es) = absorb-all-r (absorb epsilon B t (near epsilon B (v % B) (e .r % B)) (reduced B e)) es
 
   absorb-all-c :
       (t : Timestamp) (es : List Event) → ((e : Event) → List·Memᴰ e es → ReadsTrue epsilon B v (e .r))
-      → absorbAll epsilon B (v % B) t es .c ≡ max (t .c) (largest (map (beyond v) es))
-  unfolding absorbAll largest
+      → absorbEvents epsilon B (v % B) t es .c ≡ max (t .c) (largest (map (beyond v) es))
+  unfolding absorbEvents largest
   absorb-all-c t [] h = omega arith
   absorb-all-c t (e ∷ es) h =
       let t′ = absorb epsilon B t (near epsilon B (v % B) (e .r % B)) (reduced B e) in
       let one : t′ .c ≡ max (t .c) (beyond v e) = absorb-event-c t e (h e (List·Memᴰ·head refl)) in
-      let rest : absorbAll epsilon B (v % B) t′ es .c ≡ max (t′ .c) (largest (map (beyond v) es)) =
+      let rest : absorbEvents epsilon B (v % B) t′ es .c ≡ max (t′ .c) (largest (map (beyond v) es)) =
       absorb-all-c t′ es (λ x m. h x (List·Memᴰ·tail m)) in
       omega arith
 
   absorb-all-kn :
       (t : Timestamp) (es : List Event) → length (t .kn) ≡ width epsilon
       → ((e : Event) → List·Memᴰ e es → ReadsTrue epsilon B v (e .r))
-      → absorbAll epsilon B (v % B) t es .kn ≡ tab (width epsilon) (λ i. max (getD (t .kn) i 0) (largest (map (λ e. known e (v + i)) es)))
-  unfolding absorbAll largest
+      → absorbEvents epsilon B (v % B) t es .kn ≡ tab (width epsilon) (λ i. max (placedAt 0 (t .kn) i) (largest (map (λ e. known e (v + i)) es)))
+  unfolding absorbEvents largest
   absorb-all-kn t [] wide h =
-      eq-tab (t .kn) (width epsilon) (λ i. max (getD (t .kn) i 0) 0) 0 wide (λ i k. omega arith)
+      eq-tab (t .kn) (width epsilon) (λ i. max (placedAt 0 (t .kn) i) 0) 0 wide (λ i k. let z : placedAt 0 (t .kn) i ≡ getD (t .kn) i 0 = count-zero (t .kn) i in omega arith)
   absorb-all-kn t (e ∷ es) wide h =
       let t′ = absorb epsilon B t (near epsilon B (v % B) (e .r % B)) (reduced B e) in
       absorb-all-kn t′ es (absorb-wide epsilon B (near epsilon B (v % B) (e .r % B)) t (reduced B e)) (λ x m. h x (List·Memᴰ·tail m))
-      ∙ tab-ext (width epsilon) (λ i. max (getD (t′ .kn) i 0) (largest (map (λ x. known x (v + i)) es)))
-      (λ i. max (getD (t .kn) i 0) (max (known e (v + i)) (largest (map (λ x. known x (v + i)) es))))
+      ∙ tab-ext (width epsilon) (λ i. max (placedAt 0 (t′ .kn) i) (largest (map (λ x. known x (v + i)) es)))
+      (λ i. max (placedAt 0 (t .kn) i) (max (known e (v + i)) (largest (map (λ x. known x (v + i)) es))))
       (λ i k.
-      let one : getD (t′ .kn) i 0 ≡ max (getD (t .kn) i 0) (known e (v + i)) = absorb-event-at t e (h e (List·Memᴰ·head refl)) i k in
+      let one : placedAt 0 (t′ .kn) i ≡ max (placedAt 0 (t .kn) i) (known e (v + i)) = absorb-event-at t e (h e (List·Memᴰ·head refl)) i k in
       omega arith)
 
-  -- the step of the last event's timestamp is the last event as a cause
-  step-event-c : (last : Event) → last .r + 1 ≡ v → step (v % B) (reduced B last) .c ≡ beyond v last
-  unfolding step reduced beyond
-  step-event-c last e = omega arith
+  -- k clocks after the last event, by a step of at most ε
+  module _ (k : ℕ) (few : k ≤ epsilon) where
+    -- the step of the last event's timestamp is the last event as a cause
+    step-event-c : (last : Event) → last .r + k ≡ v → step k (v % B) (reduced B last) .c ≡ beyond v last
+    unfolding step reduced beyond
+    step-event-c last e = omega arith
 
-  step-event-at : (last : Event) → last .r + 1 ≡ v → (i : ℕ) → getD (step (v % B) (reduced B last) .kn) i 0 ≡ known last (v + i)
-  unfolding step reduced
-  step-event-at last e i =
-      shift-at (last .kn) i ∙ sym (known-count last (v + i) ∙ count-index (last .r) (last .kn) (v + i) (1 + i) (omega arith))
+    step-event-at : (last : Event) → last .r + k ≡ v → (i : ℕ) → placedAt 0 (step k (v % B) (reduced B last) .kn) i ≡ known last (v + i)
+    unfolding step reduced
+    step-event-at last e i =
+        shift-at k (last .kn) i ∙ sym (known-count last (v + i) ∙ count-index (last .r) (last .kn) (v + i) (k + i) (omega arith))
 
-  step-event-wide : (last : Event) → length (last .kn) ≡ width epsilon → 1 ≤ epsilon → length (step (v % B) (reduced B last) .kn) ≡ width epsilon
-  unfolding step reduced shift width
-  step-event-wide last wide e = omega (arith, length-append (drop 1 (last .kn)) (replicate 1 0), length-drop 1 (last .kn))
+    step-event-wide : (last : Event) → length (last .kn) ≡ width epsilon → length (step k (v % B) (reduced B last) .kn) ≡ width epsilon
+    unfolding step reduced shift width
+    step-event-wide last wide = omega (arith, length-append (drop k (last .kn)) (replicate k 0), length-drop k (last .kn), length-replicate {A = ℕ} k 0)
 
-  causes-c :
-      (last : Event) (es : List Event) → last .r + 1 ≡ v → ((e : Event) → List·Memᴰ e es → ReadsTrue epsilon B v (e .r))
-      → absorbAll epsilon B (v % B) (step (v % B) (reduced B last)) es .c ≡ eventC v (last ∷ es)
-  unfolding eventC largest
-  causes-c last es next reads =
-      let all = absorb-all-c (step (v % B) (reduced B last)) es reads in
-      let one = step-event-c last next in
-      omega arith
+    causes-c :
+        (last : Event) (es : List Event) → last .r + k ≡ v → ((e : Event) → List·Memᴰ e es → ReadsTrue epsilon B v (e .r))
+        → absorbEvents epsilon B (v % B) (step k (v % B) (reduced B last)) es .c ≡ eventC v (last ∷ es)
+    unfolding eventC largest
+    causes-c last es next reads =
+        let all = absorb-all-c (step k (v % B) (reduced B last)) es reads in
+        let one = step-event-c last next in
+        omega arith
 
-  causes-kn :
-      (last : Event) (es : List Event) → 1 ≤ epsilon → length (last .kn) ≡ width epsilon → last .r + 1 ≡ v
-      → ((e : Event) → List·Memᴰ e es → ReadsTrue epsilon B v (e .r))
-      → absorbAll epsilon B (v % B) (step (v % B) (reduced B last)) es .kn ≡ eventKn epsilon v (last ∷ es)
-  unfolding eventKn largest
-  causes-kn last es e wide next reads =
-      let t = step (v % B) (reduced B last) in
-      absorb-all-kn t es (step-event-wide last wide e) reads
-      ∙ (ap (λ (n : ℕ). tab n (λ i. max (getD (t .kn) i 0) (largest (map (λ x. known x (v + i)) es)))) (twice epsilon)
-      ∙ tab-ext (epsilon + epsilon) (λ i. max (getD (t .kn) i 0) (largest (map (λ x. known x (v + i)) es)))
-      (λ i. max (known last (v + i)) (largest (map (λ x. known x (v + i)) es)))
-      (λ i k. ap (λ (n : ℕ). max n (largest (map (λ x. known x (v + i)) es))) (step-event-at last next i)))
+    causes-kn :
+        (last : Event) (es : List Event) → length (last .kn) ≡ width epsilon → last .r + k ≡ v
+        → ((e : Event) → List·Memᴰ e es → ReadsTrue epsilon B v (e .r))
+        → absorbEvents epsilon B (v % B) (step k (v % B) (reduced B last)) es .kn ≡ eventKn epsilon v (last ∷ es)
+    unfolding eventKn largest
+    causes-kn last es wide next reads =
+        let t = step k (v % B) (reduced B last) in
+        absorb-all-kn t es (step-event-wide last wide) reads
+        ∙ (ap (λ (n : ℕ). tab n (λ i. max (placedAt 0 (t .kn) i) (largest (map (λ x. known x (v + i)) es)))) (twice epsilon)
+        ∙ tab-ext (epsilon + epsilon) (λ i. max (placedAt 0 (t .kn) i) (largest (map (λ x. known x (v + i)) es)))
+        (λ i. max (known last (v + i)) (largest (map (λ x. known x (v + i)) es)))
+        (λ i k. ap (λ (n : ℕ). max n (largest (map (λ x. known x (v + i)) es))) (step-event-at last next i)))
 
-  -- before the own event is counted
-  pub causes-stamp :
-      (last : Event) (es : List Event) → 1 ≤ epsilon → length (last .kn) ≡ width epsilon → last .r + 1 ≡ v
-      → ((e : Event) → List·Memᴰ e es → ReadsTrue epsilon B v (e .r))
-      → absorbAll epsilon B (v % B) (step (v % B) (reduced B last)) es
-      ≡ record { r = v % B; c = eventC v (last ∷ es); kn = eventKn epsilon v (last ∷ es) }
-  unfolding step
-  causes-stamp last es e wide next reads =
-      let r-is = absorb-all-r (step (v % B) (reduced B last)) es in
-      let c-is = causes-c last es next reads in
-      let kn-is = causes-kn last es e wide next reads in
-      λ i. record { r = r-is i; c = c-is i; kn = kn-is i }
+    -- before the own event is counted
+    pub causes-stamp :
+        (last : Event) (es : List Event) → length (last .kn) ≡ width epsilon → last .r + k ≡ v
+        → ((e : Event) → List·Memᴰ e es → ReadsTrue epsilon B v (e .r))
+        → absorbEvents epsilon B (v % B) (step k (v % B) (reduced B last)) es
+        ≡ record { r = v % B; c = eventC v (last ∷ es); kn = eventKn epsilon v (last ∷ es) }
+    unfolding step
+    causes-stamp last es wide next reads =
+        let r-is = absorb-all-r (step k (v % B) (reduced B last)) es in
+        let c-is = causes-c last es next reads in
+        let kn-is = causes-kn last es wide next reads in
+        λ i. record { r = r-is i; c = c-is i; kn = kn-is i }
 
-  -- and after it
-  pub event-stamp :
-      (last : Event) (es : List Event) → 1 ≤ epsilon → length (last .kn) ≡ width epsilon → last .r + 1 ≡ v
-      → ((e : Event) → List·Memᴰ e es → ReadsTrue epsilon B v (e .r))
-      → countOwn epsilon (v % B) (absorbAll epsilon B (v % B) (step (v % B) (reduced B last)) es) ≡ reduced B (nextEvent epsilon v (last ∷ es))
-  unfolding countOwn reduced nextEvent counted
-  event-stamp last es e wide next reads = rw (causes-stamp last es e wide next reads)
+    -- and after it
+    pub event-stamp :
+        (last : Event) (es : List Event) → length (last .kn) ≡ width epsilon → last .r + k ≡ v
+        → ((e : Event) → List·Memᴰ e es → ReadsTrue epsilon B v (e .r))
+        → countOwn epsilon (v % B) (absorbEvents epsilon B (v % B) (step k (v % B) (reduced B last)) es) ≡ reduced B (nextEvent epsilon v (last ∷ es))
+    unfolding countOwn reduced nextEvent counted
+    event-stamp last es wide next reads = rw (causes-stamp last es wide next reads)
 
 -- the counts of an event
 pub event-wide : (epsilon v : ℕ) (causes : List Event) → length (nextEvent epsilon v causes .kn) ≡ width epsilon
@@ -190,7 +192,7 @@ caused-at epsilon v causes e m i h =
 next-at :
     (epsilon v : ℕ) (causes : List Event) (i : ℕ) → known (nextEvent epsilon v causes) (v + i) ≡ getD (counted epsilon (eventKn epsilon v causes)) i 0
 unfolding nextEvent
-next-at epsilon v causes i = known-count (nextEvent epsilon v causes) (v + i) ∙ count-index v (counted epsilon (eventKn epsilon v causes)) (v + i) i refl
+next-at epsilon v causes i = known-count (nextEvent epsilon v causes) (v + i) ∙ (count-index v (counted epsilon (eventKn epsilon v causes)) (v + i) i refl ∙ count-zero (counted epsilon (eventKn epsilon v causes)) i)
 
 kn-length : (epsilon v : ℕ) (causes : List Event) → length (eventKn epsilon v causes) ≡ width epsilon
 unfolding eventKn
@@ -209,7 +211,7 @@ counted-own : (epsilon : ℕ) (kn : List ℕ) → length kn ≡ width epsilon �
 unfolding counted width
 counted-own epsilon kn wide e = getD-set-same kn epsilon (getD kn epsilon 0 + 1) 0 (omega arith)
 
-module _ (epsilon v : ℕ) (last : Event) (es : List Event) (pos : 1 ≤ epsilon) (wide : length (last .kn) ≡ width epsilon) (next : last .r + 1 ≡ v) where
+module _ (epsilon v : ℕ) (last : Event) (es : List Event) (pos : 1 ≤ epsilon) (wide : length (last .kn) ≡ width epsilon) (later : last .r ≤ v) where
   -- a process's next event knows what its last one knew
   pub next-knows : Knows last (nextEvent epsilon v (last ∷ es))
   next-knows = record { sums = sums; counts = counts }
@@ -224,7 +226,7 @@ module _ (epsilon v : ℕ) (last : Event) (es : List Event) (pos : 1 ≤ epsilon
 
       counts : (w : ℕ) → nextEvent epsilon v (last ∷ es) .r < w → known last w ≤ known (nextEvent epsilon v (last ∷ es)) w
       counts w h =
-          let later : v < w = unfold nextEvent in h in
+          let past : v < w = unfold nextEvent in h in
           elim (lt-or-ge (w - v) (width epsilon)) [
             | inl k ↦ inside w (w - v) (omega arith) k
             | inr k ↦ rw (known-past epsilon last w wide (omega arith)) (omega arith)

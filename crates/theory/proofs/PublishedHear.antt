@@ -19,8 +19,9 @@ use Rattle.laws.proofs.Sorted.{apart-cons}
 use Rattle.model.specs.Setup.{Setup}
 use Rattle.model.specs.Timestamp.{Timestamp, near, absorb}
 use Rattle.model.specs.Frame.{Frame, encode, decode}
+use Rattle.model.specs.Order.{readingOf}
 use Rattle.model.specs.Question.{firstNo}
-use Rattle.model.specs.Judge.{Heard, hear, hearOne, judge, judgeQuestions, placeFor, readingOf}
+use Rattle.model.specs.Judge.{Heard, hear, hearOne, judgeQuestions, placeFor, absorbBy, absorbAll}
 use Rattle.model.specs.Tick.{takenCount}
 use Rattle.model.specs.Published.{Message, sameMessage, newOnes}
 use Rattle.model.specs.Run.{Source, sentBy}
@@ -28,9 +29,9 @@ use Rattle.theory.specs.Demand2.{reduced, reducedFrame, messagesHeard, v
 use Rattle.theory.specs.Demand3.{isFrom}
 use Rattle.lemmas.proofs.Bounds.{FrameOk}
 use Rattle.lemmas.proofs.RoundTrip.{decode-encode}
-use Rattle.lemmas.proofs.OneTick.{hear-one-verdict, taken-more}
-use Rattle.theory.proofs.HearLoop.{some-inj, hear-refused}
-use Rattle.theory.proofs.PublishedEvent.{absorbAll}
+use Rattle.lemmas.proofs.OneTick.{numbersOf, hear-one-verdict, taken-more}
+use Rattle.theory.proofs.HearLoop.{some-inj, hear-taken, hear-refused}
+use Rattle.theory.proofs.PublishedEvent.{absorbEvents}
 use Rattle.theory.proofs.PublishedQueue.{SameMembers}
 
 pub same-self : (m : Message) → sameMessage m m ≡ true
@@ -66,23 +67,28 @@ pub data News (s : Setup) (v : ℕ) (sent : List (Option Message)) : (ℕ → Bo
       {heard : ℕ → Bool} {h : Heard} {bytes : List ℕ} {entries : List (List ℕ)} {sources : List Source} {fresh : List Message}
       (k : ℕ) (m : Message) → Incoming s v sent k m bytes → heard k ≡ true
       → firstNo (judgeQuestions s (v % s .modulus) (h .queue) bytes) ≡ 16
-      → News s v sent (also heard k) (hearOne s (v % s .modulus) h bytes) entries sources fresh
+      → News s v sent (also heard k) (hearOne s (v % s .modulus) (judgeQuestions s (v % s .modulus)) h bytes) entries sources fresh
       → News s v sent heard h (bytes ∷ entries) (sentBy k ∷ sources) fresh
   new :
       {heard : ℕ → Bool} {h : Heard} {bytes : List ℕ} {entries : List (List ℕ)} {sources : List Source} {fresh : List Message}
       (k : ℕ) (m : Message) → Incoming s v sent k m bytes → heard k ≡ false
       → firstNo (judgeQuestions s (v % s .modulus) (h .queue) bytes) ≡ 0
-      → News s v sent (also heard k) (hearOne s (v % s .modulus) h bytes) entries sources fresh
+      → News s v sent (also heard k) (hearOne s (v % s .modulus) (judgeQuestions s (v % s .modulus)) h bytes) entries sources fresh
       → News s v sent heard h (bytes ∷ entries) (sentBy k ∷ sources) (m ∷ fresh)
 
--- one entry, by its verdict
-take-message :
+-- a taken message, in the stamp and in the queue
+take-stamp :
+    (s : Setup) (v : ℕ) (t : Timestamp) (bytes : List ℕ) (m : Message) → decode (s .epsilon) bytes ≡ reducedFrame (s .modulus) m
+    → absorbBy 0 s v (decode (s .epsilon) bytes) t ≡ absorb (s .epsilon) (s .modulus) t (near (s .epsilon) (s .modulus) v (m .event .r % s .modulus)) (reduced (s .modulus) (m .event))
+unfolding readingOf reducedFrame reduced
+take-stamp s v t bytes m f = rw f refl
+
+take-queue :
     (s : Setup) (v : ℕ) (h : Heard) (bytes : List ℕ) (m : Message) → decode (s .epsilon) bytes ≡ reducedFrame (s .modulus) m
     → firstNo (judgeQuestions s v (h .queue) bytes) ≡ 0
-    → (hearOne s v h bytes .stamp ≡ absorb (s .epsilon) (s .modulus) (h .stamp) (near (s .epsilon) (s .modulus) v (m .event .r % s .modulus)) (reduced (s .modulus) (m .event)))
-    × (hearOne s v h bytes .queue ≡ insertAt (placeFor s v (h .queue) (reducedFrame (s .modulus) m)) (reducedFrame (s .modulus) m) (h .queue))
-unfolding hearOne judge readingOf reducedFrame reduced
-take-message s v h bytes m f e = rw (e, f) (refl, refl)
+    → hearOne s v (judgeQuestions s v) h bytes .queue ≡ insertAt (placeFor s v (h .queue) (reducedFrame (s .modulus) m)) (reducedFrame (s .modulus) m) (h .queue)
+take-queue s v h bytes m f e =
+    hear-taken s v (judgeQuestions s v) h bytes e ∙ ap (λ (g : Frame). insertAt (placeFor s v (h .queue) g) g (h .queue)) f
 
 -- one message more in buffer and queue
 members-insert :
@@ -114,48 +120,51 @@ module _ (s : Setup) (v : ℕ) (sent : List (Option Message)) where
   -- the stamp takes the new messages in turn
   pub news-stamp :
       {heard : ℕ → Bool} {h : Heard} {entries : List (List ℕ)} {sources : List Source} {fresh : List Message}
-      → News s v sent heard h entries sources fresh
-      → hear s (v % s .modulus) h entries .stamp ≡ absorbAll (s .epsilon) (s .modulus) (v % s .modulus) (h .stamp) (map (λ (m : Message). m .event) fresh)
-  unfolding hear absorbAll
-  news-stamp none-left = refl
-  news-stamp (again {h} {bytes} {fresh} k m a old e rest) =
-      news-stamp rest
-      ∙ ap (λ (t : Timestamp). absorbAll (s .epsilon) (s .modulus) (v % s .modulus) t (map (λ (x : Message). x .event) fresh)) (hear-refused s (v % s .modulus) h bytes 15 e .0)
-  news-stamp (new {h} {bytes} {fresh} k m a old e rest) =
-      news-stamp rest
-      ∙ ap (λ (t : Timestamp). absorbAll (s .epsilon) (s .modulus) (v % s .modulus) t (map (λ (x : Message). x .event) fresh))
-      (take-message s (v % s .modulus) h bytes m (decoded k m bytes a) e .0)
+      (t : Timestamp) → News s v sent heard h entries sources fresh
+      → absorbAll s (v % s .modulus) t entries (numbersOf s (v % s .modulus) h entries)
+      ≡ absorbEvents (s .epsilon) (s .modulus) (v % s .modulus) t (map (λ (m : Message). m .event) fresh)
+  unfolding absorbAll numbersOf absorbEvents
+  news-stamp t none-left = refl
+  news-stamp t (again {h} {bytes} {fresh} k m a old e rest) =
+      let one : ℕ → Timestamp = λ n. absorbBy n s (v % s .modulus) (decode (s .epsilon) bytes) t in
+      news-stamp (one (firstNo (judgeQuestions s (v % s .modulus) (h .queue) bytes))) rest
+      ∙ ap (λ (n : ℕ). absorbEvents (s .epsilon) (s .modulus) (v % s .modulus) (one n) (map (λ (x : Message). x .event) fresh)) e
+  news-stamp t (new {h} {bytes} {fresh} k m a old e rest) =
+      let one : ℕ → Timestamp = λ n. absorbBy n s (v % s .modulus) (decode (s .epsilon) bytes) t in
+      news-stamp (one (firstNo (judgeQuestions s (v % s .modulus) (h .queue) bytes))) rest
+      ∙ ap (λ (x : Timestamp). absorbEvents (s .epsilon) (s .modulus) (v % s .modulus) x (map (λ (x : Message). x .event) fresh))
+      (ap one e ∙ take-stamp s (v % s .modulus) t bytes m (decoded k m bytes a))
 
   -- the queue gets their frames
   pub news-queue :
       {heard : ℕ → Bool} {h : Heard} {entries : List (List ℕ)} {sources : List Source} {fresh : List Message}
       (buffer : List Message) → News s v sent heard h entries sources fresh → SameMembers (s .modulus) (h .queue) buffer
-      → SameMembers (s .modulus) (hear s (v % s .modulus) h entries .queue) (buffer ++ fresh)
+      → SameMembers (s .modulus) (hear s (v % s .modulus) (judgeQuestions s (v % s .modulus)) h entries .queue) (buffer ++ fresh)
   unfolding hear
   news-queue buffer none-left same = rw (append-nil buffer) same
   news-queue buffer (again {h} {bytes} {fresh} k m a old e rest) same =
-      news-queue buffer rest (subst (λ (q : List Frame). SameMembers (s .modulus) q buffer) (sym (hear-refused s (v % s .modulus) h bytes 15 e .1)) same)
+      news-queue buffer rest (subst (λ (q : List Frame). SameMembers (s .modulus) q buffer) (sym (hear-refused s (v % s .modulus) (judgeQuestions s (v % s .modulus)) h bytes 15 e)) same)
   news-queue buffer (new {h} {bytes} {entries} {fresh} k m a old e rest) same =
-      subst (λ (l : List Message). SameMembers (s .modulus) (hear s (v % s .modulus) (hearOne s (v % s .modulus) h bytes) entries .queue) l) (append-assoc buffer (m ∷ []) fresh)
+      subst (λ (l : List Message). SameMembers (s .modulus) (hear s (v % s .modulus) (judgeQuestions s (v % s .modulus)) (hearOne s (v % s .modulus) (judgeQuestions s (v % s .modulus)) h bytes) entries .queue) l) (append-assoc buffer (m ∷ []) fresh)
       (news-queue (buffer ++ (m ∷ [])) rest
-      (subst (λ (q : List Frame). SameMembers (s .modulus) q (buffer ++ (m ∷ []))) (sym (take-message s (v % s .modulus) h bytes m (decoded k m bytes a) e .1))
+      (subst (λ (q : List Frame). SameMembers (s .modulus) q (buffer ++ (m ∷ []))) (sym (take-queue s (v % s .modulus) h bytes m (decoded k m bytes a) e))
       (members-insert (s .modulus) (placeFor s (v % s .modulus) (h .queue) (reducedFrame (s .modulus) m)) m (h .queue) buffer same)))
 
   -- each is counted as taken
   pub news-taken :
       {heard : ℕ → Bool} {h : Heard} {entries : List (List ℕ)} {sources : List Source} {fresh : List Message}
       → News s v sent heard h entries sources fresh
-      → takenCount (hear s (v % s .modulus) h entries .verdicts) ≡ takenCount (h .verdicts) + length fresh
+      → takenCount (hear s (v % s .modulus) (judgeQuestions s (v % s .modulus)) h entries .verdicts) ≡ takenCount (h .verdicts) + length fresh
   unfolding hear
   news-taken {h} none-left = sym (add-zero (takenCount (h .verdicts)))
   news-taken (again {h} {bytes} {fresh} k m a old e rest) =
-      let one : takenCount (hearOne s (v % s .modulus) h bytes .verdicts) ≡ takenCount (h .verdicts) =
+      let one : takenCount (hearOne s (v % s .modulus) (judgeQuestions s (v % s .modulus)) h bytes .verdicts) ≡ takenCount (h .verdicts) =
       ap takenCount (hear-one-verdict s (v % s .modulus) h bytes ∙ ap (λ (n : ℕ). h .verdicts ++ (n ∷ [])) e) ∙ taken-no (h .verdicts) in
       news-taken rest ∙ ap (λ (n : ℕ). n + length fresh) one
   news-taken (new {h} {bytes} {entries} {fresh} k m a old e rest) =
-      let one : takenCount (hearOne s (v % s .modulus) h bytes .verdicts) ≡ takenCount (h .verdicts) + 1 =
+      let one : takenCount (hearOne s (v % s .modulus) (judgeQuestions s (v % s .modulus)) h bytes .verdicts) ≡ takenCount (h .verdicts) + 1 =
       ap takenCount (hear-one-verdict s (v % s .modulus) h bytes ∙ ap (λ (n : ℕ). h .verdicts ++ (n ∷ [])) e) ∙ taken-more (h .verdicts) in
-      let more : takenCount (hear s (v % s .modulus) (hearOne s (v % s .modulus) h bytes) entries .verdicts) ≡ takenCount (hearOne s (v % s .modulus) h bytes .verdicts) + length fresh = news-taken rest in
+      let more : takenCount (hear s (v % s .modulus) (judgeQuestions s (v % s .modulus)) (hearOne s (v % s .modulus) (judgeQuestions s (v % s .modulus)) h bytes) entries .verdicts) ≡ takenCount (hearOne s (v % s .modulus) (judgeQuestions s (v % s .modulus)) h bytes .verdicts) + length fresh = news-taken rest in
       omega arith
 
   -- where a new message comes from
@@ -300,19 +309,19 @@ one-more l x rest l′ all e e′ = rw (e, e′) (append-assoc l (x ∷ []) rest
 pub news-verdicts :
     (s : Setup) (v : ℕ) (sent : List (Option Message)) {heard : ℕ → Bool} {h : Heard} {entries : List (List ℕ)} {sources : List Source} {fresh : List Message}
     (seen : List Message) → Told sent → News s v sent heard h entries sources fresh → SeenIs sent heard seen
-    → hear s (v % s .modulus) h entries .verdicts ≡ h .verdicts ++ verdictsOn seen (messagesHeard sent sources)
+    → hear s (v % s .modulus) (judgeQuestions s (v % s .modulus)) h entries .verdicts ≡ h .verdicts ++ verdictsOn seen (messagesHeard sent sources)
 unfolding hear messagesHeard verdictsOn
 news-verdicts s v sent {h} seen told none-left is = sym (append-nil (h .verdicts))
 news-verdicts s v sent {heard} {h} seen told (again {bytes} {sources} k m a old e rest) is =
     news-verdicts s v sent seen told rest (seen-again sent heard seen k old is)
-    ∙ one-more (h .verdicts) 16 (verdictsOn seen (messagesHeard sent sources)) (hearOne s (v % s .modulus) h bytes .verdicts)
+    ∙ one-more (h .verdicts) 16 (verdictsOn seen (messagesHeard sent sources)) (hearOne s (v % s .modulus) (judgeQuestions s (v % s .modulus)) h bytes .verdicts)
     (verdictsOn seen (messagesHeard sent (sentBy k ∷ sources)))
     (hear-one-verdict s (v % s .modulus) h bytes ∙ ap (λ (n : ℕ). h .verdicts ++ (n ∷ [])) e)
     (ap (verdictsOn seen) (heard-cons sent k m sources (a .at))
     ∙ verdicts-again seen m (messagesHeard sent sources) (seen-any sent heard seen told is k m (a .at) ∙ old))
 news-verdicts s v sent {heard} {h} seen told (new {bytes} {sources} k m a old e rest) is =
     news-verdicts s v sent (m ∷ seen) told rest (seen-new sent heard seen k m (a .at) is)
-    ∙ one-more (h .verdicts) 0 (verdictsOn (m ∷ seen) (messagesHeard sent sources)) (hearOne s (v % s .modulus) h bytes .verdicts)
+    ∙ one-more (h .verdicts) 0 (verdictsOn (m ∷ seen) (messagesHeard sent sources)) (hearOne s (v % s .modulus) (judgeQuestions s (v % s .modulus)) h bytes .verdicts)
     (verdictsOn seen (messagesHeard sent (sentBy k ∷ sources)))
     (hear-one-verdict s (v % s .modulus) h bytes ∙ ap (λ (n : ℕ). h .verdicts ++ (n ∷ [])) e)
     (ap (verdictsOn seen) (heard-cons sent k m sources (a .at))

@@ -2,29 +2,29 @@
 -- Assumes nothing.
 use Prim.Native.Nat.{ℕ, suc, _+_, _-_, _%_, _≤_, _<_, Ordering·lt}
 use native.Mathlib.Omega.{arith}
-use mathlib.Core.Path.{_≡_, refl, sym, ap, _∙_}
+use mathlib.Core.Path.{_≡_, sym, ap, _∙_}
 use mathlib.Core.Logic.{_⊎_, inl, inr}
 use mathlib.Core.Bool.{Bool, true, not}
 use mathlib.Core.List.{List, [], _∷_, _++_, map, append-assoc, List·Memᴰ}
 use lib.ListN.{length, getD, length-append}
 use lib.Seq.{getD-append-seam}
 use borrow.Author.Tests.{eq-eqb, ne-eqb}
-use Rattle.laws.specs.Lists.{tab, select, sortBy, apart}
+use Rattle.laws.specs.Lists.{tab, select, sortBy, apart, placedAt}
 use Rattle.laws.specs.Lex.{lexCompare}
 use Rattle.laws.proofs.Numbers.{lt-or-ge, eq-or-ne}
-use Rattle.laws.proofs.Lists.{length-tab, mem-select, mem-of-select, mem-map, mem-of-map}
+use Rattle.laws.proofs.Lists.{tab-ext, length-tab, mem-select, mem-of-select, mem-map, mem-of-map}
 use Rattle.laws.proofs.Lex.{isLess-lt, lt-isLess, lex-head-lt, lex-head-eq, lex-lt-cases, lex-append}
 use Rattle.laws.proofs.Sorted.{pairwise-mono, lessBy, Sorted, sorted-select, sorted-map, sorted-unique, apart-select}
 use Rattle.laws.proofs.InsertionSort.{mem-sortBy, mem-of-sortBy, sorted-sortBy}
 use Rattle.model.specs.Setup.{Setup}
-use Rattle.model.specs.Timestamp.{sum, near}
+use Rattle.model.specs.Timestamp.{sum}
 use Rattle.model.specs.Frame.{Frame}
-use Rattle.model.specs.Order.{key, keyNear, countsDown, due, dueNear}
+use Rattle.model.specs.Order.{readingOf, keyBy, key, keyNear, countsDown, due, dueNear}
 use Rattle.model.specs.Tick.{dueNow}
 use Rattle.model.specs.Published.{Event, Message, known, rank, less, deliverable, inOrder, sameMessage}
 use Rattle.theory.specs.Demand2.{reduced, reducedFrame}
 use Rattle.lemmas.proofs.Bounds.{Sound}
-use Rattle.lemmas.proofs.Counts.{length-down}
+use Rattle.lemmas.proofs.Counts.{length-down, down-places}
 use Rattle.theory.proofs.Cause.{counts-down-first}
 use Rattle.theory.proofs.PublishedEvent.{ReadsTrue, Knows, known-count}
 
@@ -46,26 +46,28 @@ key-of-rank x y v B R R′ c c′ p q a b same ex ey h =
 
 -- a rank, by the counts of the reduced timestamp
 rank-is : (epsilon B : ℕ) (m : Message) → rank epsilon m ≡ (m .event .r + m .event .c) ∷ (countsDown epsilon (reduced B (m .event)) ++ (m .sender ∷ []))
-unfolding rank countsDown reduced
-rank-is epsilon B m = refl
+unfolding rank reduced
+rank-is epsilon B m =
+    ap (λ (l : List ℕ). (m .event .r + m .event .c) ∷ (l ++ (m .sender ∷ []))) (sym (down-places epsilon (reduced B (m .event))))
 
 -- the order of the ranks is the order of the frames
 pub less-frames :
-    (epsilon B v : ℕ) (m m′ : Message) → ReadsTrue epsilon B v (m .event .r) → ReadsTrue epsilon B v (m′ .event .r) → lessBy (rank epsilon) m m′ ≡ true
-    → lessBy (keyNear epsilon B (v % B)) (reducedFrame B m) (reducedFrame B m′) ≡ true
-unfolding keyNear key sum reducedFrame reduced
-less-frames epsilon B v m m′ t t′ h =
+    (s : Setup) (v : ℕ) (m m′ : Message) → ReadsTrue (s .epsilon) (s .modulus) v (m .event .r) → ReadsTrue (s .epsilon) (s .modulus) v (m′ .event .r)
+    → lessBy (rank (s .epsilon)) m m′ ≡ true
+    → lessBy (keyNear s (v % s .modulus)) (reducedFrame (s .modulus) m) (reducedFrame (s .modulus) m′) ≡ true
+unfolding keyNear key keyBy readingOf sum reducedFrame reduced
+less-frames s v m m′ t t′ h =
     lt-isLess
-    (key-of-rank (near epsilon B (v % B) (m .event .r % B)) (near epsilon B (v % B) (m′ .event .r % B)) v B (m .event .r) (m′ .event .r) (m .event .c) (m′ .event .c)
-    (m .sender) (m′ .sender) (countsDown epsilon (reduced B (m .event))) (countsDown epsilon (reduced B (m′ .event)))
-    (length-down epsilon (reduced B (m .event)) ∙ sym (length-down epsilon (reduced B (m′ .event)))) t t′
-    (rw (rank-is epsilon B m, rank-is epsilon B m′) at (isLess-lt (lexCompare (rank epsilon m) (rank epsilon m′)) h)))
+    (key-of-rank (readingOf s (v % s .modulus) (reducedFrame (s .modulus) m)) (readingOf s (v % s .modulus) (reducedFrame (s .modulus) m′)) v (s .modulus) (m .event .r) (m′ .event .r) (m .event .c) (m′ .event .c)
+    (m .sender) (m′ .sender) (countsDown (s .epsilon) (reduced (s .modulus) (m .event))) (countsDown (s .epsilon) (reduced (s .modulus) (m′ .event)))
+    (length-down (s .epsilon) (reduced (s .modulus) (m .event)) ∙ sym (length-down (s .epsilon) (reduced (s .modulus) (m′ .event)))) t t′
+    (rw (rank-is (s .epsilon) (s .modulus) m, rank-is (s .epsilon) (s .modulus) m′) at (isLess-lt (lexCompare (rank (s .epsilon) m) (rank (s .epsilon) m′)) h)))
 
 -- due at v, both ways of saying it
 pub due-same : (s : Setup) (v : ℕ) (m : Message) → ReadsTrue (s .epsilon) (s .modulus) v (m .event .r) → dueNow s (v % s .modulus) (reducedFrame (s .modulus) m) ≡ deliverable (s .epsilon) (s .delta) v m
-unfolding dueNow dueNear due sum reducedFrame reduced deliverable
+unfolding dueNow dueNear due sum readingOf reducedFrame reduced deliverable
 due-same s v m t =
-    let reading = near (s .epsilon) (s .modulus) (v % s .modulus) (m .event .r % s .modulus) in
+    let reading = readingOf s (v % s .modulus) (reducedFrame (s .modulus) m) in
     elim (eq-or-ne v (m .event .r + m .event .c + s .delta + s .epsilon)) [
       | inl q ↦ eq-eqb (reading + m .event .c + s .delta + s .epsilon) (s .modulus) (omega arith) ∙ sym (eq-eqb v (m .event .r + m .event .c + s .delta + s .epsilon) q)
       | inr q ↦
@@ -93,7 +95,7 @@ members-select B p q queue buffer same agree =
     }
 
 module _ (s : Setup) (v : ℕ) (queue : List Frame) (buffer : List Message)
-    (same : SameMembers (s .modulus) queue buffer) (sorted : Sorted (keyNear (s .epsilon) (s .modulus) (v % s .modulus)) queue)
+    (same : SameMembers (s .modulus) queue buffer) (sorted : Sorted (keyNear s (v % s .modulus)) queue)
     (reads : (m : Message) → List·Memᴰ m buffer → ReadsTrue (s .epsilon) (s .modulus) v (m .event .r))
     (single : apart sameMessage buffer ≡ true)
     (ranked : (m m′ : Message) → List·Memᴰ m buffer → List·Memᴰ m′ buffer → rank (s .epsilon) m ≡ rank (s .epsilon) m′ → sameMessage m m′ ≡ true) where
@@ -107,13 +109,13 @@ module _ (s : Setup) (v : ℕ) (queue : List Frame) (buffer : List Message)
     from-buffer m h = mem-of-select q buffer (mem-of-sortBy (lessBy (rank (s .epsilon))) chosen h) .0
 
     frames-sorted :
-        Sorted (keyNear (s .epsilon) (s .modulus) (v % s .modulus)) (map (reducedFrame (s .modulus)) (sortBy (lessBy (rank (s .epsilon))) chosen))
+        Sorted (keyNear s (v % s .modulus)) (map (reducedFrame (s .modulus)) (sortBy (lessBy (rank (s .epsilon))) chosen))
     unfolding chosen
     frames-sorted =
-        sorted-map (keyNear (s .epsilon) (s .modulus) (v % s .modulus)) (reducedFrame (s .modulus)) (sortBy (lessBy (rank (s .epsilon))) chosen)
-        (pairwise-mono (lessBy (rank (s .epsilon))) (lessBy (λ m. keyNear (s .epsilon) (s .modulus) (v % s .modulus) (reducedFrame (s .modulus) m)))
+        sorted-map (keyNear s (v % s .modulus)) (reducedFrame (s .modulus)) (sortBy (lessBy (rank (s .epsilon))) chosen)
+        (pairwise-mono (lessBy (rank (s .epsilon))) (lessBy (λ m. keyNear s (v % s .modulus) (reducedFrame (s .modulus) m)))
         (sortBy (lessBy (rank (s .epsilon))) chosen)
-        (λ x y m n h. less-frames (s .epsilon) (s .modulus) v x y (reads x (from-buffer x m)) (reads y (from-buffer y n)) h)
+        (λ x y m n h. less-frames s v x y (reads x (from-buffer x m)) (reads y (from-buffer y n)) h)
         (sorted-sortBy (rank (s .epsilon)) sameMessage chosen (apart-select sameMessage q buffer single)
         (λ x y m n e. ranked x y (mem-of-select q buffer m .0) (mem-of-select q buffer n .0) e)))
 
@@ -123,9 +125,9 @@ module _ (s : Setup) (v : ℕ) (queue : List Frame) (buffer : List Message)
     pub chosen-same : select p queue ≡ map (reducedFrame (s .modulus)) (inOrder (s .epsilon) (select q buffer))
     unfolding inOrder less chosen
     chosen-same =
-        sorted-unique (keyNear (s .epsilon) (s .modulus) (v % s .modulus)) (select p queue)
+        sorted-unique (keyNear s (v % s .modulus)) (select p queue)
         (map (reducedFrame (s .modulus)) (sortBy (lessBy (rank (s .epsilon))) chosen))
-        (sorted-select (keyNear (s .epsilon) (s .modulus) (v % s .modulus)) p queue sorted)
+        (sorted-select (keyNear s (v % s .modulus)) p queue sorted)
         frames-sorted
         (λ f m.
         let (x, there, e) = chosen-members .into f m in

@@ -16,23 +16,20 @@ use Rattle.laws.proofs.Numbers.{lt-or-gt, eq-or-ne, and-intro, and-left, and-ri
 use Rattle.laws.proofs.Lists.{any-append, getElem?-lt, getElem?-append, getElem?-last, getElem?-snoc-cases}
 use Rattle.laws.proofs.Sorted.{lessBy, less-not-same-key}
 use Rattle.model.specs.Setup.{Setup, width}
-use Rattle.model.specs.Timestamp.{Timestamp, step}
+use Rattle.model.specs.Timestamp.{trimmed}
 use Rattle.model.specs.Frame.{Frame, encode}
 use Rattle.model.specs.Codec.{frameOf}
 use Rattle.model.specs.Question.{firstNo}
 use Rattle.model.specs.Judge.{Heard, hearOne, judgeQuestions}
-use Rattle.model.specs.Tick.{repairOf}
+use Rattle.model.specs.Holdback.{held}
 use Rattle.model.specs.Published.{Message, Process, rank, sameMessage, newOnes}
 use Rattle.model.specs.Run.{Node, Source, sentBy, stale, Done, World, sends, messageBytes}
-use Rattle.theory.specs.Premises.{withOwn}
 use Rattle.theory.specs.Demand2.{reduced, reducedFrame, messagesHeard, Published}
 use Rattle.theory.specs.Demand3.{isFrom, heardIn}
 use Rattle.lemmas.proofs.Bounds.{Limits, FrameOk}
 use Rattle.lemmas.proofs.Reading.{near-true}
-use Rattle.theory.proofs.World.{nextInput, nextStamp, nextQueue, eventFrame, heardAt, followed, Good}
-use Rattle.theory.proofs.Event.{frame-own}
-use Rattle.theory.proofs.HearLoop.{Settles, Arrival, Entry, Around, Loop, some-inj, loop-verdict, loop-one}
-use Rattle.theory.proofs.Stabilize.{sends-accepted}
+use Rattle.theory.proofs.World.{sends-accepted, eventFrame, heardAt, followed, Good}
+use Rattle.theory.proofs.HearLoop.{Settles, Arrival, Entry, Around, Unreached, QueueLoop, some-inj, loop-verdict, judged-once, queue-one}
 use Rattle.theory.proofs.PublishedEvent.{ReadsTrue, Knows}
 use Rattle.theory.proofs.PublishedQueue.{SameMembers, rank-sender}
 use Rattle.theory.proofs.PublishedHear.{Incoming, Told, SeenIs, also, News, none-left, again, new, seen-any, seen-again, seen-new, heard-cons, new-ones-again, new-ones-new}
@@ -53,12 +50,12 @@ pub record SentAs (s : Setup) (past : List Done) (sent : List (Option Message)) 
       → (d : Done) × (getElem? past k ≡ some d) × (sends d ≡ true) × Copies s m d
 
 -- of two messages of one node the one sent first comes first
-abbrev pub Ranked : Setup → List Done → List (Option Message) → Type 0
-Ranked s past sent =
+abbrev pub RankedSent : Setup → List Done → List (Option Message) → Type 0
+RankedSent s past sent =
     (k l : ℕ) (m m′ : Message) (d d′ : Done) → k < l → getElem? sent k ≡ some (some m) → getElem? sent l ≡ some (some m′)
     → getElem? past k ≡ some d → getElem? past l ≡ some d′ → d .node ≡ d′ .node → lessBy (rank (s .epsilon)) m m′ ≡ true
 
--- a message that is buffered before v
+-- a message that is buffered at v: not ahead of it, and not overdue
 pub record Waits (s : Setup) (v : ℕ) (m : Message) : Type 0 where
   pub close : m .event .c < s .epsilon
   pub not-ahead : m .event .r < v + s .epsilon
@@ -69,11 +66,11 @@ pub record Twin (s : Setup) (past : List Done) (sent : List (Option Message)) (i
   pub number : p .number ≡ node .own
   pub clock-is : p .last .r ≡ node .clock
   pub wide : length (p .last .kn) ≡ width (s .epsilon)
-  pub stamp : nextStamp s node ≡ step (suc (node .clock) % s .modulus) (reduced (s .modulus) (p .last))
-  pub calm : repairOf (nextInput s node) ≡ 0
-  pub queue : SameMembers (s .modulus) (nextQueue s node) (p .buffer)
+  pub stamp : trimmed (s .epsilon) (node .tables) ≡ reduced (s .modulus) (p .last)
+  pub queue : SameMembers (s .modulus) (held (s .epsilon) (node .holdback)) (p .buffer)
   pub single : apart sameMessage (p .buffer) ≡ true
-  pub waiting : (m : Message) → List·Memᴰ m (p .buffer) → Waits s (suc (node .clock)) m
+  pub waiting : (m : Message) → List·Memᴰ m (p .buffer) → Waits s (node .clock) m
+  pub undue : (m : Message) → List·Memᴰ m (p .buffer) → node .clock < m .event .r + m .event .c + s .delta + s .epsilon
   pub from-received : (m : Message) → List·Memᴰ m (p .buffer) → List·Memᴰ m (p .received)
   pub received : SeenIs sent (heardAt past i) (p .received)
   pub knows :
@@ -84,7 +81,7 @@ pub record Twin (s : Setup) (past : List Done) (sent : List (Option Message)) (i
 pub record Paired (s : Setup) (w : World) (u : Published) : Type 0 where
   pub good : Good s 0 0 w
   pub sent-as : SentAs s (w .past) (u .sent)
-  pub ranked : Ranked s (w .past) (u .sent)
+  pub ranked : RankedSent s (w .past) (u .sent)
   pub twins :
       (i : ℕ) (node : Node) → getElem? (w .nodes) i ≡ some node
       → (p : Process) × (getElem? (u .processes) i ≡ some p) × Twin s (w .past) (u .sent) i node p
@@ -92,10 +89,13 @@ pub record Paired (s : Setup) (w : World) (u : Published) : Type 0 where
 pub settles-fresh : (s : Setup) → Settles s 0 0
 settles-fresh s = (omega arith, λ v R h k. omega arith)
 
-pub waits-reads : (s : Setup) (own v : ℕ) (m : Message) → Limits (withOwn s own) → Waits s v m → ReadsTrue (s .epsilon) (s .modulus) v (m .event .r)
-unfolding withOwn
-waits-reads s own v m l h =
+pub waits-reads : (s : Setup) (v : ℕ) (m : Message) → Limits s → Waits s v m → ReadsTrue (s .epsilon) (s .modulus) v (m .event .r)
+waits-reads s v m l h =
     near-true (s .epsilon) (s .modulus) v (m .event .r) (l .epsilon-pos) (omega (arith, l .modulus-least)) (h .not-ahead) (omega (arith, l .modulus-least, h))
+
+-- a message that is due later waits at the next clock too
+pub waits-next : (s : Setup) (v : ℕ) (m : Message) → v < m .event .r + m .event .c + s .delta + s .epsilon → Waits s v m → Waits s (v + 1) m
+waits-next s v m later h = record { close = h .close; not-ahead = omega (arith, h .not-ahead); not-due = omega arith }
 
 -- a copy has its sender
 copied-sender : (s : Setup) (m : Message) (d : Done) → Copies s m d → m .sender ≡ d .own
@@ -119,7 +119,7 @@ module _ (s : Setup) (w : World) (sent : List (Option Message)) (good : Good s 0
 
   -- messages of one rank are one message
   pub one-rank :
-      Ranked s (w .past) sent → (k l : ℕ) (m m′ : Message) → getElem? sent k ≡ some (some m) → getElem? sent l ≡ some (some m′)
+      RankedSent s (w .past) sent → (k l : ℕ) (m m′ : Message) → getElem? sent k ≡ some (some m) → getElem? sent l ≡ some (some m′)
       → rank (s .epsilon) m ≡ rank (s .epsilon) m′ → m ≡ m′
   one-rank ranked k l m m′ at at′ e =
       let (d, d-at, d-sends, c) = sent-as .only k m at in
@@ -144,35 +144,34 @@ module _ (s : Setup) (w : World) (sent : List (Option Message)) (good : Good s 0
       subst (λ (f : Frame). FrameOk s f) (sym (c .frame)) (good .calls k d d-at (sends-accepted d d-sends) .event .frame)
 
   -- what is new in a batch, by the verdicts
-  module _ (own v : ℕ) (opening : Timestamp) (around-here : Around s own (w .nodes) (w .past) v) where
+  module _ (v : ℕ) (around-here : Around s (w .nodes) (w .past) v) (unreached-here : Unreached s (w .nodes) v) where
     incoming :
         (k : ℕ) (d : Done) (m : Message) (bytes : List ℕ) → Arrival s 0 (w .nodes) (w .past) v k d → bytes ≡ messageBytes d
-        → getElem? sent k ≡ some (some m) → Copies s m d → Incoming (withOwn s own) v sent k m bytes
-    unfolding withOwn
+        → getElem? sent k ≡ some (some m) → Copies s m d → Incoming s v sent k m bytes
     incoming k d m bytes a e at c =
         record {
           at = at;
           bytes-are = e ∙ (a .event .bytes (a .sent) ∙ ap encode (sym (c .frame)));
-          frame = frame-own s own (reducedFrame (s .modulus) m) (copied-ok k m at);
+          frame = copied-ok k m at;
           not-ahead = omega (arith, a .not-ahead, c .clock-is);
           not-late = omega (arith, a .not-late, c .clock-is);
         }
 
     verdict-of :
         (k : ℕ) (d : Done) (bytes : List ℕ) (heard : ℕ → Bool) (h : Heard) → Arrival s 0 (w .nodes) (w .past) v k d → bytes ≡ messageBytes d
-        → Loop s 0 0 own (w .nodes) (w .past) v opening heard h
-        → firstNo (judgeQuestions (withOwn s own) (v % s .modulus) (h .queue) bytes) ≡ cond (heard k) 16 0
+        → QueueLoop s 0 (w .past) v heard (h .queue)
+        → firstNo (judgeQuestions s (v % s .modulus) (h .queue) bytes) ≡ cond (heard k) 16 0
     unfolding followed
     verdict-of k d bytes heard h a e loop =
-        ap (λ (b : List ℕ). firstNo (judgeQuestions (withOwn s own) (v % s .modulus) (h .queue) b)) e
-        ∙ loop-verdict s 0 0 own (settles-fresh s) (w .nodes) (w .past) v opening around-here heard h loop k d a (and-intro (a .sent) (le-leb 0 (d .clock) (omega arith)))
+        ap (λ (b : List ℕ). firstNo (judgeQuestions s (v % s .modulus) (h .queue) b)) e
+        ∙ loop-verdict s 0 0 (settles-fresh s) (w .nodes) (w .past) v around-here unreached-here heard (h .queue) loop k d a (and-intro (a .sent) (le-leb 0 (d .clock) (omega arith)))
 
     pub news-of :
         (entries : List (List ℕ)) (sources : List Source) (heard : ℕ → Bool) (h : Heard) (seen : List Message)
-        → Loop s 0 0 own (w .nodes) (w .past) v opening heard h → SeenIs sent heard seen → length entries ≡ length sources
+        → QueueLoop s 0 (w .past) v heard (h .queue) → SeenIs sent heard seen → length entries ≡ length sources
         → ((e : ℕ) (bytes : List ℕ) (o : Source) → getElem? entries e ≡ some bytes → getElem? sources e ≡ some o → Entry s 0 (w .nodes) (w .past) v bytes o)
-        → News (withOwn s own) v sent heard h entries sources (newOnes seen (messagesHeard sent sources))
-    unfolding messagesHeard newOnes isFrom withOwn
+        → News s v sent heard h entries sources (newOnes seen (messagesHeard sent sources))
+    unfolding messagesHeard newOnes isFrom
     news-of [] [] heard h seen loop is same entry = none-left
     news-of [] (o ∷ os) heard h seen loop is same entry = absurd (omega arith)
     news-of (b ∷ bs) [] heard h seen loop is same entry = absurd (omega arith)
@@ -181,16 +180,16 @@ module _ (s : Setup) (w : World) (sent : List (Option Message)) (good : Good s 0
         let (d, a, is-d) = entry 0 b (sentBy k) refl refl in
         let (m, at, c) = sent-as .each k d (a .at) (a .sent) in
         let verdict = verdict-of k d b heard h a is-d loop in
-        let loop′ = loop-one s 0 0 own (settles-fresh s) (w .nodes) (w .past) v opening around-here heard (also heard k) h b (sentBy k) loop (entry 0 b (sentBy k) refl refl) (λ j. refl) in
-        let rest = hearOne (withOwn s own) (v % s .modulus) h b in
+        let loop′ = queue-one s 0 0 (settles-fresh s) (w .nodes) (w .past) v around-here (judgeQuestions s (v % s .modulus)) (judged-once s 0 0 (settles-fresh s) (w .nodes) (w .past) v around-here unreached-here) heard (also heard k) h b (sentBy k) loop (entry 0 b (sentBy k) refl refl) (λ j. refl) in
+        let rest = hearOne s (v % s .modulus) (judgeQuestions s (v % s .modulus)) h b in
         elim (true-or-false (heard k)) [
           | inl e ↦
-              subst (λ (l : List Message). News (withOwn s own) v sent heard h (b ∷ bs) (sentBy k ∷ os) l)
+              subst (λ (l : List Message). News s v sent heard h (b ∷ bs) (sentBy k ∷ os) l)
               (sym (ap (newOnes seen) (heard-cons sent k m os at) ∙ new-ones-again seen m (messagesHeard sent os) (seen-any sent heard seen told is k m at ∙ e)))
               (again k m (incoming k d m b a is-d at c) e (verdict ∙ ap (λ (x : Bool). cond x 16 0) e)
               (news-of bs os (also heard k) rest seen loop′ (seen-again sent heard seen k e is) (omega arith) (λ j. entry (suc j))))
           | inr e ↦
-              subst (λ (l : List Message). News (withOwn s own) v sent heard h (b ∷ bs) (sentBy k ∷ os) l)
+              subst (λ (l : List Message). News s v sent heard h (b ∷ bs) (sentBy k ∷ os) l)
               (sym (ap (newOnes seen) (heard-cons sent k m os at) ∙ new-ones-new seen m (messagesHeard sent os) (seen-any sent heard seen told is k m at ∙ e)))
               (new k m (incoming k d m b a is-d at c) e (verdict ∙ ap (λ (x : Bool). cond x 16 0) e)
               (news-of bs os (also heard k) rest (m ∷ seen) loop′ (seen-new sent heard seen k m at is) (omega arith) (λ j. entry (suc j))))
@@ -234,9 +233,9 @@ sent-as-snoc s past sent d x is last =
     }
 
 pub ranked-snoc :
-    (s : Setup) (past : List Done) (sent : List (Option Message)) (d : Done) (x : Option Message) → length sent ≡ length past → Ranked s past sent
+    (s : Setup) (past : List Done) (sent : List (Option Message)) (d : Done) (x : Option Message) → length sent ≡ length past → RankedSent s past sent
     → ((k : ℕ) (m m′ : Message) (d′ : Done) → x ≡ some m′ → getElem? sent k ≡ some (some m) → getElem? past k ≡ some d′ → d′ .node ≡ d .node → lessBy (rank (s .epsilon)) m m′ ≡ true)
-    → Ranked s (past ++ (d ∷ [])) (sent ++ (x ∷ []))
+    → RankedSent s (past ++ (d ∷ [])) (sent ++ (x ∷ []))
 ranked-snoc s past sent d x same ranked last k l m m′ a b less-kl at-k at-l a-at b-at nodes =
     elim (getElem?-snoc-cases sent x l at-l) [
       | inl q ↦
@@ -273,10 +272,10 @@ twin-stays s past sent j node p d x same bound quiet other t =
       clock-is = t .clock-is;
       wide = t .wide;
       stamp = t .stamp;
-      calm = t .calm;
       queue = t .queue;
       single = t .single;
       waiting = t .waiting;
+      undue = t .undue;
       from-received = t .from-received;
       received =
           seen-snoc sent x (heardAt past j) (heardAt (past ++ (d ∷ [])) j) (p .received)

@@ -1,9 +1,8 @@
 -- Fresh stations: the invariant holds with no clock left out, and each station is its process.
 -- Assumes nothing.
-use Prim.Native.Nat.{ℕ, suc, _+_, _%_, _≤_}
+use Prim.Native.Nat.{ℕ, _+_, _%_, _≤_}
 use native.Mathlib.Omega.{arith}
-use native.Mathlib.Numerals.{add-one}
-use mathlib.Core.Path.{_≡_, refl, sym, ap, subst, _∙_}
+use mathlib.Core.Path.{_≡_, refl, sym, subst, _∙_}
 use mathlib.Core.Logic.{inl, inr}
 use mathlib.Core.Bool.{true, _&&_}
 use mathlib.Core.List.{List, [], List·Memᴰ, List·Memᴰ·not-nil}
@@ -11,22 +10,21 @@ use mathlib.Core.Option.{Option, some}
 use lib.Dec.{leb, eqb}
 use lib.ListN.{length, getElem?}
 use borrow.Author.Tests.{le-leb, eqb-true}
-use Rattle.laws.specs.Lists.{every, any, chained, apart, sameList}
+use Rattle.laws.specs.Lists.{every, any, apart, sameList, placedAt}
 use Rattle.laws.proofs.Numbers.{eq-or-ne, clash, and-left, and-right}
 use Rattle.laws.proofs.Lists.{countOf, index-of-mem, every-mem, sameList-true, mem-select, getElem?-mem, getElem?-lt, getElem?-map}
-use Rattle.model.specs.Setup.{Setup, width, depth}
-use Rattle.model.specs.Timestamp.{Timestamp, countAt, step, trimmed, fresh, replaced, countOwn, soundTables}
+use Rattle.model.specs.Setup.{Setup, width}
+use Rattle.model.specs.Timestamp.{Timestamp, trimmed, fresh, replaced, countOwn}
 use Rattle.model.specs.Frame.{Frame, twoAt}
-use Rattle.model.specs.Holdback.{cutFrames, heldBytes, held, soundHoldback}
-use Rattle.model.specs.Tick.{ownStamp, tablesSound, queueSound, openingStamp, openingQueue, repairOf}
+use Rattle.model.specs.Holdback.{cutFrames, heldBytes, held}
 use Rattle.model.specs.Published.{initial, started}
 use Rattle.model.specs.Run.{Node, atStart}
-use Rattle.theory.specs.Premises.{withOwn, goodStart, sameTimestamp, isFresh, allFresh}
+use Rattle.theory.specs.Premises.{goodStart, sameTimestamp, isFresh, allFresh}
 use Rattle.theory.specs.Demand2.{publishedStart}
 use Rattle.lemmas.proofs.Bounds.{Limits}
-use Rattle.lemmas.proofs.Counts.{opened-replaced, fresh-own, fresh-sound, fresh-tables, replaced-count, own-count, own-count-here}
-use Rattle.theory.proofs.World.{nextInput, nextStamp, nextQueue, reached, Bounded, heardAt, Group, Good}
-use Rattle.theory.proofs.Stamps.{step-bounded}
+use Rattle.lemmas.proofs.Counts.{opened-replaced, fresh-own, fresh-left, replaced-count, own-count, own-count-here}
+use Rattle.theory.proofs.World.{Memory, reached, Bounded, heardAt, Group, Good}
+use Rattle.lemmas.proofs.Queue.{left-none}
 use Rattle.theory.proofs.Start.{group-start}
 use Rattle.theory.proofs.PublishedEvent.{initial-stamp, initial-wide}
 use Rattle.theory.proofs.PublishedRun.{Twin, Paired}
@@ -51,53 +49,28 @@ same-timestamp t u h =
     λ i. record { r = r-is i; c = c-is i; kn = kn-is i }
 
 -- one fresh node
-module _ (s : Setup) (node : Node) (limits : Limits (withOwn s (node .own)))
+module _ (s : Setup) (node : Node) (limits : Limits s)
     (tables : trimmed (s .epsilon) (node .tables) ≡ fresh (s .epsilon) (node .clock % s .modulus)) (empty : twoAt (node .holdback) 0 ≡ 0) where
-  fresh-wide : length (fresh (s .epsilon) (node .clock % s .modulus) .kn) ≡ width (s .epsilon)
-  unfolding withOwn
-  fresh-wide = fresh-sound (s .n) (s .epsilon) (node .clock % s .modulus) (limits .n-pos) (limits .epsilon-pos) .wide
+  pub queue-empty : held (s .epsilon) (node .holdback) ≡ []
+  unfolding held heldBytes cutFrames
+  queue-empty = rw empty refl
 
-  own-fresh : ownStamp (nextInput s node) ≡ fresh (s .epsilon) (node .clock % s .modulus)
-  unfolding ownStamp nextInput withOwn
-  own-fresh = tables
+  -- its memory is what a call leaves
+  pub memory-fresh : Memory s node
+  memory-fresh =
+      record {
+        tables = rw tables (fresh-left (s .n) (s .epsilon) (node .clock % s .modulus) (limits .n-pos) (limits .epsilon-pos));
+        r-is = rw tables (unfold fresh in refl);
+        passed = unfold heldBytes cutFrames every in (rw empty refl);
+        queue = rw queue-empty (left-none s (node .clock % s .modulus) 0);
+      }
 
-  tables-fresh : tablesSound (nextInput s node) ≡ true
-  unfolding tablesSound
-  tables-fresh =
-      ap (soundTables (nextInput s node .setup .n) (nextInput s node .setup .epsilon) (nextInput s node .setup .modulus) (nextInput s node .clock)) own-fresh
-      ∙ sound-here
-    where
-      sound-here : soundTables (nextInput s node .setup .n) (nextInput s node .setup .epsilon) (nextInput s node .setup .modulus) (nextInput s node .clock) (fresh (s .epsilon) (node .clock % s .modulus)) ≡ true
-      sound-here =
-          unfold nextInput withOwn in
-          (rw add-one at (fresh-tables (s .n) (s .epsilon) (s .modulus) (node .clock) (limits .n-pos) (limits .epsilon-pos) (omega (arith, limits .modulus-least))))
-
-  queue-fresh : queueSound (nextInput s node) ≡ true
-  unfolding queueSound nextInput soundHoldback held heldBytes cutFrames every chained apart withOwn
-  queue-fresh = rw (empty, le-leb 0 (depth (s .n) (s .epsilon) (s .delta)) (omega arith)) refl
-
-  pub stamp-fresh : nextStamp s node ≡ step (suc (node .clock) % s .modulus) (fresh (s .epsilon) (node .clock % s .modulus))
-  unfolding nextStamp openingStamp
-  stamp-fresh = rw tables-fresh (ap (step (nextInput s node .clock)) own-fresh ∙ (unfold nextInput in refl))
-
-  pub queue-empty : nextQueue s node ≡ []
-  unfolding nextQueue openingQueue
-  queue-empty = rw queue-fresh held-none
-    where
-      held-none : held (nextInput s node .setup .epsilon) (nextInput s node .holdback) ≡ []
-      held-none = unfold nextInput held heldBytes cutFrames in (rw empty refl)
-
-  pub calm-fresh : repairOf (nextInput s node) ≡ 0
-  unfolding repairOf
-  calm-fresh = rw (tables-fresh, queue-fresh)
-
-  fresh-bounded : (nodes : List Node) (i : ℕ) → getElem? nodes i ≡ some node → Bounded s 0 nodes (node .clock) (fresh (s .epsilon) (node .clock % s .modulus) .kn)
-  unfolding withOwn
+  pub fresh-bounded : (nodes : List Node) (i : ℕ) → getElem? nodes i ≡ some node → Bounded s 0 nodes (node .clock) (fresh (s .epsilon) (node .clock % s .modulus) .kn)
   fresh-bounded nodes i at w h =
       rw (fresh-own (s .epsilon) x)
       (elim (eq-or-ne w (node .clock + s .epsilon)) [
         | inl e ↦
-            subst (λ (u : ℕ). countAt (node .clock) (countOwn (s .epsilon) x (replaced (s .epsilon) x) .kn) u ≤ reached (s .epsilon) nodes u) (sym e)
+            subst (λ (u : ℕ). placedAt (node .clock) (countOwn (s .epsilon) x (replaced (s .epsilon) x) .kn) u ≤ reached (s .epsilon) nodes u) (sym e)
             (omega (
               arith,
               own-count-here (s .epsilon) (node .clock) x (replaced (s .epsilon) x) wide (limits .epsilon-pos),
@@ -117,11 +90,6 @@ module _ (s : Setup) (node : Node) (limits : Limits (withOwn s (node .own)))
 
       wide : length (replaced (s .epsilon) x .kn) ≡ width (s .epsilon)
       wide = opened-replaced (s .n) (s .epsilon) x (limits .n-pos) (limits .epsilon-pos) .wide
-
-  pub next-bounded : (nodes : List Node) (i : ℕ) → getElem? nodes i ≡ some node → Bounded s 0 nodes (suc (node .clock)) (nextStamp s node .kn)
-  next-bounded nodes i at =
-      subst (λ (t : Timestamp). Bounded s 0 nodes (suc (node .clock)) (t .kn)) (sym stamp-fresh)
-      (step-bounded s 0 nodes (node .clock) (suc (node .clock) % s .modulus) (fresh (s .epsilon) (node .clock % s .modulus)) fresh-wide (fresh-bounded nodes i at))
 
 -- all of them
 module _ (s : Setup) (nodes : List Node) (start : goodStart s nodes ≡ true) (all-fresh : allFresh s nodes ≡ true) where
@@ -150,12 +118,13 @@ module _ (s : Setup) (nodes : List Node) (start : goodStart s nodes ≡ true) (a
         node = λ i node at.
             let (tables, empty) = fresh-at i node at in
             let limits = group .limits i node at in
-            record {
-              bounded = next-bounded s node limits tables empty nodes i at;
+            inr (record {
+              memory = memory-fresh s node limits tables empty;
+              bounded = subst (λ (t : Timestamp). Bounded s 0 nodes (node .clock) (t .kn)) (sym tables) (fresh-bounded s node limits tables empty nodes i at);
               members = λ f m. absurd (List·Memᴰ·not-nil (subst (λ (l : List Frame). List·Memᴰ f l) (queue-empty s node limits tables empty) m));
-              present = λ k m e. absurd (nothing k m e);
+              waiting = λ k m e. absurd (nothing k m e);
               passed-on = λ k d e. absurd (nothing k d e);
-            };
+            });
         calls = λ k d e. absurd (nothing k d e);
         unique = λ k l a b e. absurd (nothing k a e);
         heard-before = λ i k e. absurd (clash e refl);
@@ -170,10 +139,7 @@ module _ (s : Setup) (nodes : List Node) (start : goodStart s nodes ≡ true) (a
         number = refl;
         clock-is = refl;
         wide = initial-wide (s .epsilon) (node .clock);
-        stamp =
-            stamp-fresh s node limits tables empty
-            ∙ ap (step (suc (node .clock) % s .modulus)) (sym (initial-stamp (s .epsilon) (s .modulus) (node .clock)));
-        calm = calm-fresh s node limits tables empty;
+        stamp = tables ∙ sym (initial-stamp (s .epsilon) (s .modulus) (node .clock));
         queue =
             record {
               into = λ f m. absurd (List·Memᴰ·not-nil (subst (λ (l : List Frame). List·Memᴰ f l) (queue-empty s node limits tables empty) m));
@@ -181,6 +147,7 @@ module _ (s : Setup) (nodes : List Node) (start : goodStart s nodes ≡ true) (a
             };
         single = refl;
         waiting = λ m t. absurd (List·Memᴰ·not-nil t);
+        undue = λ m t. absurd (List·Memᴰ·not-nil t);
         from-received = λ m t. absurd (List·Memᴰ·not-nil t);
         received = record { into = λ m t. absurd (List·Memᴰ·not-nil t); back = λ k m e. absurd (nothing k (some m) e) };
         knows = λ k m d e. absurd (nothing k (some m) e);

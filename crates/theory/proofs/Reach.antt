@@ -57,11 +57,14 @@ reached-grows epsilon nodes w i node node′ e h = go (has epsilon w node) (has 
         let r : countOf (has epsilon w) (set nodes i node′) ≡ countOf (has epsilon w) nodes = countOf-set-same (has epsilon w) nodes i node′ node (rw old (p ∙ sym q)) in
         omega arith
 
-pub reached-gains : (epsilon : ℕ) (nodes : List Node) (i : ℕ) (node node′ : Node) → getElem? nodes i ≡ some node → node′ .clock ≡ suc (node .clock) → reached epsilon (set nodes i node′) (suc (node .clock) + epsilon) ≡ suc (reached epsilon nodes (suc (node .clock) + epsilon))
+-- one node more has reached v
+pub reached-gains :
+    (epsilon : ℕ) (nodes : List Node) (v i : ℕ) (node node′ : Node) → getElem? nodes i ≡ some node → node .clock < v → v ≤ node′ .clock
+    → reached epsilon (set nodes i node′) (v + epsilon) ≡ suc (reached epsilon nodes (v + epsilon))
 unfolding reached
-reached-gains epsilon nodes i node node′ e h =
-    countOf-set-gain (has epsilon (suc (node .clock) + epsilon)) nodes i node′ node (getElem?-lt nodes i e)
-    (rw old (lt-leb (suc (node .clock) + epsilon) (node .clock + epsilon) (omega arith))) (le-leb (suc (node .clock) + epsilon) (node′ .clock + epsilon) (omega arith))
+reached-gains epsilon nodes v i node node′ e before after =
+    countOf-set-gain (has epsilon (v + epsilon)) nodes i node′ node (getElem?-lt nodes i e)
+    (rw old (lt-leb (v + epsilon) (node .clock + epsilon) (omega arith))) (le-leb (v + epsilon) (node′ .clock + epsilon) (omega arith))
   where
     old : getD nodes i node ≡ node
     old = getElem?-getD nodes i node e

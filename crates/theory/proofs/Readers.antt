@@ -3,7 +3,7 @@
 use Prim.Native.Nat.{ℕ, zero, suc, _+_, _*_, _-_, _/_, _%_, _≤_, _<_}
 use native.Mathlib.Omega.{arith}
 use mathlib.Core.Path.{_≡_, refl, sym, ap, _∙_}
-use mathlib.Core.Bool.{true}
+use mathlib.Core.Bool.{true, _&&_}
 use mathlib.Core.List.{List, [], _∷_, _++_, map, append-assoc, List·Memᴰ}
 use lib.Dec.{leb, ltb}
 use lib.ListN.{length, take, drop, replicate, length-map, take-append-drop}
@@ -12,7 +12,7 @@ use borrow.Author.Tests.{le-leb, lt-ltb, leb-true, ltb-true, eqb-true}
 use Rattle.laws.specs.Lists.{every, joined, overlay, padded}
 use Rattle.laws.proofs.Numbers.{and-left, and-right}
 use Rattle.laws.proofs.Lists.{every-mem, every-take, every-drop, every-mono, take-overlay}
-use Rattle.model.specs.Setup.{Setup, width, inLimits, depth, holdbackLength, longestPayload}
+use Rattle.model.specs.Setup.{Setup, width, inLimits, isMember, depth, holdbackLength, longestPayload}
 use Rattle.model.specs.Timestamp.{Timestamp, trimmed, widened}
 use Rattle.model.specs.Frame.{Frame, encode, decode, wellFormed, frameEnd, twoAt, twoBytes}
 use Rattle.model.specs.Question.{ask, firstNo, askSetup, askRange, askStamp, frameQuestions}
@@ -21,32 +21,32 @@ use Rattle.model.specs.Holdback.{cutFrames, heldBytes, held, passes, soundHoldb
 use Rattle.model.specs.Tick.{holdbackSize}
 use Rattle.theory.specs.Demand2.{areBytes, hasWidth, Demand2Codec}
 use Rattle.lemmas.proofs.Bounds.{FrameOk}
-use Rattle.lemmas.proofs.Questions.{limits-from, first-yes, read-number}
+use Rattle.lemmas.proofs.Questions.{setup-from, first-yes, read-number}
 use Rattle.lemmas.proofs.Counts.{sound-to, trimmed-wide, trimmed-widened}
-use Rattle.lemmas.proofs.RoundTrip.{none-no, bounds-passed, form-passed, passes-formed, decode-encode, encode-decode, frame-passes, frame-passed, held-frames, held-holdback}
+use Rattle.lemmas.proofs.RoundTrip.{none-no, length-cut, bounds-passed, form-passed, passes-formed, decode-encode, encode-decode, frame-passes, frame-passed, held-frames, held-holdback}
 
 -- the writer accepts what is in its bounds and fits, and nothing else
-pub record Written (s : Setup) (f : Frame) (buffer : List ℕ) : Type 0 where
-  pub setup : inLimits s ≡ true
+pub record Written (s : Setup) (own : ℕ) (f : Frame) (buffer : List ℕ) : Type 0 where
+  pub setup : (inLimits s && isMember s own) ≡ true
   pub frame : FrameOk s f
   pub fits : length (encode f) ≤ length buffer
 
-pub written-from : (s : Setup) (f : Frame) (buffer : List ℕ) → length (f .stamp .kn) ≡ width (s .epsilon) → firstNo (writeFrameQuestions s f buffer) ≡ 0 → Written s f buffer
+pub written-from : (s : Setup) (own : ℕ) (f : Frame) (buffer : List ℕ) → length (f .stamp .kn) ≡ width (s .epsilon) → firstNo (writeFrameQuestions s own f buffer) ≡ 0 → Written s own f buffer
 unfolding writeFrameQuestions askSetup askPayload askRange askStamp
-written-from s f buffer wide e =
+written-from s own f buffer wide e =
     let room = ask (leb (length (encode f)) (length buffer)) 6 in
-    let q1 = none-no (inLimits s) 0 (askPayload (f .payload) ∷ askRange s f ∷ askStamp s f ∷ room ∷ []) e in
+    let q1 = none-no (inLimits s && isMember s own) 0 (askPayload (f .payload) ∷ askRange s f ∷ askStamp s f ∷ room ∷ []) e in
     let q4 = none-no (leb (length (f .payload)) longestPayload) 3 (askRange s f ∷ askStamp s f ∷ room ∷ []) (q1 .1) in
-    let q12 = bounds-passed s f (room ∷ []) (limits-from s (q1 .0)) wide (leb-true (length (f .payload)) longestPayload (q4 .0)) (q4 .1) in
+    let q12 = bounds-passed s f (room ∷ []) (setup-from s own (q1 .0) .0) wide (leb-true (length (f .payload)) longestPayload (q4 .0)) (q4 .1) in
     record {
       setup = q1 .0;
       frame = q12 .0;
       fits = leb-true (length (encode f)) (length buffer) (first-yes (leb (length (encode f)) (length buffer)) 5 [] (q12 .1));
     }
 
-pub written-to : (s : Setup) (f : Frame) (buffer : List ℕ) → Written s f buffer → writeFrame s f buffer ≡ writeBy 0 f buffer
+pub written-to : (s : Setup) (own : ℕ) (f : Frame) (buffer : List ℕ) → Written s own f buffer → writeFrame s own f buffer ≡ writeBy 0 f buffer
 unfolding writeFrame writeFrameQuestions askSetup askPayload askRange askStamp firstNo
-written-to s f buffer o =
+written-to s own f buffer o =
     rw (
       o .setup,
       le-leb (length (f .payload)) longestPayload (o .frame .short),
@@ -57,54 +57,54 @@ written-to s f buffer o =
     )
 
 -- a number 0 says that no question got a no
-write-number : (s : Setup) (f : Frame) (buffer : List ℕ) → writeFrame s f buffer .number ≡ 0 → firstNo (writeFrameQuestions s f buffer) ≡ 0
+write-number : (s : Setup) (own : ℕ) (f : Frame) (buffer : List ℕ) → writeFrame s own f buffer .number ≡ 0 → firstNo (writeFrameQuestions s own f buffer) ≡ 0
 unfolding writeFrame
-write-number s f buffer = go (firstNo (writeFrameQuestions s f buffer))
+write-number s own f buffer = go (firstNo (writeFrameQuestions s own f buffer))
   where
     go : (k : ℕ) → writeBy k f buffer .number ≡ 0 → k ≡ 0
     go zero e = refl
     go (suc k) e = e
 
 -- the reader accepts what the writer makes
-pub read-encoded : (s : Setup) (f : Frame) → inLimits s ≡ true → FrameOk s f → read s (encode f) ≡ readBy 0 f
+pub read-encoded : (s : Setup) (own : ℕ) (f : Frame) → (inLimits s && isMember s own) ≡ true → FrameOk s f → read s own (encode f) ≡ readBy 0 f
 unfolding read readQuestions askSetup firstNo frameQuestions
-read-encoded s f setup ok =
-    rw (setup, frame-passes s f [] ok, decode-encode (s .epsilon) f (ok .sound .wide))
+read-encoded s own f valid ok =
+    rw (valid, frame-passes s f [] ok, decode-encode (s .epsilon) f (ok .sound .wide))
 
 -- a written frame reads back the same
 pub read-written :
-    (s : Setup) (f : Frame) (buffer : List ℕ) → length (f .stamp .kn) ≡ width (s .epsilon) → writeFrame s f buffer .number ≡ 0
-    → read s (take (writeFrame s f buffer .size) (writeFrame s f buffer .buffer)) ≡ readBy 0 f
-read-written s f buffer wide e =
-    let o = written-from s f buffer wide (write-number s f buffer e) in
-    rw (written-to s f buffer o, take-overlay (encode f) buffer) (read-encoded s f (o .setup) (o .frame))
+    (s : Setup) (own : ℕ) (f : Frame) (buffer : List ℕ) → length (f .stamp .kn) ≡ width (s .epsilon) → writeFrame s own f buffer .number ≡ 0
+    → read s own (take (writeFrame s own f buffer .size) (writeFrame s own f buffer .buffer)) ≡ readBy 0 f
+read-written s own f buffer wide e =
+    let o = written-from s own f buffer wide (write-number s own f buffer e) in
+    rw (written-to s own f buffer o, take-overlay (encode f) buffer) (read-encoded s own f (o .setup) (o .frame))
 
 -- the writer's station, stamp and ticket come back; the places past the 2ε counts come back 0
 pub read-of-write :
-    (s : Setup) (station : ℕ) (t : Timestamp) (payload buffer : List ℕ)
-    → write s station t payload buffer .number ≡ 0
-    → read s (take (write s station t payload buffer .size) (write s station t payload buffer .buffer))
+    (s : Setup) (own : ℕ) (station : ℕ) (t : Timestamp) (payload buffer : List ℕ)
+    → write s own station t payload buffer .number ≡ 0
+    → read s own (take (write s own station t payload buffer .size) (write s own station t payload buffer .buffer))
     ≡ record { number = 0; station = station; stamp = widened (trimmed (s .epsilon) t); payload = payload }
 unfolding frameOf
-read-of-write s station t payload buffer e =
-    read-written s (frameOf (s .epsilon) station t payload) buffer (trimmed-wide (s .epsilon) t) e
+read-of-write s own station t payload buffer e =
+    read-written s own (frameOf (s .epsilon) station t payload) buffer (trimmed-wide (s .epsilon) t) e
 
 -- an accepted frame, its bytes below 256, is what the writer makes of its contents, in any buffer that is long enough
 pub write-of-read :
-    (s : Setup) (bytes buffer : List ℕ) → every (λ b. ltb b 256) bytes ≡ true → read s bytes .number ≡ 0 → length bytes ≤ length buffer
-    → write s (read s bytes .station) (read s bytes .stamp) (read s bytes .payload) buffer
+    (s : Setup) (own : ℕ) (bytes buffer : List ℕ) → every (λ b. ltb b 256) bytes ≡ true → read s own bytes .number ≡ 0 → length bytes ≤ length buffer
+    → write s own (read s own bytes .station) (read s own bytes .stamp) (read s own bytes .payload) buffer
     ≡ record { number = 0; size = length bytes; buffer = overlay bytes buffer }
 unfolding read readQuestions askSetup frameQuestions frameOf
-write-of-read s bytes buffer below e fits =
-    let z = read-number s bytes e in
-    let q1 = none-no (inLimits s) 0 (frameQuestions s bytes) z in
-    let limits = limits-from s (q1 .0) in
+write-of-read s own bytes buffer below e fits =
+    let z = read-number s own bytes e in
+    let q1 = none-no (inLimits s && isMember s own) 0 (frameQuestions s bytes) z in
+    let limits = setup-from s own (q1 .0) .0 in
     let f = decode (s .epsilon) bytes in
     let ok = frame-passed s bytes [] limits (q1 .1) .0 in
     let same : encode f ≡ bytes = encode-decode (s .epsilon) bytes below (form-passed s bytes [] (q1 .1)) in
     let again : frameOf (s .epsilon) (f .station) (widened (f .stamp)) (f .payload) ≡ f =
     ap (λ (t : Timestamp). record { station = f .station; stamp = t; payload = f .payload }) (trimmed-widened (s .epsilon) (f .stamp) (limits .epsilon-most) (ok .sound .wide)) in
-    rw (z, again, written-to s f buffer (record { setup = q1 .0; frame = ok; fits = rw same fits }), same)
+    rw (z, again, written-to s own f buffer (record { setup = q1 .0; frame = ok; fits = rw same fits }), same)
 
 -- the other way round for the frames of a queue or a delivery: k frames of which each is well formed, and the rest
 cut-front :
@@ -120,11 +120,6 @@ cut-front epsilon (suc k) s below formed =
       rw (encode-decode epsilon (take n s) (every-take (λ b. ltb b 256) n s below) h, append-assoc (take n s) (joined encode (map (decode epsilon) (cutFrames epsilon k (drop n s)))) (t .0), t .1)
           (take-append-drop n s),
     )
-
-length-cut : (epsilon k : ℕ) (s : List ℕ) → length (cutFrames epsilon k s) ≡ k
-unfolding cutFrames
-length-cut epsilon zero s = refl
-length-cut epsilon (suc k) s = ap suc (length-cut epsilon k (drop (frameEnd epsilon s) s))
 
 -- a two-byte number, written again
 two-front : (s : List ℕ) → 2 ≤ length s → every (λ b. ltb b 256) s ≡ true → twoBytes (twoAt s 0) ++ drop 2 s ≡ s
@@ -193,10 +188,10 @@ all-wide epsilon queue h f m = eqb-true (length (f .stamp .kn)) (width epsilon) 
 
 pub demand2-codec : Demand2Codec
 unfolding areBytes
-demand2-codec s =
+demand2-codec s own =
     record {
-      frameRead = read-of-write s;
-      frameWritten = write-of-read s;
+      frameRead = read-of-write s own;
+      frameWritten = write-of-read s own;
       holdbackRead = λ size queue wide few. held-holdback (s .epsilon) size queue (all-wide (s .epsilon) queue wide) few;
       holdbackWritten = holdback-whole s;
       deliveryRead = λ queue old wide few. held-delivery (s .epsilon) queue old (all-wide (s .epsilon) queue wide) few;

@@ -2,6 +2,7 @@
 -- Assumes nothing.
 use Prim.Native.Nat.{ℕ, zero, suc, _+_, _%_, _≤_, _<_}
 use native.Mathlib.Omega.{arith}
+use native.Mathlib.Numerals.{add-one}
 use mathlib.Core.Path.{_≡_, refl, sym, ap, subst, _∙_}
 use mathlib.Core.Logic.{_⊎_, inl, inr}
 use mathlib.Core.Bool.{Bool, true, false, _&&_, _||_, not}
@@ -14,17 +15,14 @@ use Rattle.laws.specs.Lists.{every, any, sameList}
 use Rattle.laws.proofs.Numbers.{eq-or-ne, lt-or-gt, clash, and-left, and-right}
 use Rattle.laws.proofs.Lists.{every-mem, getElem?-mem, getElem?-lt, getElem?-getD, mem-getElem?, largest-map-mem, sameList-true}
 use Rattle.laws.proofs.Sorted.{pairwise-of-apart, apart-index, pigeonhole}
-use Rattle.model.specs.Setup.{Setup, inLimits}
+use Rattle.model.specs.Setup.{Setup}
 use Rattle.model.specs.Batch.{batchEntries}
 use Rattle.model.specs.Tick.{holdbackSize}
 use Rattle.model.specs.Run.{Node, Source, sentBy, stale, Call, Done, World, isAccepted, outputOf, doneOf, movedClock, act, atStart, sends, messageBytes}
-use Rattle.theory.specs.Premises.{withOwn, sameSetup, together, distinct, validFor, exactHoldback, goodStart, largestClock, staleUntil, heardInTime, entryAllowed, entriesAllowed, oneSetup, trueClock, hearsAllowed, acceptedWell, allowedFor, allowed}
-use Rattle.lemmas.proofs.Questions.{limits-from}
+use Rattle.theory.specs.Premises.{sameSetup, together, distinct, validFor, exactHoldback, goodStart, largestClock, staleUntil, heardInTime, entryAllowed, entriesAllowed, oneSetup, trueClock, hearsAllowed, acceptedWell, allowedFor, allowed}
+use Rattle.lemmas.proofs.Questions.{setup-from}
 use Rattle.lemmas.proofs.Bounds.{Limits}
-use Rattle.lemmas.proofs.Reading.{near-high}
-use Rattle.theory.proofs.Event.{next-opened}
-use Rattle.theory.proofs.Stamps.{early-bounded}
-use Rattle.theory.proofs.World.{nextStamp, heardAt, Group, Good, SentEntry, EntryOk, Legal}
+use Rattle.theory.proofs.World.{heardAt, Group, Good, SentEntry, EntryOk, Legal}
 
 -- the nodes, by the tests
 pub together-fact : (epsilon : ℕ) (nodes : List Node) → together epsilon nodes ≡ true → (i j : ℕ) (a b : Node) → getElem? nodes i ≡ some a → getElem? nodes j ≡ some b → a .clock ≤ b .clock + epsilon
@@ -53,17 +51,17 @@ pub group-start : (s : Setup) (nodes : List Node) → goodStart s nodes ≡ true
 unfolding goodStart validFor exactHoldback
 group-start s nodes h =
     record {
-      limits = limits;
+      limits = λ i node at. valid i node at .0;
       distinct = distinct-fact nodes apart-nodes;
       together = together-fact (s .epsilon) nodes (and-left (together (s .epsilon) nodes) lengths rest);
-      few = pigeonhole (λ (node : Node). node .own) (s .n) nodes (λ node mem. let r = mem-getElem? mem in own-below (r .0) node (r .1)) (pairwise-of-apart (λ (x y : Node). eqb (x .own) (y .own)) nodes (unfold distinct in apart-nodes));
+      few = pigeonhole (λ (node : Node). node .own) (s .n) nodes (λ node mem. let r = mem-getElem? mem in valid (r .0) node (r .1) .1) (pairwise-of-apart (λ (x y : Node). eqb (x .own) (y .own)) nodes (unfold distinct in apart-nodes));
     }
   where
     lengths : Bool
     lengths = every (λ node. eqb (length (node .holdback)) (holdbackSize s)) nodes
 
     tests : (distinct nodes && (together (s .epsilon) nodes && lengths)) ≡ true
-    tests = and-right (every (λ node. inLimits (withOwn s (node .own))) nodes) (distinct nodes && (together (s .epsilon) nodes && lengths)) h
+    tests = and-right (every (validFor s) nodes) (distinct nodes && (together (s .epsilon) nodes && lengths)) h
 
     apart-nodes : distinct nodes ≡ true
     apart-nodes = and-left (distinct nodes) (together (s .epsilon) nodes && lengths) tests
@@ -71,40 +69,26 @@ group-start s nodes h =
     rest : (together (s .epsilon) nodes && lengths) ≡ true
     rest = and-right (distinct nodes) (together (s .epsilon) nodes && lengths) tests
 
-    limits : (i : ℕ) (node : Node) → getElem? nodes i ≡ some node → Limits (withOwn s (node .own))
-    limits i node at =
-        limits-from (withOwn s (node .own))
-        (every-mem (λ x. inLimits (withOwn s (x .own))) (and-left (every (λ x. inLimits (withOwn s (x .own))) nodes) (distinct nodes && (together (s .epsilon) nodes && lengths)) h) (getElem?-mem nodes i at))
-
-    own-below : (i : ℕ) (node : Node) → getElem? nodes i ≡ some node → node .own < s .n
-    own-below i node at = unfold withOwn in (limits i node at .own-below)
+    valid : (i : ℕ) (node : Node) → getElem? nodes i ≡ some node → Limits s × (node .own < s .n)
+    valid i node at =
+        setup-from s (node .own)
+        (every-mem (validFor s) (and-left (every (validFor s) nodes) (distinct nodes && (together (s .epsilon) nodes && lengths)) h) (getElem?-mem nodes i at))
 
 -- a start at which no node has passed the bounds
 pub good-start :
-    (s : Setup) (floor from : ℕ) (nodes : List Node) → goodStart s nodes ≡ true → floor ≤ from
-    → ((i : ℕ) (node : Node) → getElem? nodes i ≡ some node → suc (node .clock) + s .epsilon ≤ floor)
+    (s : Setup) (floor from : ℕ) (nodes : List Node) → goodStart s nodes ≡ true
+    → ((i : ℕ) (node : Node) → getElem? nodes i ≡ some node → node .clock + s .epsilon + s .epsilon ≤ floor)
     → Good s floor from (atStart nodes)
-unfolding atStart heardAt any withOwn
-good-start s floor from nodes h order early =
+unfolding atStart heardAt any
+good-start s floor from nodes h early =
     record {
-      group = group;
-      node = λ i node at.
-          record {
-            bounded = early-bounded s floor nodes (suc (node .clock)) (nextStamp s node .kn) (next-opened s node (group .limits i node at) .wide) (early i node at);
-            members = λ f mem. inl (
-                let l = group .limits i node at in
-                omega (arith, early i node at, near-high (s .epsilon) (s .modulus) (suc (node .clock) % s .modulus) (f .stamp .r) (l .epsilon-pos) (omega (arith, l .modulus-least, l .epsilon-pos))));
-            present = λ k m at′. absurd (nothing k m at′);
-            passed-on = λ k d at′. absurd (nothing k d at′);
-          };
+      group = group-start s nodes h;
+      node = λ i node at. inl (record { early = early i node at; unheard = λ k. refl; uncalled = λ k d at′. absurd (nothing k d at′) });
       calls = λ k d at. absurd (nothing k d at);
       unique = λ k l a b p. absurd (nothing k a p);
       heard-before = λ i k e. absurd (clash e refl);
     }
   where
-    group : Group s nodes
-    group = group-start s nodes h
-
     nothing : (k : ℕ) (d : Done) → _≡_ {A = Option Done} (getElem? [] k) (some d) → ⊥
     nothing k d e = omega (arith, getElem?-lt {A = Done} [] k e)
 
@@ -113,22 +97,16 @@ unfolding largestClock
 largest-clock nodes i node at = largest-map-mem (λ (x : Node). x .clock) (getElem?-mem nodes i at)
 
 -- one setup
-setup-eq : (s t : Setup) → s .n ≡ t .n → s .epsilon ≡ t .epsilon → s .delta ≡ t .delta → s .modulus ≡ t .modulus → s .own ≡ t .own → s ≡ t
-setup-eq s t a b c d e =
-    ap (λ (x : ℕ). record { n = x; epsilon = s .epsilon; delta = s .delta; modulus = s .modulus; own = s .own }) a
-    ∙ (ap (λ (x : ℕ). record { n = t .n; epsilon = x; delta = s .delta; modulus = s .modulus; own = s .own }) b
-    ∙ (ap (λ (x : ℕ). record { n = t .n; epsilon = t .epsilon; delta = x; modulus = s .modulus; own = s .own }) c
-    ∙ (ap (λ (x : ℕ). record { n = t .n; epsilon = t .epsilon; delta = t .delta; modulus = x; own = s .own }) d
-    ∙ ap (λ (x : ℕ). record { n = t .n; epsilon = t .epsilon; delta = t .delta; modulus = t .modulus; own = x }) e)))
-
 same-setup : (s t : Setup) → sameSetup s t ≡ true → s ≡ t
 unfolding sameSetup
 same-setup s t h =
     let h1 = and-right (eqb (s .n) (t .n)) _ h in
     let h2 = and-right (eqb (s .epsilon) (t .epsilon)) _ h1 in
-    let h3 = and-right (eqb (s .delta) (t .delta)) _ h2 in
-    setup-eq s t (eqb-true _ _ (and-left (eqb (s .n) (t .n)) _ h)) (eqb-true _ _ (and-left (eqb (s .epsilon) (t .epsilon)) _ h1)) (eqb-true _ _ (and-left (eqb (s .delta) (t .delta)) _ h2))
-    (eqb-true _ _ (and-left (eqb (s .modulus) (t .modulus)) _ h3)) (eqb-true _ _ (and-right (eqb (s .modulus) (t .modulus)) _ h3))
+    let n-is = eqb-true (s .n) (t .n) (and-left (eqb (s .n) (t .n)) _ h) in
+    let epsilon-is = eqb-true (s .epsilon) (t .epsilon) (and-left (eqb (s .epsilon) (t .epsilon)) _ h1) in
+    let delta-is = eqb-true (s .delta) (t .delta) (and-left (eqb (s .delta) (t .delta)) _ h2) in
+    let modulus-is = eqb-true (s .modulus) (t .modulus) (and-right (eqb (s .delta) (t .delta)) _ h2) in
+    λ i. record { n = n-is i; epsilon = epsilon-is i; delta = delta-is i; modulus = modulus-is i }
 
 -- the entries, one by one
 entries-lengths : (s : Setup) (x : ℕ) (past : List Done) (nodes : List Node) (v : ℕ) (es : List (List ℕ)) (os : List Source) → entriesAllowed s x past nodes v es os ≡ true → length es ≡ length os
@@ -172,27 +150,24 @@ entry-fact s x floor past nodes v bytes (sentBy k) early h = go (getElem? past k
           near-by = leb-true _ _ (and-right (sameList bytes (messageBytes m)) _ a);
         }
 
-moved : (node : Node) (call : Call) → isAccepted (outputOf node call) ≡ true → doneOf node call .clock ≡ suc (node .clock)
+moved : (node : Node) (call : Call) → isAccepted (outputOf node call) ≡ true → doneOf node call .clock ≡ node .clock + 1
 unfolding doneOf movedClock
-moved node call acc = rw acc
+moved node call acc = rw acc (sym (add-one (node .clock)))
 
 -- an accepted call that is allowed
 legal-fact :
     (s : Setup) (x floor : ℕ) (w : World) (call : Call) (node : Node) → ((v : ℕ) → v ≤ staleUntil s x → v + s .epsilon ≤ floor)
-    → getElem? (w .nodes) (call .node) ≡ some node → isAccepted (outputOf node call) ≡ true → acceptedWell s x w call (doneOf node call) ≡ true → Legal s floor w call node
+    → getElem? (w .nodes) (call .node) ≡ some node → isAccepted (outputOf node call) ≡ true → acceptedWell s x w call (doneOf node call) ≡ true → Legal s floor w call node (doneOf node call .clock)
 unfolding acceptedWell oneSetup trueClock hearsAllowed
 legal-fact s x floor w call node early at acc h =
     record {
       at = at;
-      accepted = acc;
-      setup-is = setup-fact;
-      clock-is = clock-fact;
+      called = record { accepted = acc; setup-is = setup-fact; own-is = own-fact; clock-is = clock-fact; turn = moved node call acc };
       together = together-fact (s .epsilon) (act w call .nodes) (and-left (together (s .epsilon) (act w call .nodes)) E h2);
       lengths = entries-lengths s x (w .past) (act w call .nodes) (doneOf node call .clock) (batchEntries (call .batch)) (call .sources) entries;
       entry = λ e bytes o p q.
-          subst (λ (v : ℕ). EntryOk s floor (w .past) (act w call .nodes) v bytes o) here
-          (entry-fact s x floor (w .past) (act w call .nodes) (doneOf node call .clock) bytes o (early (doneOf node call .clock))
-          (entries-at s x (w .past) (act w call .nodes) (doneOf node call .clock) (batchEntries (call .batch)) (call .sources) entries e bytes o p q));
+          entry-fact s x floor (w .past) (act w call .nodes) (doneOf node call .clock) bytes o (early (doneOf node call .clock))
+          (entries-at s x (w .past) (act w call .nodes) (doneOf node call .clock) (batchEntries (call .batch)) (call .sources) entries e bytes o p q);
     }
   where
     E : Bool
@@ -202,7 +177,7 @@ legal-fact s x floor w call node early at acc h =
     C = eqb (call .clock) (doneOf node call .clock % s .modulus)
 
     S : Bool
-    S = sameSetup (call .setup) (withOwn s (doneOf node call .own))
+    S = sameSetup (call .setup) s && eqb (call .own) (doneOf node call .own)
 
     h1 : (C && (together (s .epsilon) (act w call .nodes) && E)) ≡ true
     h1 = and-right S (C && (together (s .epsilon) (act w call .nodes) && E)) h
@@ -213,28 +188,31 @@ legal-fact s x floor w call node early at acc h =
     entries : E ≡ true
     entries = and-right (together (s .epsilon) (act w call .nodes)) E h2
 
-    here : doneOf node call .clock ≡ suc (node .clock)
-    here = moved node call acc
+    one : S ≡ true
+    one = and-left S (C && (together (s .epsilon) (act w call .nodes) && E)) h
 
-    setup-fact : call .setup ≡ withOwn s (node .own)
-    setup-fact = unfold doneOf in (same-setup (call .setup) (withOwn s (node .own)) (and-left S (C && (together (s .epsilon) (act w call .nodes) && E)) h))
+    setup-fact : call .setup ≡ s
+    setup-fact = same-setup (call .setup) s (and-left (sameSetup (call .setup) s) (eqb (call .own) (doneOf node call .own)) one)
 
-    clock-fact : call .clock ≡ suc (node .clock) % s .modulus
-    clock-fact = eqb-true (call .clock) (doneOf node call .clock % s .modulus) (and-left C (together (s .epsilon) (act w call .nodes) && E) h1) ∙ ap (λ (v : ℕ). v % s .modulus) here
+    own-fact : call .own ≡ node .own
+    own-fact = eqb-true (call .own) (node .own) (unfold doneOf in (and-right (sameSetup (call .setup) s) (eqb (call .own) (doneOf node call .own)) one))
+
+    clock-fact : call .clock ≡ doneOf node call .clock % s .modulus
+    clock-fact = eqb-true (call .clock) (doneOf node call .clock % s .modulus) (and-left C (together (s .epsilon) (act w call .nodes) && E) h1)
 
 -- a call that is allowed
 pub allowed-fact :
     (s : Setup) (x floor : ℕ) (w : World) (call : Call) → ((v : ℕ) → v ≤ staleUntil s x → v + s .epsilon ≤ floor) → allowed s x w call ≡ true
-    → (node : Node) × (getElem? (w .nodes) (call .node) ≡ some node) × ((isAccepted (outputOf node call) ≡ false) ⊎ Legal s floor w call node)
+    → (node : Node) × (getElem? (w .nodes) (call .node) ≡ some node) × ((isAccepted (outputOf node call) ≡ false) ⊎ Legal s floor w call node (doneOf node call .clock))
 unfolding allowed doneOf
 allowed-fact s x floor w call early h = go (getElem? (w .nodes) (call .node)) refl h
   where
     decide : (node : Node) → getElem? (w .nodes) (call .node) ≡ some node → (b : Bool) → isAccepted (outputOf node call) ≡ b
-        → (not b || acceptedWell s x w call (doneOf node call)) ≡ true → (isAccepted (outputOf node call) ≡ false) ⊎ Legal s floor w call node
+        → (not b || acceptedWell s x w call (doneOf node call)) ≡ true → (isAccepted (outputOf node call) ≡ false) ⊎ Legal s floor w call node (doneOf node call .clock)
     decide node at false e t = inl e
     decide node at true e t = inr (legal-fact s x floor w call node early at e t)
 
     go : (o : Option Node) → getElem? (w .nodes) (call .node) ≡ o → allowedFor s x w call o ≡ true
-        → (node : Node) × (getElem? (w .nodes) (call .node) ≡ some node) × ((isAccepted (outputOf node call) ≡ false) ⊎ Legal s floor w call node)
+        → (node : Node) × (getElem? (w .nodes) (call .node) ≡ some node) × ((isAccepted (outputOf node call) ≡ false) ⊎ Legal s floor w call node (doneOf node call .clock))
     go none e t = absurd (clash t refl)
     go (some node) e t = (node, e, decide node e (isAccepted (outputOf node call)) refl t)

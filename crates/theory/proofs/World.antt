@@ -1,59 +1,38 @@
 -- What holds of all nodes and calls while a list of calls is run: from the clock `floor` on counts are right, and from the clock `from` on messages are followed.
 -- Demand 3 has floor X + δ + 2ε and from X + δ + 3ε; from fresh nodes both are 0.
 -- Assumes nothing.
-use Prim.Native.Nat.{ℕ, suc, _+_, _%_, _≤_, _<_, Ordering·lt}
-use mathlib.Core.Path.{_≡_}
+use Prim.Native.Nat.{ℕ, _+_, _%_, _≤_, _<_, Ordering·lt}
+use mathlib.Core.Path.{_≡_, ap, _∙_}
 use mathlib.Core.Bool.{Bool, true, false, _&&_, _||_, cond}
 use mathlib.Core.List.{List, [], _∷_, _++_, map, List·Memᴰ}
 use mathlib.Core.Logic.{_⊎_, inl, inr}
-use mathlib.Core.Option.{some}
+use mathlib.Core.Option.{Option, some}
 use lib.Dec.{leb}
-use lib.ListN.{length, take, getD, getElem?}
-use Rattle.laws.specs.Lists.{any, select, selectFrom, sortBy}
+use lib.ListN.{length, take, getD, set, getElem?}
+use Rattle.laws.specs.Lists.{every, any, select, selectFrom, sortBy, placedAt}
 use Rattle.laws.specs.Lex.{lexCompare}
-use Rattle.laws.proofs.Lists.{countOf}
+use Rattle.laws.proofs.Numbers.{and-left}
+use Rattle.laws.proofs.Lists.{countOf, getElem?-lt, getElem?-set-same, getElem?-set-other}
 use Rattle.model.specs.Setup.{Setup}
-use Rattle.model.specs.Timestamp.{Timestamp, countAt, near}
+use Rattle.model.specs.Timestamp.{Timestamp, trimmed}
 use Rattle.model.specs.Frame.{Frame, encode, decode}
-use Rattle.model.specs.Order.{key, due}
+use Rattle.model.specs.Order.{readingOf, key, due}
 use Rattle.model.specs.Batch.{batchEntries}
-use Rattle.model.specs.Holdback.{heldBytes}
+use Rattle.model.specs.Holdback.{heldBytes, held, passes}
 use Rattle.model.specs.Codec.{frameOf}
-use Rattle.model.specs.Tick.{Input, openingStamp, openingQueue}
-use Rattle.model.specs.Run.{Node, Source, sentBy, stale, Call, Done, World, isAccepted, outputOf, act, sends, messageBytes, messageFrame}
-use Rattle.theory.specs.Premises.{withOwn, clockAt}
+use Rattle.model.specs.Run.{Node, Source, sentBy, stale, Call, Done, World, isAccepted, outputOf, doneOf, nodeAfter, act, actOn, sends, messageBytes, messageFrame}
+use Rattle.theory.specs.Premises.{clockAt}
 use Rattle.theory.specs.Demand3.{isFrom, heardIn, dueAt, earlier, newTimestamp, written}
 use Rattle.lemmas.proofs.Bounds.{Limits, Sound, FrameOk}
-
--- the next call of a node, as far as its opening depends on it
-unfoldable pub nextInput : Setup → Node → Input
-nextInput s node =
-    record {
-      setup = withOwn s (node .own);
-      clock = suc (node .clock) % s .modulus;
-      tables = node .tables;
-      holdback = node .holdback;
-      batch = [];
-      send = false;
-      payload = [];
-      outgoing = [];
-      verdicts = [];
-      delivery = [];
-    }
-
--- the stamp and the queue with which the next call's hearing starts
-unfoldable pub nextStamp : Setup → Node → Timestamp
-nextStamp s node = openingStamp (nextInput s node)
-
-unfoldable pub nextQueue : Setup → Node → List Frame
-nextQueue s node = openingQueue (nextInput s node)
+use Rattle.lemmas.proofs.Counts.{Left}
+use Rattle.lemmas.proofs.Queue.{QueueLeft}
 
 -- the frame of an accepted call, sent or not
 unfoldable pub eventFrame : Setup → Done → Frame
 eventFrame s d = frameOf (s .epsilon) (d .own) (newTimestamp s d) (d .call .payload)
 
 unfoldable pub eventKey : Setup → Done → List ℕ
-eventKey s d = key (s .epsilon) (d .clock) (eventFrame s d)
+eventKey s d = key s (d .clock) (eventFrame s d)
 
 -- how many nodes have reached the clock named w
 unfoldable pub reached : ℕ → List Node → ℕ → ℕ
@@ -62,12 +41,12 @@ reached epsilon nodes w = countOf (λ node. leb w (node .clock + epsilon)) nodes
 -- the counts of a timestamp at R are right from the floor on: nobody is counted who has not reached that clock
 abbrev pub Bounded : Setup → ℕ → List Node → ℕ → List ℕ → Type 0
 Bounded s floor nodes R kn =
-    (w : ℕ) → floor + s .epsilon ≤ w → countAt R kn w ≤ reached (s .epsilon) nodes w
+    (w : ℕ) → floor + s .epsilon ≤ w → placedAt R kn w ≤ reached (s .epsilon) nodes w
 
 -- what the timestamp f at R knows is known to t at v
 pub record Under (R : ℕ) (f : Timestamp) (v : ℕ) (t : Timestamp) : Type 0 where
   pub sums : R + f .c ≤ v + t .c
-  pub counts : (w : ℕ) → v < w → countAt R (f .kn) w ≤ countAt v (t .kn) w
+  pub counts : (w : ℕ) → v < w → placedAt R (f .kn) w ≤ placedAt v (t .kn) w
 
 -- a message that is followed
 unfoldable pub followed : ℕ → Done → Bool
@@ -77,12 +56,12 @@ followed from m = sends m && leb from (m .clock)
 unfoldable pub heardAt : List Done → ℕ → ℕ → Bool
 heardAt past node k = any (heardIn node k) past
 
--- a frame in the queue of a node whose next clock is v: of a message that is not followed, or of one that is followed and was heard
+-- a frame in the queue of a node, at v: of a message that is not followed, or of one that is followed and was heard
 abbrev pub Explained : Setup → ℕ → List Done → (ℕ → Bool) → ℕ → Frame → Type 0
 Explained s from past heard v f =
-    (near (s .epsilon) (s .modulus) (v % s .modulus) (f .stamp .r) + v < s .modulus + from)
+    (readingOf s (v % s .modulus) f + v < s .modulus + from)
     ⊎ ((k : ℕ) × (m : Done) × (getElem? past k ≡ some m) × (followed from m ≡ true) × (heard k ≡ true) × (f ≡ eventFrame s m)
-    × (near (s .epsilon) (s .modulus) (v % s .modulus) (f .stamp .r) + v ≡ s .modulus + m .clock))
+    × (readingOf s (v % s .modulus) f + v ≡ s .modulus + m .clock))
 
 abbrev pub AllExplained : Setup → ℕ → List Done → (ℕ → Bool) → ℕ → List Frame → Type 0
 AllExplained s from past heard v queue = (f : Frame) → List·Memᴰ f queue → Explained s from past heard v f
@@ -97,10 +76,16 @@ explained-more s from past heard heard′ v f more (inr x) = inr (x .0, x .1, x 
 abbrev pub AllPresent : Setup → ℕ → List Done → (ℕ → Bool) → ℕ → List Frame → Type 0
 AllPresent s from past heard v queue =
     (k : ℕ) (m : Done) → getElem? past k ≡ some m → followed from m ≡ true → heard k ≡ true
-    → v ≤ due (s .epsilon) (s .delta) (m .clock) (eventFrame s m .stamp .c) → List·Memᴰ (eventFrame s m) queue
+    → v ≤ due s (m .clock) (eventFrame s m .stamp .c) → List·Memᴰ (eventFrame s m) queue
+
+-- and each that is due after v: such lie there once those due at v are delivered
+abbrev pub AllWaiting : Setup → ℕ → List Done → (ℕ → Bool) → ℕ → List Frame → Type 0
+AllWaiting s from past heard v queue =
+    (k : ℕ) (m : Done) → getElem? past k ≡ some m → followed from m ≡ true → heard k ≡ true
+    → v < due s (m .clock) (eventFrame s m .stamp .c) → List·Memᴰ (eventFrame s m) queue
 
 -- an accepted call, by itself
-pub record Event (s : Setup) (d : Done) : Type 0 where
+pub record CallEvent (s : Setup) (d : Done) : Type 0 where
   pub frame : FrameOk s (eventFrame s d)
   pub r-is : eventFrame s d .stamp .r ≡ d .clock % s .modulus
   pub bytes : sends d ≡ true → messageBytes d ≡ encode (eventFrame s d)
@@ -118,30 +103,57 @@ pub record Maker (nodes : List Node) (d : Done) : Type 0 where
 
 -- an accepted call among all
 pub record Settled (s : Setup) (floor : ℕ) (nodes : List Node) (d : Done) : Type 0 where
-  pub event : Event s d
+  pub event : CallEvent s d
   pub maker : Maker nodes d
   pub bounded : Bounded s floor nodes (d .clock) (eventFrame s d .stamp .kn)
 
--- the last accepted call of a node passes on what a call before it knew
-pub record Passed-on (s : Setup) (past : List Done) (node : Node) (d : Done) : Type 0 where
+-- the call d of a node is its last accepted one or comes before that, and what the last one knew is known to the stamp t at v
+pub record Passed-on (s : Setup) (d : Done) (v : ℕ) (t : Timestamp) : Type 0 where
   pub last : Done
   pub sound : Sound (s .n) (s .epsilon) (eventFrame s last .stamp)
   pub comes : (d ≡ last) ⊎ (lexCompare (eventKey s d) (eventKey s last) ≡ Ordering·lt)
-  pub under : Under (last .clock) (eventFrame s last .stamp) (suc (node .clock)) (nextStamp s node)
+  pub under : Under (last .clock) (eventFrame s last .stamp) v t
 
 -- the nodes alone
 pub record Group (s : Setup) (nodes : List Node) : Type 0 where
-  pub limits : (i : ℕ) (node : Node) → getElem? nodes i ≡ some node → Limits (withOwn s (node .own))
+  pub limits : (i : ℕ) (node : Node) → getElem? nodes i ≡ some node → Limits s
   pub distinct : (i j : ℕ) (a b : Node) → getElem? nodes i ≡ some a → getElem? nodes j ≡ some b → a .own ≡ b .own → i ≡ j
   pub together : (i j : ℕ) (a b : Node) → getElem? nodes i ≡ some a → getElem? nodes j ≡ some b → a .clock ≤ b .clock + s .epsilon
   pub few : length nodes ≤ s .n
 
--- one node among all
-pub record NodeOk (s : Setup) (floor from : ℕ) (w : World) (i : ℕ) (node : Node) : Type 0 where
-  pub bounded : Bounded s floor (w .nodes) (suc (node .clock)) (nextStamp s node .kn)
-  pub members : AllExplained s from (w .past) (heardAt (w .past) i) (suc (node .clock)) (nextQueue s node)
-  pub present : AllPresent s from (w .past) (heardAt (w .past) i) (suc (node .clock)) (nextQueue s node)
-  pub passed-on : (k : ℕ) (d : Done) → getElem? (w .past) k ≡ some d → isAccepted (d .output) ≡ true → d .node ≡ i → Passed-on s (w .past) node d
+-- what a call of node i for v starts from
+pub record Opens (s : Setup) (floor from : ℕ) (w : World) (i v : ℕ) (t : Timestamp) (queue : List Frame) : Type 0 where
+  pub bounded : Bounded s floor (w .nodes) v (t .kn)
+  pub members : AllExplained s from (w .past) (heardAt (w .past) i) v queue
+  pub present : AllPresent s from (w .past) (heardAt (w .past) i) v queue
+  pub passed-on : (k : ℕ) (d : Done) → getElem? (w .past) k ≡ some d → isAccepted (d .output) ≡ true → d .node ≡ i → Passed-on s d v t
+
+-- what a call leaves in its node's memory, at the node's own clock: sound tables, and a shelf of frames that pass 10 to 12
+pub record Memory (s : Setup) (node : Node) : Type 0 where
+  pub tables : Left (s .n) (s .epsilon) (trimmed (s .epsilon) (node .tables))
+  pub r-is : trimmed (s .epsilon) (node .tables) .r ≡ node .clock % s .modulus
+  pub passed : every (passes s) (heldBytes (s .epsilon) (node .holdback)) ≡ true
+  pub queue : QueueLeft s (node .clock % s .modulus) 0 (held (s .epsilon) (node .holdback))
+
+-- a node as its last accepted call left it; a fresh node is one too
+pub record LeftAt (s : Setup) (floor from : ℕ) (w : World) (i : ℕ) (node : Node) : Type 0 where
+  pub memory : Memory s node
+  pub bounded : Bounded s floor (w .nodes) (node .clock) (trimmed (s .epsilon) (node .tables) .kn)
+  pub members : AllExplained s from (w .past) (heardAt (w .past) i) (node .clock) (held (s .epsilon) (node .holdback))
+  pub waiting : AllWaiting s from (w .past) (heardAt (w .past) i) (node .clock) (held (s .epsilon) (node .holdback))
+  pub passed-on :
+      (k : ℕ) (d : Done) → getElem? (w .past) k ≡ some d → isAccepted (d .output) ≡ true → d .node ≡ i
+      → Passed-on s d (node .clock) (trimmed (s .epsilon) (node .tables))
+
+-- a node that has made no accepted call yet: its memory is whatever it was, and what it opens at its first one lies below the floor
+pub record Untouched (s : Setup) (floor : ℕ) (w : World) (i : ℕ) (node : Node) : Type 0 where
+  pub early : node .clock + s .epsilon + s .epsilon ≤ floor
+  pub unheard : (k : ℕ) → heardAt (w .past) i k ≡ false
+  pub uncalled : (k : ℕ) (d : Done) → getElem? (w .past) k ≡ some d → isAccepted (d .output) ≡ true → d .node ≡ i → ⊥
+
+-- one node among all, between its calls
+abbrev pub NodeOk : Setup → ℕ → ℕ → World → ℕ → Node → Type 0
+NodeOk s floor from w i node = Untouched s floor w i node ⊎ LeftAt s floor from w i node
 
 -- the invariant
 pub record Good (s : Setup) (floor from : ℕ) (w : World) : Type 0 where
@@ -164,15 +176,51 @@ abbrev pub EntryOk : Setup → ℕ → List Done → List Node → ℕ → List 
 EntryOk s floor past nodes v entry (sentBy k) = SentEntry s past nodes entry k
 EntryOk s floor past nodes v entry stale = v + s .epsilon ≤ floor
 
--- an accepted call of a node that keeps the premises
-pub record Legal (s : Setup) (floor : ℕ) (w : World) (call : Call) (node : Node) : Type 0 where
-  pub at : getElem? (w .nodes) (call .node) ≡ some node
+-- a node's call for v: accepted, of the one setup. 01: v is one after the node's clock
+pub record Due-call (s : Setup) (node : Node) (call : Call) (v : ℕ) : Type 0 where
   pub accepted : isAccepted (outputOf node call) ≡ true
-  pub setup-is : call .setup ≡ withOwn s (node .own)
-  pub clock-is : call .clock ≡ suc (node .clock) % s .modulus
+  pub setup-is : call .setup ≡ s
+  pub own-is : call .own ≡ node .own
+  pub clock-is : call .clock ≡ v % s .modulus
+  pub turn : v ≡ node .clock + 1
+
+-- an accepted call of a node that keeps the premises
+pub record Legal (s : Setup) (floor : ℕ) (w : World) (call : Call) (node : Node) (v : ℕ) : Type 0 where
+  pub at : getElem? (w .nodes) (call .node) ≡ some node
+  pub called : Due-call s node call v
   pub together : (i j : ℕ) (a b : Node) → getElem? (act w call .nodes) i ≡ some a → getElem? (act w call .nodes) j ≡ some b → a .clock ≤ b .clock + s .epsilon
   pub lengths : length (batchEntries (call .batch)) ≡ length (call .sources)
-  pub entry : (e : ℕ) (bytes : List ℕ) (o : Source) → getElem? (batchEntries (call .batch)) e ≡ some bytes → getElem? (call .sources) e ≡ some o → EntryOk s floor (w .past) (act w call .nodes) (suc (node .clock)) bytes o
+  pub entry : (e : ℕ) (bytes : List ℕ) (o : Source) → getElem? (batchEntries (call .batch)) e ≡ some bytes → getElem? (call .sources) e ≡ some o → EntryOk s floor (w .past) (act w call .nodes) v bytes o
+
+-- the nodes after a call of one of them
+abbrev pub nodesAfter : List Node → Call → Node → List Node
+nodesAfter nodes call node = set nodes (call .node) (nodeAfter node (outputOf node call))
+
+pub act-is :
+    (w : World) (call : Call) (node : Node) → getElem? (w .nodes) (call .node) ≡ some node
+    → act w call ≡ record { nodes = nodesAfter (w .nodes) call node; past = w .past ++ (doneOf node call ∷ []) }
+unfolding act
+act-is w call node at = ap (λ (o : Option Node). actOn o w call) at
+
+-- the one that made it, and the others
+pub after-at : (nodes : List Node) (call : Call) (node : Node) → getElem? nodes (call .node) ≡ some node → getElem? (nodesAfter nodes call node) (call .node) ≡ some (nodeAfter node (outputOf node call))
+after-at nodes call node at = getElem?-set-same nodes (call .node) (nodeAfter node (outputOf node call)) (getElem?-lt nodes (call .node) at)
+
+pub after-other : (nodes : List Node) (call : Call) (node : Node) (j : ℕ) → (call .node ≡ j → ⊥) → getElem? (nodesAfter nodes call node) j ≡ getElem? nodes j
+after-other nodes call node j ne = getElem?-set-other nodes (call .node) j (nodeAfter node (outputOf node call)) ne
+
+-- their clocks keep the drift limit
+pub after-together :
+    (s : Setup) (floor : ℕ) (w : World) (call : Call) (node : Node) (v : ℕ) → Legal s floor w call node v
+    → (i j : ℕ) (a b : Node) → getElem? (nodesAfter (w .nodes) call node) i ≡ some a → getElem? (nodesAfter (w .nodes) call node) j ≡ some b → a .clock ≤ b .clock + s .epsilon
+after-together s floor w call node v legal i j a b p q =
+    let e = ap (λ (u : World). u .nodes) (act-is w call node (legal .at)) in
+    legal .together i j a b (ap (λ (l : List Node). getElem? l i) e ∙ p) (ap (λ (l : List Node). getElem? l j) e ∙ q)
+
+-- only an accepted call sends
+pub sends-accepted : (m : Done) → sends m ≡ true → isAccepted (m .output) ≡ true
+unfolding sends
+sends-accepted m e = and-left (isAccepted (m .output)) (m .call .send) e
 
 -- the followed messages heard at a node that are due at v
 unfoldable pub dueFollowed : Setup → ℕ → List Done → ℕ → ℕ → List Done
@@ -180,12 +228,12 @@ dueFollowed s from past node v = selectFrom (λ k m. followed from m && (dueAt s
 
 unfoldable pub followedFrame : Setup → ℕ → ℕ → List ℕ → Bool
 followedFrame s from v bytes =
-    leb (s .modulus + from) (near (s .epsilon) (s .modulus) (v % s .modulus) (decode (s .epsilon) bytes .stamp .r) + v)
+    leb (s .modulus + from) (readingOf s (v % s .modulus) (decode (s .epsilon) bytes) + v)
 
 -- what is promised of one accepted call, given the calls before it
 pub record Kept (s : Setup) (from : ℕ) (past : List Done) (d : Done) : Type 0 where
-  pub event : Event s d
-  pub setup-is : d .call .setup ≡ withOwn s (d .own)
+  pub event : CallEvent s d
+  pub setup-is : d .call .setup ≡ s
   pub hearing :
       (e k : ℕ) (m : Done) → getElem? (d .call .sources) e ≡ some (sentBy k) → getElem? past k ≡ some m → followed from m ≡ true
       → getD (d .output .verdicts) e 0 ≡ cond (heardAt past (d .node) k || any (isFrom k) (take e (d .call .sources))) 16 0

@@ -15,7 +15,7 @@ use Rattle.model.specs.Holdback.{heldBytes, held, soundHoldback, encodeFrames, 
 use Rattle.model.specs.Question.{firstNo}
 use Rattle.model.specs.Codec.{read, write}
 use Rattle.model.specs.Judge.{Heard, hear, judgeQuestions}
-use Rattle.model.specs.Tick.{Input, holdbackSize, openingStamp, openingQueue, sentBytes, deliveredOf, takenCount, tick}
+use Rattle.model.specs.Tick.{Input, holdbackSize, opening, sentBytes, deliveredOf, takenCount, tick}
 use Rattle.model.specs.Published.{Event, Message, Process, inOrder, sameMessage, newOnes, eventOf, messageOf, deliveredAt, advanced, started}
 use Rattle.model.specs.Run.{Node, Source, sentBy, stale, Call, Done, isAccepted, runFrom, atStart}
 use Rattle.theory.specs.Premises.{goodStart, largestClock, keeps, allFresh, noneStale}
@@ -23,8 +23,7 @@ use Rattle.theory.specs.Premises.{goodStart, largestClock, keeps, allFre
 -- what a tick has heard before its entry k
 unfoldable pub heardBefore : Input → ℕ → Heard
 heardBefore i k =
-    hear (i .setup) (i .clock) (record { stamp = openingStamp i; queue = openingQueue i; verdicts = [] })
-    (take k (batchEntries (i .batch)))
+    hear (i .setup) (i .clock) (judgeQuestions (i .setup) (i .clock)) (opening i) (take k (batchEntries (i .batch)))
 
 -- From any state, of an accepted call
 pub record AnyState (i : Input) : Type 0 where
@@ -32,6 +31,11 @@ pub record AnyState (i : Input) : Type 0 where
   pub verdict :
       (k : ℕ) (entry : List ℕ) → getElem? (batchEntries (i .batch)) k ≡ some entry
       → getD (tick i .verdicts) k 0 ≡ firstNo (judgeQuestions (i .setup) (i .clock) (heardBefore i k .queue) entry)
+  -- "(mend 1)", "(mend 2; both, mend 3)": 1 exactly if the tables are unsound for this clock, 2 exactly if the shelf is, else 0
+  pub repair :
+      tick i .answer .repair
+      ≡ cond (soundTables (i .setup .n) (i .setup .epsilon) (i .setup .modulus) (i .clock) (trimmed (i .setup .epsilon) (i .tables))) 0 1
+      + cond (soundHoldback (i .setup) (i .clock) (i .holdback)) 0 2
   -- "the figures count what they say": taken counts the 0s, handed out the frames of the hand-out
   pub taken : tick i .answer .taken ≡ takenCount (take (length (batchEntries (i .batch))) (tick i .verdicts))
   pub delivered : tick i .answer .delivered ≡ length (deliveredOf i)
@@ -60,16 +64,16 @@ unfoldable pub hasWidth : ℕ → Frame → Bool
 hasWidth epsilon f = eqb (length (f .stamp .kn)) (width epsilon)
 
 -- "the codec round-trips": the frame, the shelf and the hand-out
-pub record RoundTrips (s : Setup) : Type 0 where
+pub record RoundTrips (s : Setup) (own : ℕ) : Type 0 where
   -- a written frame reads back the same; the places past the 2ε counts come back 0
   pub frameRead :
-      (station : ℕ) (t : Timestamp) (payload buffer : List ℕ) → write s station t payload buffer .number ≡ 0
-      → read s (take (write s station t payload buffer .size) (write s station t payload buffer .buffer))
+      (station : ℕ) (t : Timestamp) (payload buffer : List ℕ) → write s own station t payload buffer .number ≡ 0
+      → read s own (take (write s own station t payload buffer .size) (write s own station t payload buffer .buffer))
       ≡ record { number = 0; station = station; stamp = widened (trimmed (s .epsilon) t); payload = payload }
   -- an accepted frame is the one that the writer makes of its contents, in any buffer that is long enough
   pub frameWritten :
-      (bytes buffer : List ℕ) → areBytes bytes ≡ true → read s bytes .number ≡ 0 → length bytes ≤ length buffer
-      → write s (read s bytes .station) (read s bytes .stamp) (read s bytes .payload) buffer
+      (bytes buffer : List ℕ) → areBytes bytes ≡ true → read s own bytes .number ≡ 0 → length bytes ≤ length buffer
+      → write s own (read s own bytes .station) (read s own bytes .stamp) (read s own bytes .payload) buffer
       ≡ record { number = 0; size = length bytes; buffer = overlay bytes buffer }
   -- a shelf holds the frames of which it was made
   pub holdbackRead :
@@ -91,9 +95,9 @@ pub record RoundTrips (s : Setup) : Type 0 where
       → every (wellFormed (s .epsilon)) (heldBytes (s .epsilon) bytes) ≡ true
       → overlay (encodeFrames (held (s .epsilon) bytes)) bytes ≡ bytes
 
--- Demand 2, the codec, of every setup
+-- Demand 2, the codec, of every setup and own number
 abbrev pub Demand2Codec : Type 0
-Demand2Codec = (s : Setup) → RoundTrips s
+Demand2Codec = (s : Setup) (own : ℕ) → RoundTrips s own
 
 -- The published program, run over the same calls: the process of each station, and for each call made the message that it sent, if any
 pub record Published : Type 0 where

@@ -9,13 +9,13 @@ use lib.ListN.{take, getD, getElem?}
 use Rattle.laws.specs.Lists.{any, select, selectFrom, sortBy}
 use Rattle.laws.specs.Lex.{lexCompare, isLess}
 use Rattle.model.specs.Setup.{Setup}
-use Rattle.model.specs.Timestamp.{Timestamp, near}
+use Rattle.model.specs.Timestamp.{Timestamp}
 use Rattle.model.specs.Frame.{decode}
-use Rattle.model.specs.Order.{key, due}
+use Rattle.model.specs.Order.{readingOf, key, due}
 use Rattle.model.specs.Holdback.{heldBytes}
 use Rattle.model.specs.Codec.{WriteAnswer, write}
 use Rattle.model.specs.Run.{Node, Source, sentBy, stale, Call, Done, isAccepted, runFrom, atStart, sends, messageBytes, messageFrame}
-use Rattle.theory.specs.Premises.{withOwn, goodStart, largestClock, keeps}
+use Rattle.theory.specs.Premises.{goodStart, largestClock, keeps}
 
 -- 01: "T for X + δ + 3ε"
 unfoldable pub coveredFrom : Setup → ℕ → ℕ
@@ -36,11 +36,11 @@ heardIn node k d = isAccepted (d .output) && (eqb (d .node) node && any (isFrom 
 
 -- 01: "due at v": sum + δ + ε equals v
 unfoldable pub dueAt : Setup → ℕ → Done → Bool
-dueAt s v m = eqb (due (s .epsilon) (s .delta) (m .clock) (messageFrame m .stamp .c)) v
+dueAt s v m = eqb (due s (m .clock) (messageFrame m .stamp .c)) v
 
 -- 01: "the order of two stamps", each with its true clock
 unfoldable pub messageKey : Setup → Done → List ℕ
-messageKey s m = key (s .epsilon) (m .clock) (messageFrame m)
+messageKey s m = key s (m .clock) (messageFrame m)
 
 -- the first "comes first in the order of two stamps"
 unfoldable pub earlier : Setup → Done → Done → Bool
@@ -54,7 +54,7 @@ dueHere s x past node v = selectFrom (λ k m. covered s x m && (dueAt s v m && a
 unfoldable pub coveredFrame : Setup → ℕ → ℕ → List ℕ → Bool
 coveredFrame s x v bytes =
     leb (s .modulus + coveredFrom s x)
-    (near (s .epsilon) (s .modulus) (v % s .modulus) (decode (s .epsilon) bytes .stamp .r) + v)
+    (readingOf s (v % s .modulus) (decode (s .epsilon) bytes) + v)
 
 -- 01: the tables' new c and counts, with the clock modulo B
 unfoldable pub newTimestamp : Setup → Done → Timestamp
@@ -63,7 +63,7 @@ newTimestamp s d = record { r = d .clock % s .modulus; c = d .output .answer .ta
 -- the writer's answer for that call's sending
 unfoldable pub written : Setup → Done → WriteAnswer
 written s d =
-    write (withOwn s (d .own)) (d .own) (newTimestamp s d) (d .call .payload) (d .call .outgoing)
+    write s (d .own) (d .own) (newTimestamp s d) (d .call .payload) (d .call .outgoing)
 
 -- 01: "A call leads to later ones of its station, to those that take the message it sent, and on through such steps."
 pub data Leads (past : List Done) : ℕ → ℕ → Type 0 where

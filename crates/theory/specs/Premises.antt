@@ -6,22 +6,18 @@ use mathlib.Core.Option.{Option, none, some}
 use lib.Dec.{leb, eqb}
 use lib.ListN.{length, getElem?}
 use Rattle.laws.specs.Lists.{every, apart, largest, sameList}
-use Rattle.model.specs.Setup.{Setup, inLimits}
+use Rattle.model.specs.Setup.{Setup, inLimits, isMember}
 use Rattle.model.specs.Timestamp.{Timestamp, fresh, trimmed}
 use Rattle.model.specs.Frame.{twoAt}
 use Rattle.model.specs.Batch.{batchEntries}
 use Rattle.model.specs.Tick.{holdbackSize}
 use Rattle.model.specs.Run.{Node, Source, sentBy, stale, Call, Done, World, act, doneOf, isAccepted, sends, messageBytes}
 
--- 01: "One valid setup, the own number aside"
-unfoldable pub withOwn : Setup → ℕ → Setup
-withOwn s own = record { n = s .n; epsilon = s .epsilon; delta = s .delta; modulus = s .modulus; own = own }
-
 -- the two setups are the same
 unfoldable pub sameSetup : Setup → Setup → Bool
 sameSetup s t =
     eqb (s .n) (t .n) && (eqb (s .epsilon) (t .epsilon) && (eqb (s .delta) (t .delta)
-    && (eqb (s .modulus) (t .modulus) && eqb (s .own) (t .own))))
+    && eqb (s .modulus) (t .modulus)))
 
 -- 01: "no two station clocks ever differ by more" than ε
 unfoldable pub together : ℕ → List Node → Bool
@@ -33,7 +29,7 @@ distinct nodes = apart (λ a b. eqb (a .own) (b .own)) nodes
 
 -- 01: "One valid setup", with each station's own number
 unfoldable pub validFor : Setup → Node → Bool
-validFor s node = inLimits (withOwn s (node .own))
+validFor s node = inLimits s && isMember s (node .own)
 
 -- 01: "any shelf bytes of the exact length"
 unfoldable pub exactHoldback : Setup → Node → Bool
@@ -78,9 +74,9 @@ entriesAllowed s x past nodes v (e ∷ es) [] = false
 entriesAllowed s x past nodes v (e ∷ es) (o ∷ os) =
     entryAllowed s x past nodes v e o && entriesAllowed s x past nodes v es os
 
--- 01: an accepted call has "One valid setup, the own number aside"
+-- 01: an accepted call has "One valid setup, the own number aside", and its station's own number
 unfoldable pub oneSetup : Setup → Call → Done → Bool
-oneSetup s call d = sameSetup (call .setup) (withOwn s (d .own))
+oneSetup s call d = sameSetup (call .setup) s && eqb (call .own) (d .own)
 
 -- 01: "the true clock modulo B"
 unfoldable pub trueClock : Setup → Call → Done → Bool

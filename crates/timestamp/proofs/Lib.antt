@@ -1,5 +1,4 @@
--- For the proofs of this crate and of the crates that use it: `InLimits` has the limits of a setup as facts, `Ordered` the order of two timestamps.
-pub mod InLimits
+-- For the proofs of this crate and of the crates that use it: the order of two timestamps.
 pub mod Ordered
 -- For the proofs of this crate.
 mod Counts

@@ -14,36 +14,37 @@ use Rattle.laws.proofs.Lists.{length-tab, getD-tab, tab-ext}
 use Rattle.laws.proofs.Lex.{lex-head-lt, lex-head-gt, lex-head-eq, lex-append}
 use Rattle.model.specs.Timestamp.{Timestamp, sum, trimmed}
 use Rattle.model.specs.Frame.{Frame}
-use Rattle.model.specs.Order.{countsDown, key}
-use Rattle.lemmas.proofs.Counts.{length-down}
+use Rattle.model.specs.Order.{countsDown, keyBy}
+use Rattle.lemmas.proofs.Counts.{length-down, down-places}
 use Rattle.timestamp.proofs.Steps.{trimmed-all}
 use Rattle.timestamp.specs.declared.ordering.Order.{Order}
 use Rattle.timestamp.specs.declared.ordering.Order.the-variants.{First, Same, After}
 use Rattle.timestamp.specs.declared.ordering.Rank.{Rank}
-use Rattle.timestamp.specs.Ranks.{orderOf, countsFrom, stampedFrame, rankedFrame}
+use Rattle.timestamp.specs.Views.{ofCounts}
+use Rattle.timestamp.specs.Ranks.{orderOf, newestCounts, stampedFrame, rankedFrame}
 
 -- the counts from place k of the order on: the first of them, then the others
 down-cons : (epsilon c k : ℕ) (kn : List ℕ) → k < epsilon
-    → drop k (countsFrom epsilon c kn) ≡ getD kn (epsilon + c - k) 0 ∷ drop (k + 1) (countsFrom epsilon c kn)
-unfolding countsDown
+    → drop k (newestCounts epsilon c kn) ≡ getD kn (epsilon + c - k) 0 ∷ drop (k + 1) (newestCounts epsilon c kn)
 down-cons epsilon c k kn h =
     let inside : k < length (tab epsilon (λ j. getD kn (epsilon + c - j) 0)) =
     omega (arith, length-tab epsilon (λ j. getD kn (epsilon + c - j) 0)) in
     rw (
+      down-places epsilon (ofCounts c kn),
       drop-cons (tab epsilon (λ j. getD kn (epsilon + c - j) 0)) k 0 inside,
       getD-tab epsilon (λ j. getD kn (epsilon + c - j) 0) k 0 h,
       add-one k,
     )
 
-down-none : (epsilon c k : ℕ) (kn : List ℕ) → epsilon ≤ k → drop k (countsFrom epsilon c kn) ≡ []
+down-none : (epsilon c k : ℕ) (kn : List ℕ) → epsilon ≤ k → drop k (newestCounts epsilon c kn) ≡ []
 down-none epsilon c k kn h =
-    let short : length (countsFrom epsilon c kn) ≤ k = omega (arith, length-down epsilon (record { r = 0; c = c; kn = kn })) in
-    drop-of-length-le (countsFrom epsilon c kn) short
+    let short : length (newestCounts epsilon c kn) ≤ k = omega (arith, length-down epsilon (record { r = 0; c = c; kn = kn })) in
+    drop-of-length-le (newestCounts epsilon c kn) short
 
 -- the order of the counts from place k on
 module _ (epsilon ca cb : ℕ) (a b : List ℕ) where
   abbrev rest : ℕ → Ordering
-  rest k = lexCompare (drop k (countsFrom epsilon ca a)) (drop k (countsFrom epsilon cb b))
+  rest k = lexCompare (drop k (newestCounts epsilon ca a)) (drop k (newestCounts epsilon cb b))
 
   pub counts-none : (k : ℕ) → epsilon ≤ k → rest k ≡ Ordering·eq
   unfolding lexCompare
@@ -68,11 +69,11 @@ or-else-same Ordering·gt = refl
 
 -- 01's order of two stamps, "first difference decides": the sum, the counts, the station number and r, in turn
 pub key-order : (epsilon x y : ℕ) (f g : Frame)
-    → lexCompare (key epsilon x f) (key epsilon y g)
+    → lexCompare (keyBy epsilon x f) (keyBy epsilon y g)
     ≡ orElse (compare (x + f .stamp .c) (y + g .stamp .c))
     (orElse (lexCompare (countsDown epsilon (f .stamp)) (countsDown epsilon (g .stamp)))
     (orElse (compare (f .station) (g .station)) (compare x y)))
-unfolding key sum lexCompare
+unfolding keyBy sum lexCompare
 key-order epsilon x y f g =
     let even : length (countsDown epsilon (f .stamp)) ≡ length (countsDown epsilon (g .stamp)) =
     length-down epsilon (f .stamp) ∙ sym (length-down epsilon (g .stamp)) in
@@ -108,13 +109,13 @@ module _ (tags : Tags) where
     sums = compare (f .reading + f .c) (g .reading + g .c)
 
     abbrev counts : Ordering
-    counts = lexCompare (countsFrom epsilon (f .c) a) (countsFrom epsilon (g .c) b)
+    counts = lexCompare (newestCounts epsilon (f .c) a) (newestCounts epsilon (g .c) b)
 
     abbrev stations : Ordering
     stations = compare (f .station) (g .station)
 
     abbrev whole : Ordering
-    whole = lexCompare (key epsilon (f .reading) (rankedFrame f a)) (key epsilon (g .reading) (rankedFrame g b))
+    whole = lexCompare (keyBy epsilon (f .reading) (rankedFrame f a)) (keyBy epsilon (g .reading) (rankedFrame g b))
 
     in-turn : whole ≡ orElse sums (orElse counts (orElse stations (compare (f .reading) (g .reading))))
     in-turn = key-order epsilon (f .reading) (g .reading) (rankedFrame f a) (rankedFrame g b)
@@ -139,11 +140,16 @@ module _ (tags : Tags) where
 
 -- the order looks at no place past the 2ε counts
 pub key-trimmed : (epsilon x station : ℕ) (t : Timestamp) → epsilon ≤ 16 → length (t .kn) ≡ 32 → t .c < epsilon
-    → key epsilon x (stampedFrame station (record { r = 0; c = t .c; kn = t .kn })) ≡ key epsilon x (stampedFrame station (trimmed epsilon t))
-unfolding key countsDown
+    → keyBy epsilon x (stampedFrame station (record { r = 0; c = t .c; kn = t .kn })) ≡ keyBy epsilon x (stampedFrame station (trimmed epsilon t))
+unfolding keyBy
 key-trimmed epsilon x station t small long lead =
     let same : tab epsilon (λ j. getD (t .kn) (epsilon + t .c - j) 0)
     ≡ tab epsilon (λ j. getD (take (2 * epsilon) (t .kn)) (epsilon + t .c - j) 0) =
     tab-ext epsilon (λ j. getD (t .kn) (epsilon + t .c - j) 0) (λ j. getD (take (2 * epsilon) (t .kn)) (epsilon + t .c - j) 0)
     (λ j h. sym (getD-take (2 * epsilon) (t .kn) (epsilon + t .c - j) 0 (omega arith))) in
-    rw (trimmed-all epsilon t small long, same)
+    rw (
+      trimmed-all epsilon t small long,
+      down-places epsilon (ofCounts (t .c) (t .kn)),
+      down-places epsilon (record { r = t .r; c = t .c; kn = take (2 * epsilon) (t .kn) }),
+      same,
+    )

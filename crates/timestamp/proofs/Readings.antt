@@ -11,11 +11,11 @@ use lib.Dec.{eqb}
 use lib.ListN.{length, take, drop, getD, set, length-take, List·getD-eq-default}
 use lib.Seq.{getD-take, getD-drop}
 use borrow.Author.Tests.{le-leb, lt-leb, eq-eqb, ne-eqb}
-use Rattle.laws.specs.Lists.{tab, padded}
+use Rattle.laws.specs.Lists.{tab, padded, placedAt}
 use Rattle.timestamp.specs.Views.{largerAt, raisedAt}
 use Rattle.laws.proofs.Numbers.{lt-or-ge, eq-or-ne, lt-or-gt}
 use Rattle.laws.proofs.Lists.{length-tab, getD-tab, getD-tab-out, tab-ext, tab-getD, set-tab, length-padded, getD-padded}
-use Rattle.model.specs.Timestamp.{ahead, near, countAt}
+use Rattle.model.specs.Timestamp.{ahead, near}
 use Rattle.lemmas.proofs.Reading.{near-ahead, near-behind}
 
 -- 01's u, for clocks below B
@@ -52,29 +52,29 @@ near-of-behind epsilon modulus v r u some-offset below e h =
     rw (near-behind epsilon modulus v r some-offset some-clock large, e)
 
 -- 01: "Outside those offsets a count reads as 0"
-pub count-before : (reading w : ℕ) (kn : List ℕ) → w < reading → 0 ≡ countAt reading kn w
-unfolding countAt
+pub count-before : (reading w : ℕ) (kn : List ℕ) → w < reading → 0 ≡ placedAt reading kn w
+unfolding placedAt
 count-before reading w kn h = rw (lt-leb reading w h)
 
-pub count-past : (reading w width : ℕ) (kn : List ℕ) → reading ≤ w → width ≤ w - reading → 0 ≡ countAt reading (take width kn) w
-unfolding countAt
+pub count-past : (reading w width : ℕ) (kn : List ℕ) → reading ≤ w → width ≤ w - reading → 0 ≡ placedAt reading (take width kn) w
+unfolding placedAt
 count-past reading w width kn h k =
     let short : length (take width kn) ≤ w - reading = omega (arith, length-take width kn) in
     rw (le-leb reading w h, List·getD-eq-default (take width kn) 0 short)
 
 pub count-inside : (reading w width : ℕ) (kn : List ℕ) → reading ≤ w → w - reading < width
-    → getD kn (w - reading) 0 ≡ countAt reading (take width kn) w
-unfolding countAt
+    → getD kn (w - reading) 0 ≡ placedAt reading (take width kn) w
+unfolding placedAt
 count-inside reading w width kn h k = rw (le-leb reading w h, getD-take width kn (w - reading) 0 k)
 
 -- the counts that a loop places, before it and after one turn more
-no-counts : (to j : ℕ) (l : List ℕ) → 0 ≡ countAt to (take 0 l) j
+no-counts : (to j : ℕ) (l : List ℕ) → 0 ≡ placedAt to (take 0 l) j
 no-counts to j l = elim (lt-or-ge j to) [ inl h ↦ count-before to j (take 0 l) h | inr h ↦ count-past to j 0 l h (omega arith) ]
 
-same-count : (to i j : ℕ) (l : List ℕ) → (j ≡ to + i → ⊥) → countAt to (take i l) j ≡ countAt to (take (i + 1) l) j
+same-count : (to i j : ℕ) (l : List ℕ) → (j ≡ to + i → ⊥) → placedAt to (take i l) j ≡ placedAt to (take (i + 1) l) j
 same-count to i j l n = go (lt-or-ge j to) (lt-or-gt j (to + i) n)
   where
-    go : (j < to) ⊎ (to ≤ j) → (j < to + i) ⊎ (to + i < j) → countAt to (take i l) j ≡ countAt to (take (i + 1) l) j
+    go : (j < to) ⊎ (to ≤ j) → (j < to + i) ⊎ (to + i < j) → placedAt to (take i l) j ≡ placedAt to (take (i + 1) l) j
     go (inl h) k = sym (count-before to j (take i l) h) ∙ count-before to j (take (i + 1) l) h
     go (inr h) (inl k) =
         let a : j - to < i = omega arith in
@@ -98,9 +98,9 @@ module _ (w to i x : ℕ) (own l kn : List ℕ) (h : to + i < w) (e : kn ≡ tab
       let z : to + i - to ≡ i = omega arith in
       let a : getD kn (to + i) 0 ≡ raisedAt to own (take i l) (to + i) =
       ap (λ (k : List ℕ). getD k (to + i) 0) e ∙ getD-tab w (raisedAt to own (take i l)) (to + i) 0 h in
-      let b : 0 ≡ countAt to (take i l) (to + i) = count-past to (to + i) i l (omega arith) (omega arith) in
-      let d : getD l (to + i - to) 0 ≡ countAt to (take (i + 1) l) (to + i) = count-inside to (to + i) (i + 1) l (omega arith) (omega arith) in
-      let d' : getD l i 0 ≡ countAt to (take (i + 1) l) (to + i) = rw z at d in
+      let b : 0 ≡ placedAt to (take i l) (to + i) = count-past to (to + i) i l (omega arith) (omega arith) in
+      let d : getD l (to + i - to) 0 ≡ placedAt to (take (i + 1) l) (to + i) = count-inside to (to + i) (i + 1) l (omega arith) (omega arith) in
+      let d' : getD l i 0 ≡ placedAt to (take (i + 1) l) (to + i) = rw z at d in
       omega arith
 
   pub raised-next : set kn (to + i) x ≡ tab w (raisedAt to own (take (i + 1) l))
@@ -117,11 +117,11 @@ module _ (w to i x : ℕ) (own l kn : List ℕ) (h : to + i < w) (e : kn ≡ tab
 -- the frame's counts, placed by how far its reading lies ahead or behind
 module _ (width modulus reading up down count : ℕ) (other : List ℕ) (eu : up ≡ reading - modulus) (ed : down ≡ modulus - reading)
     (ec : count ≡ width - (up + down)) where
-  placed-within : (i : ℕ) → i < width → countAt up (take count (drop down other)) i ≡ countAt reading (take width other) (modulus + i)
+  placed-within : (i : ℕ) → i < width → placedAt up (take count (drop down other)) i ≡ placedAt reading (take width other) (modulus + i)
   placed-within i k = go (lt-or-ge i up) (lt-or-ge (i - up) count)
     where
       go : (i < up) ⊎ (up ≤ i) → (i - up < count) ⊎ (count ≤ i - up)
-          → countAt up (take count (drop down other)) i ≡ countAt reading (take width other) (modulus + i)
+          → placedAt up (take count (drop down other)) i ≡ placedAt reading (take width other) (modulus + i)
       go (inl h) m =
           let a : modulus + i < reading = omega arith in
           sym (count-before up i (take count (drop down other)) h) ∙ count-before reading (modulus + i) (take width other) a
@@ -138,7 +138,7 @@ module _ (width modulus reading up down count : ℕ) (other : List ℕ) (eu : up
           let b : width ≤ modulus + i - reading = omega arith in
           sym (count-past up i count (drop down other) h m) ∙ count-past reading (modulus + i) width other a b
 
-  placed-without : (i : ℕ) → width ≤ i → 0 ≡ countAt up (take count (drop down other)) i
+  placed-without : (i : ℕ) → width ≤ i → 0 ≡ placedAt up (take count (drop down other)) i
   placed-without i k =
       elim (lt-or-ge i up) [
         | inl h ↦ count-before up i (take count (drop down other)) h

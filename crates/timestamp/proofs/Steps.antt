@@ -2,14 +2,15 @@
 -- Assumes nothing.
 use Prim.Native.Nat.{ℕ, _+_, _-_, _*_, _≤_, _<_, max}
 use native.Mathlib.Omega.{arith}
-use mathlib.Core.Path.{_≡_, ap, _∙_}
+use mathlib.Core.Path.{_≡_, sym, ap, _∙_}
 use mathlib.Core.List.{List}
 use lib.ListN.{length, take, drop, getD, set, replicate, length-replicate, length-take}
 use lib.Seq.{getD-take}
-use Rattle.laws.specs.Lists.{tab, padded}
-use Rattle.laws.proofs.Lists.{getD-padded}
+use Rattle.laws.specs.Lists.{tab, padded, placedAt}
+use Rattle.laws.proofs.Lists.{getD-padded, tab-ext}
 use Rattle.model.specs.Setup.{width}
-use Rattle.model.specs.Timestamp.{Timestamp, sum, trimmed, widened, fresh, replaced, shift, step, absorb, countOwn}
+use Rattle.model.specs.Timestamp.{Timestamp, countAt, sum, trimmed, widened, fresh, replaced, shift, step, absorb, countOwn}
+use Rattle.lemmas.proofs.Counts.{count-moved, count-zero}
 use Rattle.timestamp.specs.Views.{largerAt}
 use Rattle.timestamp.proofs.Counts.{set-padded, padded-zeros, padded-more, drop-one-take, trimmed-take}
 
@@ -37,7 +38,7 @@ module _ (epsilon : ℕ) (t : Timestamp) (small : epsilon ≤ 16) (long : length
   trimmed-all = trimmed-take epsilon t (omega arith)
 
   pub step-widened : (v c : ℕ) (kn : List ℕ) → 1 ≤ epsilon → c ≡ t .c - 1 → kn ≡ padded 32 (take (2 * epsilon - 1) (drop 1 (t .kn)))
-      → stamp v c kn ≡ widened (step v (trimmed epsilon t))
+      → stamp v c kn ≡ widened (step 1 v (trimmed epsilon t))
   unfolding widened step shift
   step-widened v c kn h ec e =
       let moved : drop 1 (take (2 * epsilon) (t .kn)) ≡ take (2 * epsilon - 1) (drop 1 (t .kn)) = drop-one-take (2 * epsilon) (t .kn) in
@@ -67,7 +68,24 @@ module _ (epsilon : ℕ) (t : Timestamp) (small : epsilon ≤ 16) (long : length
       → c ≡ max (t .c) (reading + f .c - modulus)
       → kn ≡ padded 32 (tab (2 * epsilon) (largerAt modulus reading (take (2 * epsilon) (t .kn)) (take (2 * epsilon) (f .kn))))
       → stamp (t .r) c kn ≡ widened (absorb epsilon modulus (trimmed epsilon t) reading (trimmed epsilon f))
-  unfolding widened absorb sum width
+  unfolding widened absorb countAt sum width
   absorb-widened modulus reading c f kn long-f ec e =
       let trimmed-f : trimmed epsilon f ≡ stamp (f .r) (f .c) (take (2 * epsilon) (f .kn)) = trimmed-take epsilon f (omega arith) in
-      rw (trimmed-all, trimmed-f, ec, e)
+      rw (
+        trimmed-all,
+        trimmed-f,
+        ec,
+        e,
+        tab-ext (2 * epsilon) (largerAt modulus reading (take (2 * epsilon) (t .kn)) (take (2 * epsilon) (f .kn)))
+            (λ i. max (placedAt (modulus + epsilon) (take (2 * epsilon) (t .kn)) (modulus + i + epsilon)) (placedAt (reading + epsilon) (take (2 * epsilon) (f .kn)) (modulus + i + epsilon))) one,
+      )
+    where
+      one : (i : ℕ) → i < 2 * epsilon
+          → largerAt modulus reading (take (2 * epsilon) (t .kn)) (take (2 * epsilon) (f .kn)) i
+          ≡ max (placedAt (modulus + epsilon) (take (2 * epsilon) (t .kn)) (modulus + i + epsilon)) (placedAt (reading + epsilon) (take (2 * epsilon) (f .kn)) (modulus + i + epsilon))
+      one i h =
+          rw (
+            count-moved (modulus + epsilon) 0 (take (2 * epsilon) (t .kn)) (modulus + i + epsilon) i (omega arith),
+            count-zero (take (2 * epsilon) (t .kn)) i,
+            count-moved (reading + epsilon) reading (take (2 * epsilon) (f .kn)) (modulus + i + epsilon) (modulus + i) (omega arith),
+          )

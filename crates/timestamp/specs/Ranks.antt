@@ -9,7 +9,7 @@ use Rattle.model.specs.Order.{countsDown}
 use Rattle.timestamp.specs.declared.ordering.Order.{Order}
 use Rattle.timestamp.specs.declared.ordering.Order.the-variants.{First, Same, After}
 use Rattle.timestamp.specs.declared.ordering.Rank.{Rank}
-use Rattle.timestamp.specs.Views.{counted}
+use Rattle.timestamp.specs.Views.{ofCounts}
 
 -- 01: "first difference decides": the code's answer
 abbrev pub orderOf : Ordering → Order
@@ -18,8 +18,8 @@ orderOf Ordering·eq = Same
 orderOf Ordering·gt = After
 
 -- the ε counts from offset c down, of a list of counts
-abbrev pub countsFrom : ℕ → ℕ → List ℕ → List ℕ
-countsFrom epsilon c kn = countsDown epsilon (counted c kn)
+abbrev pub newestCounts : ℕ → ℕ → List ℕ → List ℕ
+newestCounts epsilon c kn = countsDown epsilon (ofCounts c kn)
 
 -- a frame with that station and timestamp. The order does not look at the payload
 abbrev pub stampedFrame : ℕ → Timestamp → Frame
@@ -27,7 +27,7 @@ stampedFrame station t = record { station = station; stamp = t; payload = [] }
 
 -- a frame with that rank and those counts. The order looks at the reading in the place of r
 abbrev pub rankedFrame : Rank → List ℕ → Frame
-rankedFrame f kn = stampedFrame (f .station) (counted (f .c) kn)
+rankedFrame f kn = stampedFrame (f .station) (ofCounts (f .c) kn)
 
 -- what a comparison asks of a frame: its lead is sound, its reading small, and 2ε counts are there
 pub record Ranked (epsilon : ℕ) (f : Rank) (kn : List ℕ) : Type 0 where

@@ -1,13 +1,7 @@
-// 01: the setup and its limits, the stamp and what one tick does to it, and the order of two stamps.
-mod limits;
+// 01: the stamp, what one tick does to it, and the order of two stamps.
 mod ordering;
 mod stamp;
 
-pub use limits::Setup;
-pub use limits::depth;
-pub use limits::holdback_length;
-pub use limits::in_limits;
-pub use limits::longest_frame;
 pub use ordering::Order;
 pub use ordering::Rank;
 pub use ordering::compare;

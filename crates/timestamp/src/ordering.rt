@@ -4,9 +4,9 @@ ghost use Prim.Native.Nat.{compare, _+_, _≤_, _<_, _^_};
 ghost use lib.ListN.{length};
 ghost use Rattle.laws.specs.Lex.{lexCompare};
 ghost use Rattle.model.specs.Timestamp.{trimmed};
-ghost use Rattle.model.specs.Order.{key};
+ghost use Rattle.model.specs.Order.{keyBy};
 ghost use Rattle.timestamp.specs.Views.{stampOf};
-ghost use Rattle.timestamp.specs.Ranks.{orderOf, countsFrom, stampedFrame, rankedFrame, Ranked};
+ghost use Rattle.timestamp.specs.Ranks.{orderOf, newestCounts, stampedFrame, rankedFrame, Ranked};
 use crate::stamp::Timestamp;
 
 // How the first of two stands to the second.
@@ -40,7 +40,7 @@ fn compare_numbers(a: usize, b: usize) -> Order
 // count that differs": a loop over the ε counts that yields its order by break at the first difference.
 fn compare_counts(epsilon: usize, a: &[u8], ca: usize, b: &[u8], cb: usize) -> Order
     requires { ⌜ (epsilon + ca < length (now a)) × (epsilon + cb < length (now b)) ⌝ }
-    ensures { λ o. ⌜ o ≡ orderOf (lexCompare (countsFrom epsilon ca (now (a .entry))) (countsFrom epsilon cb (now (b .entry)))) ⌝ }
+    ensures { λ o. ⌜ o ≡ orderOf (lexCompare (newestCounts epsilon ca (now (a .entry))) (newestCounts epsilon cb (now (b .entry)))) ⌝ }
 {
     let mut k = 0;
     let order = loop {
@@ -64,7 +64,7 @@ fn compare_counts(epsilon: usize, a: &[u8], ca: usize, b: &[u8], cb: usize) -> O
 pub fn compare_ranked(epsilon: usize, f: Rank, kf: &[u8], g: Rank, kg: &[u8]) -> Order
     requires { ⌜ Ranked epsilon f (now kf) ⌝ }
     requires { ⌜ Ranked epsilon g (now kg) ⌝ }
-    ensures { λ o. ⌜ o ≡ orderOf (lexCompare (key epsilon (f .reading) (rankedFrame f (now (kf .entry)))) (key epsilon (g .reading) (rankedFrame g (now (kg .entry))))) ⌝ }
+    ensures { λ o. ⌜ o ≡ orderOf (lexCompare (keyBy epsilon (f .reading) (rankedFrame f (now (kf .entry)))) (keyBy epsilon (g .reading) (rankedFrame g (now (kg .entry))))) ⌝ }
 {
     let sums = compare_numbers(f.reading + f.c, g.reading + g.c);
     let Order::Same = sums else {
@@ -93,7 +93,7 @@ pub fn compare(
 ) -> Order
     requires { ⌜ (epsilon ≤ 16) × ((f .c < epsilon) × (g .c < epsilon)) ⌝ }
     requires { ⌜ («at_f» ≤ 2 ^ 17) × («at_g» ≤ 2 ^ 17) ⌝ }
-    ensures { λ o. ⌜ o ≡ orderOf (lexCompare (key epsilon «at_f» (stampedFrame «station_f» (trimmed epsilon (stampOf f)))) (key epsilon «at_g» (stampedFrame «station_g» (trimmed epsilon (stampOf g))))) ⌝ }
+    ensures { λ o. ⌜ o ≡ orderOf (lexCompare (keyBy epsilon «at_f» (stampedFrame «station_f» (trimmed epsilon (stampOf f)))) (keyBy epsilon «at_g» (stampedFrame «station_g» (trimmed epsilon (stampOf g))))) ⌝ }
 {
     let kf = f.kn;
     let kg = g.kn;

@@ -8,7 +8,7 @@ ghost use Rattle.laws.specs.Lists.{tab, padded};
 ghost use Rattle.model.specs.Setup.{widest};
 ghost use Rattle.model.specs.Timestamp.{atMost, soundTimestamp, soundTables, trimmed, widened};
 ghost use Rattle.model.specs.Timestamp as model;
-ghost use Rattle.timestamp.specs.Views.{stampOf, counted, withinLimits, largerAt, raisedAt};
+ghost use Rattle.timestamp.specs.Views.{stampOf, ofCounts, withinLimits, largerAt, raisedAt};
 
 // 01: the stamp.
 pub struct Timestamp {
@@ -45,7 +45,7 @@ impl Timestamp {
     // 01, tick 2: "c drops by one, not below 0, and counts move one offset down".
     pub fn step(self, epsilon: usize, v: usize) -> Self
         requires { ⌜ (1 ≤ epsilon) × (epsilon ≤ 16) ⌝ }
-        ensures { λ s. ⌜ stampOf s ≡ widened (model.step v (trimmed epsilon (stampOf self))) ⌝ }
+        ensures { λ s. ⌜ stampOf s ≡ widened (model.step 1 v (trimmed epsilon (stampOf self))) ⌝ }
     {
         let own = self.kn;
         let kn = counts_of(&own, 1, 2 * epsilon - 1);
@@ -120,7 +120,7 @@ impl Timestamp {
 // The soundness of a stamp with that c and those 2ε counts.
 pub fn sound_counts(kn: &[u8], c: usize, n: usize, epsilon: usize) -> bool
     requires { ⌜ (n ≤ 16) × ((1 ≤ epsilon) × ((epsilon ≤ 16) × (length (now kn) ≡ 2 * epsilon))) ⌝ }
-    ensures { λ b. ⌜ b ≡ soundTimestamp n epsilon (counted c (now (kn .entry))) ⌝ }
+    ensures { λ b. ⌜ b ≡ soundTimestamp n epsilon (ofCounts c (now (kn .entry))) ⌝ }
 {
     if epsilon <= c {
         return false;

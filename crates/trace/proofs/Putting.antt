@@ -26,7 +26,7 @@ use Rattle.trace.specs.Text.{
   payloadTail,
   giveText,
   refusedLine,
-  written,
+  textWritten,
   textEnd,
 }
 use Rattle.trace.proofs.Numerals.{length-digits, length-decimal, digitCount-small}
@@ -83,16 +83,16 @@ module _ {l : List ℕ} {at : ℕ} {whole m : List ℕ} {e : ℕ} (a b : List �
 
 -- ---- where there is room for a text, and where not
 
-pub put-written : {l m : List ℕ} {at e : ℕ} {text : List ℕ} → at + length text ≤ length l → Put l at text m e → m ≡ written l at text
-unfolding written
+pub put-written : {l m : List ℕ} {at e : ℕ} {text : List ℕ} → at + length text ≤ length l → Put l at text m e → m ≡ textWritten l at text
+unfolding textWritten
 put-written {l} {m} {at} {e} {text} h p = rw (le-leb (at + length text) (length l) h) (p .bytes)
 
 pub put-end : {l m : List ℕ} {at e : ℕ} {text : List ℕ} → at + length text ≤ length l → Put l at text m e → e ≡ textEnd l at text
 unfolding textEnd
 put-end {l} {m} {at} {e} {text} h p = rw (le-leb (at + length text) (length l) h) (p .ends)
 
-pub none-written : (l : List ℕ) (at : ℕ) (text : List ℕ) → length l < at + length text → l ≡ written l at text
-unfolding written
+pub none-written : (l : List ℕ) (at : ℕ) (text : List ℕ) → length l < at + length text → l ≡ textWritten l at text
+unfolding textWritten
 none-written l at text h = rw (lt-leb (at + length text) (length l) h)
 
 pub none-end : (l : List ℕ) (at : ℕ) (text : List ℕ) → length l < at + length text → 0 ≡ textEnd l at text

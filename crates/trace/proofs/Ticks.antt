@@ -9,11 +9,12 @@ use lib.Dec.{eqb}
 use lib.ListN.{length, take, drop, getD}
 use lib.Seq.{getD-drop, drop-drop}
 use borrow.Author.Tests.{le-leb, lt-leb, eq-eqb, ne-eqb}
-use Rattle.model.specs.Setup.{Setup, inLimits}
 use Rattle.model.specs.Frame.{twoAt}
 use Rattle.model.specs.Question.{firstNo}
 use Rattle.model.specs.Tick.{holdbackSize}
 use Rattle.trace.specs.Trace.{
+  NodeSetup,
+  isValid,
   traceSetup,
   setupNumber,
   clockOf,
@@ -90,19 +91,19 @@ pub setup-cut : (s : List ℕ) → length s < 6 → 5 ≡ setupNumber s
 unfolding setupNumber firstNo
 setup-cut s h = rw (lt-leb 6 (length s) h)
 
-pub setup-out : (s : List ℕ) → 6 ≤ length s → inLimits (traceSetup s) ≡ false → 1 ≡ setupNumber s
+pub setup-out : (s : List ℕ) → 6 ≤ length s → isValid (traceSetup s) ≡ false → 1 ≡ setupNumber s
 unfolding setupNumber firstNo
 setup-out s h k = rw (le-leb 6 (length s) h, k)
 
-pub setup-large : (s : List ℕ) → 6 ≤ length s → inLimits (traceSetup s) ≡ true → 65536 < holdbackSize (traceSetup s) → 1 ≡ setupNumber s
+pub setup-large : (s : List ℕ) → 6 ≤ length s → isValid (traceSetup s) ≡ true → 65536 < holdbackSize (traceSetup s .setup) → 1 ≡ setupNumber s
 unfolding setupNumber firstNo
-setup-large s h k g = rw (le-leb 6 (length s) h, k, lt-leb (holdbackSize (traceSetup s)) 65536 g)
+setup-large s h k g = rw (le-leb 6 (length s) h, k, lt-leb (holdbackSize (traceSetup s .setup)) 65536 g)
 
-pub setup-good : (s : List ℕ) → 6 ≤ length s → inLimits (traceSetup s) ≡ true → holdbackSize (traceSetup s) ≤ 65536 → 0 ≡ setupNumber s
+pub setup-good : (s : List ℕ) → 6 ≤ length s → isValid (traceSetup s) ≡ true → holdbackSize (traceSetup s .setup) ≤ 65536 → 0 ≡ setupNumber s
 unfolding setupNumber firstNo
-setup-good s h k g = rw (le-leb 6 (length s) h, k, le-leb (holdbackSize (traceSetup s)) 65536 g)
+setup-good s h k g = rw (le-leb 6 (length s) h, k, le-leb (holdbackSize (traceSetup s .setup)) 65536 g)
 
 pub setup-read : (s : List ℕ) {n epsilon delta modulus own : ℕ} → n ≡ getD s 0 0 → epsilon ≡ getD s 1 0 → delta ≡ getD s 2 0 → modulus ≡ twoAt s 3 → own ≡ getD s 5 0
-    → _≡_ {A = Setup} (record { n = n; epsilon = epsilon; delta = delta; modulus = modulus; own = own }) (traceSetup s)
+    → _≡_ {A = NodeSetup} (record { setup = record { n = n; epsilon = epsilon; delta = delta; modulus = modulus }; own = own }) (traceSetup s)
 unfolding traceSetup
 setup-read s a b c d e = rw (a, b, c, d, e)

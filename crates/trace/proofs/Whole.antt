@@ -8,12 +8,10 @@ use native.Mathlib.Omega.{arith}
 use lib.ListN.{length, drop, getD, length-drop, List·getD-append, List·getD-eq-default, drop-of-length-le}
 use lib.Seq.{drop-append-le, take-all, take-append-seam, drop-append-seam}
 use Rattle.laws.proofs.Numbers.{lt-or-ge}
-use Rattle.model.specs.Setup.{Setup}
-use Rattle.model.specs.Timestamp.{Timestamp}
 use Rattle.trace.proofs.Ticks.{call-cut}
 use Rattle.trace.specs.Text.{refusedLine}
-use Rattle.trace.specs.Replay.{stopped, turn, replayTicks}
-use Rattle.trace.specs.Trace.{entriesSize, payloadSize, batchAt, tickEnd}
+use Rattle.trace.specs.Replay.{Turn, stopped, turn, turnAt, replayTicks}
+use Rattle.trace.specs.Trace.{NodeSetup, entriesSize, payloadSize, batchAt, tickEnd}
 
 -- ---- `k` entries, of which the first bytes are there
 
@@ -113,17 +111,17 @@ stays-whole s t h =
 -- ---- so the lines of a trace are those of its ticks, read one by one
 
 -- the next tick is there, whole
-pub next-whole : (s : Setup) (k : ℕ) (tables : Timestamp) (holdback mine rest : List ℕ) → tickEnd mine ≡ length mine
-    → replayTicks s (suc k) tables holdback (mine ++ rest)
-    ≡ turn s tables holdback mine .text
-    ++ stopped (turn s tables holdback mine .number) (replayTicks s k (turn s tables holdback mine .tables) (turn s tables holdback mine .holdback) rest)
+pub next-whole : (s : NodeSetup) (i k : ℕ) (last : Turn) (mine rest : List ℕ) → tickEnd mine ≡ length mine
+    → replayTicks s i (suc k) last (mine ++ rest)
+    ≡ turnAt i s (last .tables) (last .holdback) mine .text
+    ++ stopped (turnAt i s (last .tables) (last .holdback) mine .number) (replayTicks s (suc i) k (turnAt i s (last .tables) (last .holdback) mine) rest)
 unfolding replayTicks
-next-whole s k tables holdback mine rest e =
+next-whole s i k last mine rest e =
     let ends : tickEnd (mine ++ rest) ≡ length mine = stays-whole mine rest (omega arith) ∙ e in
     rw (ends, take-append-seam mine rest, drop-append-seam mine rest)
 
 -- the trace ends in it
-pub next-cut : (s : Setup) (k : ℕ) (tables : Timestamp) (holdback mine : List ℕ) → length mine < tickEnd mine → replayTicks s (suc k) tables holdback mine ≡ refusedLine 5
-unfolding replayTicks turn
-next-cut s k tables holdback mine h =
+pub next-cut : (s : NodeSetup) (i k : ℕ) (last : Turn) (mine : List ℕ) → length mine < tickEnd mine → replayTicks s i (suc k) last mine ≡ refusedLine 5
+unfolding replayTicks turnAt turn
+next-cut s i k last mine h =
     rw (take-all (tickEnd mine) mine (omega arith), ← call-cut mine (tickEnd mine) refl (λ e. omega arith))

@@ -2,19 +2,23 @@
 use Prim.Native.Nat.{ℕ, zero, suc}
 use mathlib.Core.Bool.{cond}
 use mathlib.Core.List.{List, [], _++_}
-use lib.Dec.{ltb, eqb}
+use lib.Dec.{eqb}
 use lib.ListN.{length, take, drop, replicate}
-use Rattle.model.specs.Setup.{Setup, verdictLength}
-use Rattle.model.specs.Timestamp.{Timestamp, fresh, widened}
+use Rattle.model.specs.Setup.{verdictLength}
+use Rattle.model.specs.Timestamp.{Timestamp, fresh, replaced, widened}
 use Rattle.model.specs.Holdback.{encodeHoldback}
 use Rattle.model.specs.Tick.{Input, Output, holdbackSize, tick}
 use Rattle.trace.specs.Text.{linesOf, refusedLine}
 use Rattle.trace.specs.Trace.{
+  NodeSetup,
   setupLength,
   largestHoldback,
   traceSetup,
   setupNumber,
+  countLength,
   tickCount,
+  countNumber,
+  endNumber,
   oneBefore,
   clockOf,
   payloadOf,
@@ -25,10 +29,11 @@ use Rattle.trace.specs.Trace.{
 }
 
 -- the call of a tick's bytes, with the tables and the hold-back queue as they stand, and buffers of zeros that have room for any setup
-unfoldable pub callOf : Setup → Timestamp → List ℕ → List ℕ → Input
+unfoldable pub callOf : NodeSetup → Timestamp → List ℕ → List ℕ → Input
 callOf s tables holdback bytes =
     record {
-      setup = s;
+      setup = s .setup;
+      own = s .own;
       clock = clockOf bytes;
       tables = tables;
       holdback = holdback;
@@ -52,7 +57,7 @@ abbrev pub textBy : ℕ → List ℕ → List ℕ
 textBy zero lines = lines
 textBy (suc k) lines = []
 
-unfoldable pub calledTurn : Setup → Timestamp → List ℕ → List ℕ → Turn
+unfoldable pub calledTurn : NodeSetup → Timestamp → List ℕ → List ℕ → Turn
 calledTurn s tables holdback bytes =
     let i : Input = callOf s tables holdback bytes in
     let o : Output = tick i in
@@ -64,12 +69,12 @@ calledTurn s tables holdback bytes =
     }
 
 -- bytes that are not one tick are not called
-abbrev pub turnBy : ℕ → Setup → Timestamp → List ℕ → List ℕ → Turn
+abbrev pub turnBy : ℕ → NodeSetup → Timestamp → List ℕ → List ℕ → Turn
 turnBy zero s tables holdback bytes = calledTurn s tables holdback bytes
 turnBy (suc k) s tables holdback bytes = record { number = suc k; tables = tables; holdback = holdback; text = [] }
 
 -- 01: "each tick is read whole, called, and its lines printed"
-unfoldable pub turn : Setup → Timestamp → List ℕ → List ℕ → Turn
+unfoldable pub turn : NodeSetup → Timestamp → List ℕ → List ℕ → Turn
 turn s tables holdback bytes = turnBy (tickNumber bytes) s tables holdback bytes
 
 -- 01: "On a refusal it prints `refused` and the number, and stops"
@@ -78,21 +83,37 @@ stopped zero rest = rest
 stopped (suc k) rest = refusedLine (suc k)
 
 -- 01: "It starts fresh one before the first clock"; the bytes are the first tick's
-unfoldable pub freshBefore : Setup → List ℕ → Timestamp
-freshBefore s bytes = widened (fresh (s .epsilon) (oneBefore (s .modulus) (clockOf bytes)))
+unfoldable pub freshBefore : NodeSetup → List ℕ → Timestamp
+freshBefore s bytes = widened (fresh (s .setup .epsilon) (oneBefore (s .setup .modulus) (clockOf bytes)))
 
--- the lines of `k` ticks
-unfoldable pub replayTicks : Setup → ℕ → Timestamp → List ℕ → List ℕ → List ℕ
-replayTicks s zero tables holdback bytes = cond (eqb (length bytes) 0) [] (refusedLine 5)
-replayTicks s (suc k) tables holdback bytes =
-    let one : Turn = turn s tables holdback (take (tickEnd bytes) bytes) in
-    one .text ++ stopped (one .number) (replayTicks s k (one .tables) (one .holdback) (drop (tickEnd bytes) bytes))
+-- the tables with which a tick starts that has `i` ticks before it: the first starts fresh, a later one has those that the one before left
+unfoldable pub tablesAt : ℕ → NodeSetup → Timestamp → List ℕ → Timestamp
+tablesAt i s tables bytes = cond (eqb i 0) (freshBefore s bytes) tables
 
--- 01: "It starts fresh one before the first clock, shelf empty"
-unfoldable pub replayFrom : Setup → List ℕ → List ℕ
-replayFrom s bytes =
-    cond (ltb (length bytes) 2) (refusedLine 5)
-    (replayTicks s (tickCount bytes) (freshBefore s (drop 2 bytes)) (encodeHoldback (holdbackSize s) []) (drop 2 bytes))
+-- a tick that has `i` ticks before it
+unfoldable pub turnAt : ℕ → NodeSetup → Timestamp → List ℕ → List ℕ → Turn
+turnAt i s tables holdback bytes = turn s (tablesAt i s tables bytes) holdback bytes
+
+-- 01: "shelf empty": what is there before the first tick. Its tables are not looked at
+unfoldable pub begun : NodeSetup → Turn
+begun s =
+    record {
+      number = 0;
+      tables = widened (replaced (s .setup .epsilon) 0);
+      holdback = encodeHoldback (holdbackSize (s .setup)) [];
+      text = [];
+    }
+
+-- the lines of `k` ticks that have `i` before them, of which `last` is the latest
+unfoldable pub replayTicks : NodeSetup → ℕ → ℕ → Turn → List ℕ → List ℕ
+replayTicks s i zero last bytes = stopped (endNumber (length bytes)) []
+replayTicks s i (suc k) last bytes =
+    let one : Turn = turnAt i s (last .tables) (last .holdback) (take (tickEnd bytes) bytes) in
+    one .text ++ stopped (one .number) (replayTicks s (suc i) k one (drop (tickEnd bytes) bytes))
+
+-- all that follows the setup
+unfoldable pub replayFrom : NodeSetup → List ℕ → List ℕ
+replayFrom s bytes = stopped (countNumber bytes) (replayTicks s 0 (tickCount bytes) (begun s) (drop countLength bytes))
 
 -- 01: "The setup is judged once read"
 unfoldable pub replay : List ℕ → List ℕ

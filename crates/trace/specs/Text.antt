@@ -101,9 +101,12 @@ giveText station r payload = field giveWord station ++ (field space r ++ payload
 unfoldable pub giveLine : Frame → List ℕ
 giveLine f = giveText (f .station) (f .stamp .r) (f .payload)
 
--- the frame that starts at a position of a delivery (01: hand-out)
+-- the bytes of the frame that starts at a position of a delivery (01: hand-out)
+unfoldable pub frameBytes : ℕ → List ℕ → ℕ → List ℕ
+frameBytes epsilon s at = take (frameEnd epsilon (drop at s)) (drop at s)
+
 unfoldable pub frameFrom : ℕ → List ℕ → ℕ → Frame
-frameFrom epsilon s at = decode epsilon (take (frameEnd epsilon (drop at s)) (drop at s))
+frameFrom epsilon s at = decode epsilon (frameBytes epsilon s at)
 
 -- a give line for each frame of a delivery, in its order
 unfoldable pub giveLines : ℕ → List ℕ → List ℕ
@@ -125,8 +128,8 @@ unfoldable pub refusedLine : ℕ → List ℕ
 refusedLine number = field refusedWord number ++ newline
 
 -- a text put into a buffer at a position, where there is room for it; otherwise nothing is written
-unfoldable pub written : List ℕ → ℕ → List ℕ → List ℕ
-written buffer at text = cond (leb (at + length text) (length buffer)) (pasted buffer at text) buffer
+unfoldable pub textWritten : List ℕ → ℕ → List ℕ → List ℕ
+textWritten buffer at text = cond (leb (at + length text) (length buffer)) (pasted buffer at text) buffer
 
 -- and where it ends; 0 where there is no room
 unfoldable pub textEnd : List ℕ → ℕ → List ℕ → ℕ

@@ -1,10 +1,10 @@
 -- 01, "The replay program": what it reads, from bytes to the arguments of a call. A byte that is missing reads as 0.
 use Prim.Native.Nat.{ℕ, zero, suc, _+_, _-_}
-use mathlib.Core.Bool.{Bool, cond}
+use mathlib.Core.Bool.{Bool, _&&_, cond}
 use mathlib.Core.List.{List, [], _∷_}
 use lib.Dec.{leb, eqb}
 use lib.ListN.{length, take, drop, getD}
-use Rattle.model.specs.Setup.{Setup, inLimits}
+use Rattle.model.specs.Setup.{Setup, inLimits, isMember}
 use Rattle.model.specs.Frame.{twoAt}
 use Rattle.model.specs.Question.{ask, firstNo}
 use Rattle.model.specs.Tick.{holdbackSize}
@@ -15,9 +15,21 @@ use Rattle.model.specs.Tick.{holdbackSize}
 abbrev pub setupLength : ℕ
 setupLength = 6
 
-unfoldable pub traceSetup : List ℕ → Setup
+-- the group's setup, and a node's own number
+pub record NodeSetup : Type 0 where
+  pub setup : Setup
+  pub own : ℕ
+
+unfoldable pub traceSetup : List ℕ → NodeSetup
 traceSetup s =
-    record { n = getD s 0 0; epsilon = getD s 1 0; delta = getD s 2 0; modulus = twoAt s 3; own = getD s 5 0 }
+    record {
+      setup = record { n = getD s 0 0; epsilon = getD s 1 0; delta = getD s 2 0; modulus = twoAt s 3 };
+      own = getD s 5 0;
+    }
+
+-- both are in their limits
+abbrev pub isValid : NodeSetup → Bool
+isValid s = inLimits (s .setup) && isMember (s .setup) (s .own)
 
 -- 01: "a shelf above 65,536 bytes"; here the hold-back queue
 abbrev pub largestHoldback : ℕ
@@ -28,13 +40,24 @@ unfoldable pub setupNumber : List ℕ → ℕ
 setupNumber s =
     firstNo
     (ask (leb setupLength (length s)) 5
-    ∷ ask (inLimits (traceSetup s)) 1
-    ∷ ask (leb (holdbackSize (traceSetup s)) largestHoldback) 1
+    ∷ ask (isValid (traceSetup s)) 1
+    ∷ ask (leb (holdbackSize (traceSetup s .setup)) largestHoldback) 1
     ∷ [])
 
 -- 01: "a two-byte count of ticks"
+abbrev pub countLength : ℕ
+countLength = 2
+
 unfoldable pub tickCount : List ℕ → ℕ
 tickCount s = twoAt s 0
+
+-- 01: "A cut … trace … gets 5": 0 where the count of ticks is there
+unfoldable pub countNumber : List ℕ → ℕ
+countNumber s = firstNo (ask (leb countLength (length s)) 5 ∷ [])
+
+-- 01: "A … overlong trace … gets 5", by how many bytes more there are after the last tick
+unfoldable pub endNumber : ℕ → ℕ
+endNumber more = firstNo (ask (eqb more 0) 5 ∷ [])
 
 -- 01: "It starts fresh one before the first clock": modulo B, where the clock is below B
 unfoldable pub oneBefore : ℕ → ℕ → ℕ

@@ -5,11 +5,15 @@ mod lines;
 mod parse;
 mod text;
 
-pub use lines::Figures;
+pub use lines::TickFigures;
 pub use lines::put_lines;
-pub use lines::put_refused;
-pub use parse::Call;
+pub use lines::put_stopped;
+pub use parse::COUNT_LENGTH;
+pub use parse::NodeSetup;
+pub use parse::SETUP_LENGTH;
 pub use parse::batch_of;
+pub use parse::count_number;
+pub use parse::end_number;
 pub use parse::one_before;
 pub use parse::payload_of;
 pub use parse::read_call;

@@ -5,18 +5,23 @@ use crate::text::put_field;
 use crate::text::put_fields;
 use crate::text::put_give;
 use crate::text::put_word;
-use splice::byte_at;
+use frame::frame_end;
+use frame::payload_part;
+use frame::r_of;
+use frame::station_of;
 use splice::part;
 use splice::two_at;
 ghost use mathlib.Core.Path.{_≡_};
-ghost use Prim.Native.Nat.{_+_, _*_, _≤_, _<_, _^_};
+ghost use mathlib.Core.List.{[]};
+ghost use Prim.Native.Nat.{_+_, _≤_, _<_, _^_};
 ghost use lib.Dec.{leb};
 ghost use lib.ListN.{length, drop};
 ghost use Rattle.model.specs.Frame.{frameEnd};
-ghost use Rattle.trace.specs.Text.{flag, tickLine, giveLine, giveLines, frameFrom, tickLines, refusedLine, written, textEnd, Put};
+ghost use Rattle.trace.specs.Text.{flag, tickLine, giveLine, giveLines, frameBytes, frameFrom, tickLines, refusedLine, textWritten, textEnd, Put};
+ghost use Rattle.trace.specs.Replay.{stopped};
 
 // What a tick line says: 01's clock, mend, c, taken, outgoing length (0 if none), handed out.
-pub struct Figures {
+pub struct TickFigures {
     pub clock: usize,
     pub repair: usize,
     pub c: usize,
@@ -36,7 +41,7 @@ fn flag_of(sent: usize) -> usize
 }
 
 // How long the tick line is.
-fn tick_size(f: Figures) -> usize
+fn tick_size(f: TickFigures) -> usize
     ensures { λ r. ⌜ r ≡ length (tickLine (f .clock) (f .repair) (f .c) (f .taken) (f .sent) (f .delivered)) ⌝ }
 {
     let first = digit_count(f.clock) + digit_count(f.repair) + digit_count(f.c);
@@ -44,7 +49,7 @@ fn tick_size(f: Figures) -> usize
 }
 
 // 01: "A tick line has clock, mend, c, taken, sent (1 or 0), handed out".
-fn put_tick(buf: &mut [u8], at: usize, f: Figures) -> usize
+fn put_tick(buf: &mut [u8], at: usize, f: TickFigures) -> usize
     requires { ⌜ at + length (tickLine (f .clock) (f .repair) (f .c) (f .taken) (f .sent) (f .delivered)) ≤ length (now buf) ⌝ }
     ensures { λ r. ⌜ Put (now (buf .entry)) at (tickLine (f .clock) (f .repair) (f .c) (f .taken) (f .sent) (f .delivered)) (now (buf .exit)) r ⌝ }
 {
@@ -63,49 +68,58 @@ fn put_tick(buf: &mut [u8], at: usize, f: Figures) -> usize
     put_word(buf, after_delivered, b"\n")
 }
 
-// Where the frame at a position of a delivery ends.
-fn next_frame(delivery: &[u8], at: usize, epsilon: usize) -> usize
-    requires { ⌜ (at < 2 ^ 52) × (epsilon < 2 ^ 32) ⌝ }
-    ensures { λ r. ⌜ (r ≡ at + frameEnd epsilon (drop at (now (delivery .entry)))) × (r ≤ at + 2 ^ 34) ⌝ }
+// The bytes of a delivery from a position on.
+fn rest_at(delivery: &[u8], at: usize) -> &[u8]
+    ensures { λ r. ⌜ now r ≡ drop at (now (delivery .entry)) ⌝ }
 {
-    let count = at + (6 + 2 * epsilon);
-    count + 1 + byte_at(delivery, count) as usize
+    part(delivery, at, delivery.len())
 }
 
-// Its payload.
-fn payload_at(delivery: &[u8], at: usize, epsilon: usize) -> &[u8]
-    requires { ⌜ (at < 2 ^ 52) × (epsilon < 2 ^ 32) ⌝ }
-    ensures { λ r. ⌜ (now r ≡ frameFrom epsilon (now (delivery .entry)) at .payload) × (length (now r) < 256) ⌝ }
+// Where the frame at a position of a delivery ends.
+fn next_frame(delivery: &[u8], at: usize, epsilon: usize) -> usize
+    requires { ⌜ (at < 2 ^ 52) × (epsilon ≤ 16) ⌝ }
+    ensures { λ r. ⌜ (r ≡ at + frameEnd epsilon (drop at (now (delivery .entry)))) × (r ≤ at + 512) ⌝ }
 {
-    let count = at + (6 + 2 * epsilon);
-    part(delivery, count + 1, byte_at(delivery, count) as usize)
+    let rest = rest_at(delivery, at);
+    at + frame_end(epsilon, rest)
+}
+
+// Its bytes; where the delivery ends before it, those that are there.
+fn frame_at(delivery: &[u8], at: usize, epsilon: usize) -> &[u8]
+    requires { ⌜ epsilon ≤ 16 ⌝ }
+    ensures { λ r. ⌜ (now r ≡ frameBytes epsilon (now (delivery .entry)) at) × (length (now r) ≤ 512) ⌝ }
+{
+    let rest = rest_at(delivery, at);
+    part(rest, 0, frame_end(epsilon, rest))
 }
 
 // How long its give line is.
 fn give_size(delivery: &[u8], at: usize, epsilon: usize) -> usize
-    requires { ⌜ (at < 2 ^ 52) × (epsilon < 2 ^ 32) ⌝ }
+    requires { ⌜ epsilon ≤ 16 ⌝ }
     ensures { λ r. ⌜ r ≡ length (giveLine (frameFrom epsilon (now (delivery .entry)) at)) ⌝ }
 {
-    let station = byte_at(delivery, at + 1) as usize;
-    let r = two_at(delivery, at + 2);
-    let payload = payload_at(delivery, at, epsilon);
+    let frame = frame_at(delivery, at, epsilon);
+    let station = station_of(frame);
+    let r = r_of(frame);
+    let payload = payload_part(epsilon, frame);
     8 + digit_count(station) + digit_count(r) + payload_size(payload)
 }
 
 // Writes its give line.
 fn put_give_at(buf: &mut [u8], end: usize, delivery: &[u8], at: usize, epsilon: usize) -> usize
-    requires { ⌜ ((at < 2 ^ 52) × (epsilon < 2 ^ 32)) × (end + length (giveLine (frameFrom epsilon (now delivery) at)) ≤ length (now buf)) ⌝ }
+    requires { ⌜ (epsilon ≤ 16) × (end + length (giveLine (frameFrom epsilon (now delivery) at)) ≤ length (now buf)) ⌝ }
     ensures { λ e. ⌜ Put (now (buf .entry)) end (giveLine (frameFrom epsilon (now (delivery .entry)) at)) (now (buf .exit)) e ⌝ }
 {
-    let station = byte_at(delivery, at + 1) as usize;
-    let r = two_at(delivery, at + 2);
-    let payload = payload_at(delivery, at, epsilon);
+    let frame = frame_at(delivery, at, epsilon);
+    let station = station_of(frame);
+    let r = r_of(frame);
+    let payload = payload_part(epsilon, frame);
     put_give(buf, end, station, r, payload)
 }
 
 // Whether the give lines of a delivery have at most `room` bytes.
 fn gives_fit(delivery: &[u8], epsilon: usize, room: usize) -> bool
-    requires { ⌜ epsilon < 2 ^ 32 ⌝ }
+    requires { ⌜ epsilon ≤ 16 ⌝ }
     ensures { λ r. ⌜ r ≡ leb (length (giveLines epsilon (now (delivery .entry)))) room ⌝ }
 {
     let mut left = two_at(delivery, 0);
@@ -125,7 +139,7 @@ fn gives_fit(delivery: &[u8], epsilon: usize, room: usize) -> bool
 
 // Writes a give line for each frame of a delivery.
 fn put_gives(buf: &mut [u8], from: usize, delivery: &[u8], epsilon: usize) -> usize
-    requires { ⌜ (epsilon < 2 ^ 32) × (from + length (giveLines epsilon (now delivery)) ≤ length (now buf)) ⌝ }
+    requires { ⌜ (epsilon ≤ 16) × (from + length (giveLines epsilon (now delivery)) ≤ length (now buf)) ⌝ }
     ensures { λ e. ⌜ Put (now (buf .entry)) from (giveLines epsilon (now (delivery .entry))) (now (buf .exit)) e ⌝ }
 {
     let mut left = two_at(delivery, 0);
@@ -141,9 +155,10 @@ fn put_gives(buf: &mut [u8], from: usize, delivery: &[u8], epsilon: usize) -> us
 
 // Writes the lines of a tick at a position, and answers where they end; 0, and nothing is written,
 // where there is no room for all of them.
-pub fn put_lines(buf: &mut [u8], at: usize, f: Figures, epsilon: u32, delivery: &[u8]) -> usize
+pub fn put_lines(buf: &mut [u8], at: usize, f: TickFigures, epsilon: u32, delivery: &[u8]) -> usize
+    requires { ⌜ epsilon ≤ 16 ⌝ }
     ensures { λ r. ⌜ r ≡ textEnd (now (buf .entry)) at (tickLines (f .clock) (f .repair) (f .c) (f .taken) (f .sent) (f .delivered) epsilon (now (delivery .entry))) ⌝ }
-    ensures { λ r. ⌜ now (buf .exit) ≡ written (now (buf .entry)) at (tickLines (f .clock) (f .repair) (f .c) (f .taken) (f .sent) (f .delivered) epsilon (now (delivery .entry))) ⌝ }
+    ensures { λ r. ⌜ now (buf .exit) ≡ textWritten (now (buf .entry)) at (tickLines (f .clock) (f .repair) (f .c) (f .taken) (f .sent) (f .delivered) epsilon (now (delivery .entry))) ⌝ }
 {
     let size = tick_size(f);
     if buf.len() < at {
@@ -161,9 +176,9 @@ pub fn put_lines(buf: &mut [u8], at: usize, f: Figures, epsilon: u32, delivery: 
 }
 
 // Writes the line of a refusal, as `put_lines` does those of a tick.
-pub fn put_refused(buf: &mut [u8], at: usize, number: u8) -> usize
+fn put_refused(buf: &mut [u8], at: usize, number: u8) -> usize
     ensures { λ r. ⌜ r ≡ textEnd (now (buf .entry)) at (refusedLine number) ⌝ }
-    ensures { λ r. ⌜ now (buf .exit) ≡ written (now (buf .entry)) at (refusedLine number) ⌝ }
+    ensures { λ r. ⌜ now (buf .exit) ≡ textWritten (now (buf .entry)) at (refusedLine number) ⌝ }
 {
     let x = number as usize;
     let size = 9 + digit_count(x);
@@ -175,4 +190,16 @@ pub fn put_refused(buf: &mut [u8], at: usize, number: u8) -> usize
     }
     let end = put_field(buf, at, b"refused ", x);
     put_word(buf, end, b"\n")
+}
+
+// Writes what the program ends with at the start of a buffer: the line of a refusal, or nothing
+// for 0.
+pub fn put_stopped(buf: &mut [u8], number: u8) -> usize
+    ensures { λ r. ⌜ r ≡ textEnd (now (buf .entry)) 0 (stopped number []) ⌝ }
+    ensures { λ r. ⌜ now (buf .exit) ≡ textWritten (now (buf .entry)) 0 (stopped number []) ⌝ }
+{
+    if number == 0 {
+        return 0;
+    }
+    put_refused(buf, 0, number)
 }

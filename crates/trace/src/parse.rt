@@ -1,24 +1,38 @@
 // From the bytes of a trace to the arguments of a call. A byte that is missing reads as 0.
+use setup::Setup;
+use setup::holdback_length;
+use setup::valid_for;
 use splice::byte_at;
 use splice::part;
 use splice::two_at;
-use timestamp::Setup;
-use timestamp::holdback_length;
-use timestamp::in_limits;
 ghost use mathlib.Core.Path.{_≡_};
 ghost use Prim.Native.Nat.{_≤_};
-ghost use Rattle.timestamp.specs.Views.{setupOf};
-ghost use Rattle.trace.specs.Trace.{traceSetup, setupNumber, tickCount, oneBefore, clockOf, sendOf, payloadOf, batchOf, tickEnd, longestTick, tickNumber};
+ghost use Rattle.trace.specs.Views.{nodeSetupOf};
+ghost use Rattle.trace.specs.Trace.{traceSetup, setupNumber, tickCount, countNumber, endNumber, oneBefore, clockOf, sendOf, payloadOf, batchOf, tickEnd, longestTick, tickNumber};
+
+// How many bytes the setup has, and the count of ticks after it.
+pub const SETUP_LENGTH: usize = 6;
+
+pub const COUNT_LENGTH: usize = 2;
+
+// 01: the setup, as a trace has it: the group's numbers, and the own number.
+pub struct NodeSetup {
+    pub setup: Setup,
+    pub own: u32,
+}
 
 // The setup of a trace, at its start.
-pub fn read_setup(s: &[u8]) -> Setup
-    ensures { λ r. ⌜ setupOf r ≡ traceSetup (now (s .entry)) ⌝ }
+pub fn read_setup(s: &[u8]) -> NodeSetup
+    ensures { λ r. ⌜ nodeSetupOf r ≡ traceSetup (now (s .entry)) ⌝ }
 {
-    Setup {
+    let setup = Setup {
         n: byte_at(s, 0) as u32,
         epsilon: byte_at(s, 1) as u32,
         delta: byte_at(s, 2) as u32,
         modulus: two_at(s, 3) as u32,
+    };
+    NodeSetup {
+        setup,
         own: byte_at(s, 5) as u32,
     }
 }
@@ -28,11 +42,12 @@ pub fn read_setup(s: &[u8]) -> Setup
 pub fn setup_number(s: &[u8]) -> u8
     ensures { λ r. ⌜ r ≡ setupNumber (now (s .entry)) ⌝ }
 {
-    if s.len() < 6 {
+    if s.len() < SETUP_LENGTH {
         return 5;
     }
-    let setup = read_setup(s);
-    if !in_limits(setup) {
+    let read = read_setup(s);
+    let setup = read.setup;
+    if !valid_for(setup, read.own) {
         return 1;
     }
     if 65536
@@ -52,6 +67,27 @@ pub fn tick_count(s: &[u8]) -> usize
     ensures { λ r. ⌜ r ≡ tickCount (now (s .entry)) ⌝ }
 {
     two_at(s, 0)
+}
+
+// 0, or 5 where the count of ticks is cut.
+pub fn count_number(s: &[u8]) -> u8
+    ensures { λ r. ⌜ r ≡ countNumber (now (s .entry)) ⌝ }
+{
+    if s.len() < COUNT_LENGTH {
+        return 5;
+    }
+    0
+}
+
+// What the trace stops with after its last tick, by how many bytes `more` there are: 5 where it is
+// overlong, otherwise 0.
+pub fn end_number(more: usize) -> u8
+    ensures { λ r. ⌜ r ≡ endNumber more ⌝ }
+{
+    if 0 < more {
+        return 5;
+    }
+    0
 }
 
 // 01: "one before the first clock".

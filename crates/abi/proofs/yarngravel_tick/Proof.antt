@@ -5,7 +5,7 @@ use borrow.Author.Needs.{needs}
 use Rattle.model.specs.Timestamp.{Timestamp}
 use Rattle.model.specs.Tick.{Input, tick}
 use Rattle.node.specs.Answers.{answerOf}
-use Rattle.abi.specs.Packing.{setupBy, tablesAt, tablesBytes}
+use Rattle.abi.specs.Packing.{setupBy, tablesIn, tablesBytes}
 use Rattle.abi.proofs.Words.{Small, answer-small, refused-packed, accepted-packed}
 use Rattle.abi.proofs.yarngravel_tick.Statement.{statement}
 use Rattle.abi.proofs.yarngravel_tick.Tie as tie
@@ -13,7 +13,8 @@ use Rattle.abi.proofs.yarngravel_tick.Tie as tie
 abbrev input : tie.Start → Timestamp → Input
 input c t =
     record {
-      setup = setupBy (c .args .n) (c .args .epsilon) (c .args .delta) (c .args .modulus) (c .args .own);
+      setup = setupBy (c .args .n) (c .args .epsilon) (c .args .delta) (c .args .modulus);
+      own = c .args .own;
       clock = c .args .clock;
       tables = t;
       holdback = c .args .holdback .now;
@@ -48,10 +49,10 @@ same-length-4 c = search needs
 
 returns : tie.Need-returns
 returns c =
-    refused-packed (input (c .before .before .before .before .before .before .before .before .before .before .before .before .before .before .before .before .before .before .before .before .before .before .before .before .before) (tablesAt (c .before .before .before .before .before .before .before .before .before .before .before .before .before .before .before .before .before .before .before .before .before .before .before .before .before .args .tables .now))) (c .before .before .before .before .before .before .before .before .before .before .before .before .before .before .before .before .before .before .before .before .before .before .before .before .before .args .tables .now) _ (c .before .before .before .before .before .before .before .before .before .before .before .tick .ensures ∙ ap (λ (t : Timestamp). tick (input (c .before .before .before .before .before .before .before .before .before .before .before .before .before .before .before .before .before .before .before .before .before .before .before .before .before) t)) (c .before .before .before .before .before .before .before .before .before .before .before .before .before .before .before .before .tables-of .ensures .0)) (ap tablesBytes (sym (c .before .before .before .before .before .before .before .before .before .before .before .before .before .before .before .before .tables-of .ensures .0)) ∙ c .before .before .before .before .before .before .before .before .before .before .before .before .before .before .before .before .tables-of .ensures .1) (c .before .if1 .taken)
+    refused-packed (input (c .before .before .before .before .before .before .before .before .before .before .before .before .before .before .before .before .before .before .before .before .before .before .before .before .before) (tablesIn (c .before .before .before .before .before .before .before .before .before .before .before .before .before .before .before .before .before .before .before .before .before .before .before .before .before .args .tables .now))) (c .before .before .before .before .before .before .before .before .before .before .before .before .before .before .before .before .before .before .before .before .before .before .before .before .before .args .tables .now) _ (c .before .before .before .before .before .before .before .before .before .before .before .tick .ensures ∙ ap (λ (t : Timestamp). tick (input (c .before .before .before .before .before .before .before .before .before .before .before .before .before .before .before .before .before .before .before .before .before .before .before .before .before) t)) (c .before .before .before .before .before .before .before .before .before .before .before .before .before .before .before .before .tables-of .ensures .0)) (ap tablesBytes (sym (c .before .before .before .before .before .before .before .before .before .before .before .before .before .before .before .before .tables-of .ensures .0)) ∙ c .before .before .before .before .before .before .before .before .before .before .before .before .before .before .before .before .tables-of .ensures .1) (c .before .if1 .taken)
 
 small : (c : tie.Else1) → Small (answerOf (c .before .before .before .before .before .before .before .before .before .before .tick .result))
-small c = answer-small (input (c .before .before .before .before .before .before .before .before .before .before .before .before .before .before .before .before .before .before .before .before .before .before .before .before) (tablesAt (c .before .before .before .before .before .before .before .before .before .before .before .before .before .before .before .before .before .before .before .before .before .before .before .before .args .tables .now))) _ (c .before .before .before .before .before .before .before .before .before .before .tick .ensures ∙ ap (λ (t : Timestamp). tick (input (c .before .before .before .before .before .before .before .before .before .before .before .before .before .before .before .before .before .before .before .before .before .before .before .before) t)) (c .before .before .before .before .before .before .before .before .before .before .before .before .before .before .before .tables-of .ensures .0)) (c .if1 .left) (omega (arith, c .before .before .before .before .before .before .before .before .before .before .before .before .before .before .before .before .before .before .before .before .before .before .shared-slice-known .given 0))
+small c = answer-small (input (c .before .before .before .before .before .before .before .before .before .before .before .before .before .before .before .before .before .before .before .before .before .before .before .before) (tablesIn (c .before .before .before .before .before .before .before .before .before .before .before .before .before .before .before .before .before .before .before .before .before .before .before .before .args .tables .now))) _ (c .before .before .before .before .before .before .before .before .before .before .tick .ensures ∙ ap (λ (t : Timestamp). tick (input (c .before .before .before .before .before .before .before .before .before .before .before .before .before .before .before .before .before .before .before .before .before .before .before .before) t)) (c .before .before .before .before .before .before .before .before .before .before .before .before .before .before .before .tables-of .ensures .0)) (c .if1 .left) (omega (arith, c .before .before .before .before .before .before .before .before .before .before .before .before .before .before .before .before .before .before .before .before .before .before .shared-slice-known .given 0))
 
 put-tables-requires : tie.Need-put-tables-requires
 put-tables-requires c κs = (search needs, (small (c .before .before) .r-small, small (c .before .before) .c-small))
@@ -72,7 +73,7 @@ same-length-8 : tie.Need-same-length-8
 same-length-8 c = search needs
 
 returns-2 : tie.Need-returns-2
-returns-2 c = accepted-packed (input (c .before .before .before .before .before .before .before .before .before .before .before .before .before .before .before .before .before .before .before .before .before .before .before .before .before .before .before .before) (tablesAt (c .before .before .before .before .before .before .before .before .before .before .before .before .before .before .before .before .before .before .before .before .before .before .before .before .before .before .before .before .args .tables .now))) _ (c .pack-answer .result) _ (c .before .before .before .before .before .before .before .before .before .before .before .before .before .before .tick .ensures ∙ ap (λ (t : Timestamp). tick (input (c .before .before .before .before .before .before .before .before .before .before .before .before .before .before .before .before .before .before .before .before .before .before .before .before .before .before .before .before) t)) (c .before .before .before .before .before .before .before .before .before .before .before .before .before .before .before .before .before .before .before .tables-of .ensures .0)) (c .pack-answer .ensures) (c .before .put-tables .ensures)
+returns-2 c = accepted-packed (input (c .before .before .before .before .before .before .before .before .before .before .before .before .before .before .before .before .before .before .before .before .before .before .before .before .before .before .before .before) (tablesIn (c .before .before .before .before .before .before .before .before .before .before .before .before .before .before .before .before .before .before .before .before .before .before .before .before .before .before .before .before .args .tables .now))) _ (c .pack-answer .result) _ (c .before .before .before .before .before .before .before .before .before .before .before .before .before .before .tick .ensures ∙ ap (λ (t : Timestamp). tick (input (c .before .before .before .before .before .before .before .before .before .before .before .before .before .before .before .before .before .before .before .before .before .before .before .before .before .before .before .before) t)) (c .before .before .before .before .before .before .before .before .before .before .before .before .before .before .before .before .before .before .before .tables-of .ensures .0)) (c .pack-answer .ensures) (c .before .put-tables .ensures)
 
 pub yarngravel-tick-spec : {M : Type 1} → statement M
 yarngravel-tick-spec =

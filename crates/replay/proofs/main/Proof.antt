@@ -1,26 +1,27 @@
 -- `replay::main` is safe and ends. Assumes nothing.
 use Prim.Native.Nat.{_≤_}
 use mathlib.Core.Path.{sym}
+use mathlib.Core.List.{[]}
 use native.Mathlib.Omega.{arith}
 use lib.ListN.{length, replicate}
 use lib.Seq.{length-take-le}
-use Rattle.trace.specs.Text.{refusedLine}
+use Rattle.trace.specs.Replay.{stopped}
 use Rattle.replay.proofs.Refusals.{end-within}
 use borrow.Author.Needs.{needs}
 use Rattle.replay.proofs.main.Statement.{statement}
 use Rattle.replay.proofs.main.Tie as tie
 
+slice-aggregate-put-stopped : tie.Need-slice-aggregate-put-stopped
+slice-aggregate-put-stopped c = search needs
+
 replay-requires : tie.Need-replay-requires
 replay-requires c κs = search needs
 
-slice-aggregate-put-refused : tie.Need-slice-aggregate-put-refused
-slice-aggregate-put-refused c = search needs
+put-stopped-requires : tie.Need-put-stopped-requires
+put-stopped-requires c κs = search needs
 
-put-refused-requires : tie.Need-put-refused-requires
-put-refused-requires c κs = search needs
-
-within : (c : tie.After-put-refused) → c .put-refused .result ≤ length (c .put-refused .last .0)
-within c = omega (arith, c .put-refused .ensures .0, end-within (replicate 16 0) 0 (refusedLine (c .before .before .before .replay .result)), c .put-refused .kept .0)
+within : (c : tie.After-put-stopped) → c .put-stopped .result ≤ length (c .put-stopped .last .0)
+within c = omega (arith, c .put-stopped .ensures .0, end-within (replicate 16 0) 0 (stopped (c .before .replay .result) []), c .put-stopped .kept .0)
 
 array-share-prefix-line : tie.Need-array-share-prefix-line
 array-share-prefix-line c = within (c .before)
@@ -34,18 +35,14 @@ write-all-requires c κs = search needs
 returns : tie.Need-returns
 returns c = search needs
 
-returns-2 : tie.Need-returns-2
-returns-2 c = search needs
-
 pub main-spec : {M : Type 1} → statement M
 main-spec =
     tie.close
     (tie.spec
+    slice-aggregate-put-stopped
     replay-requires
-    slice-aggregate-put-refused
-    put-refused-requires
+    put-stopped-requires
     array-share-prefix-line
     slice-aggregate-write-all
     write-all-requires
-    returns
-    returns-2)
+    returns)

@@ -40,7 +40,7 @@ use denote.Triple.Table.{cited}
 use denote.Triple.Walked.{says, Stays, stay-none, stay-none-slice, walkOf, goes-none, goes-none-slice, ends-at, walked}
 use denote.Exit.{yes}
 use denote.Triple.Clauses.{Clauses}
-use Rattle.batch.specs.Walk.{stepAt, advanced}
+use Rattle.batch.specs.Walk.{stepAt, movedOn}
 use Rattle.batch.specs.declared.walker.Walker.{Walker}
 use Rattle.batch.specs.declared.Step.{Step}
 use Rattle.batch.proofs.Held.{B, D, L, vd, bare, told, closes}
@@ -64,7 +64,7 @@ abbrev stayed : Stays (walk-step.ended .signature .params) (walk-step.ended .kep
 stayed = (stay-none-slice (0 ∷ []) tt (plain (λ _. u8)) yes, (stay-none (λ _. usize) yes, tt))
 
 -- where an entry starts and where the walker goes on are the step
-together : (d g : Walker) (r : Step) → r ≡ stepAt (now (d .src)) (d .at) → g ≡ advanced d → record { start = r .start; end = g .at } ≡ stepAt (now (d .src)) (d .at)
+together : (d g : Walker) (r : Step) → r ≡ stepAt (now (d .src)) (d .at) → g ≡ movedOn d → record { start = r .start; end = g .at } ≡ stepAt (now (d .src)) (d .at)
 unfolding stepAt
 together d g r e f = ap (λ (x : Step). record { start = x .start; end = g .at }) e ∙ ap (λ (x : Walker). record { start = stepAt (now (d .src)) (d .at) .start; end = x .at }) f
 
@@ -152,7 +152,7 @@ module _ {M : Type 1} (𝓤 : URA M) (H : Heap 𝓤) (A : Atoms 𝓤) (W : Given
         assigns ! (of-opd ! (load ! (from ! (stop !)) (look ! 12 refl))) (from ! (stop !)) (init ! 4 refl (tt, wt)) $
         move ! (20 ∷ []) $ use1 W ((‵ (flft κ q) ⊛ ‵ ftrue) ⊛ ‵ Own) enters $ split ! $ use2 W (raw (Onward 𝓤 H A mem run .pre to) ⊛ ‵ Own) goes $ split ! $
         calls-at ! fm (Onward 𝓤 H A mem run) known′ to (and-then ! (load ! (from ! (stop !)) (look ! 6 refl)) (no-more !)) (λ u.
-        told ! tt advance.ended (advance.clauses 𝓤 H A mem run) to u (λ g. g ≡ advanced d) (λ g f. id⊢ 𝓤 _) (λ g f.
+        told ! tt advance.ended (advance.clauses 𝓤 H A mem run) to u (λ g. g ≡ movedOn d) (λ g f. id⊢ 𝓤 _) (λ g f.
         -- [the walker; the token; what s owns; room for _9; …; room for _0; …]
         peeks ! (B (κ, tt)) (Is (B (κ, tt))) (shows 𝓤 H A (B (κ, tt))) g (u ∷ []) (λ is.
         land ! (from ! (stop !)) (init ! 9 refl (subst (λ (x : Val). Holds (hasTy (T′.mir erased) x) × WT x) (sym (ap only (walker-is g u is))) (tt, walker-wt g u is))) $ rewrite ! 9 (λ (x : Val). ‵ (fat fullShare (T′.mir erased) l₆ 0 x)) (ap only (walker-is g u is)) refl $

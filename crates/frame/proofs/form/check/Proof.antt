@@ -10,7 +10,7 @@ use Rattle.frame.proofs.Asking.{form-no, form-right, station-no, r-no, 
 use Rattle.lemmas.proofs.Bounds.{Limits}
 use Rattle.lemmas.proofs.Questions.{limits-from}
 use Rattle.lemmas.proofs.RoundTrip.{Formed, formed-from}
-use Rattle.timestamp.specs.Views.{setupOf}
+use Rattle.setup.specs.Views.{setupOf}
 use Rattle.model.specs.Question.{firstNo, frameQuestions, askStamp}
 use Rattle.model.specs.Frame.{wellFormed, decode}
 use Rattle.model.specs.Setup.{width}

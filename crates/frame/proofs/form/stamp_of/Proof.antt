@@ -6,7 +6,7 @@ use native.Mathlib.Omega.{arith}
 use lib.ListN.{getD}
 use borrow.Author.Needs.{needs}
 use Rattle.timestamp.specs.Views.{stampOf}
-use Rattle.model.specs.Frame.{decode, twoAt}
+use Rattle.model.specs.Frame.{countsOf, decode, twoAt}
 use Rattle.model.specs.Setup.{width}
 use Rattle.lemmas.proofs.RoundTrip.{Formed, formed-from}
 use Rattle.model.specs.Timestamp.{widened}
@@ -27,7 +27,7 @@ c-of-requires : tie.Need-c-of-requires
 c-of-requires c κs = search needs
 
 returns : tie.Need-returns
-unfolding decode widened width
+unfolding decode countsOf widened width
 returns c =
     ap (λ (x : ℕ). stampOf (record { r = x; c = c .c-of .result; kn = c .before .before .counts-of .result })) (c .before .r-of .ensures (c .before .before .before .before .args .epsilon))
     ∙ ap (λ (x : ℕ). stampOf (record { r = twoAt (c .before .before .before .before .args .s .now) 2; c = x; kn = c .before .before .counts-of .result })) (c .c-of .ensures (c .before .before .before .before .args .epsilon))

@@ -36,6 +36,9 @@ add-byte-at c = search needs
 byte-at-requires-3 : tie.Need-byte-at-requires-3
 byte-at-requires-3 c κs = search needs
 
+cast-if3 : tie.Need-cast-if3
+cast-if3 c = search needs
+
 returns-3 : tie.Need-returns-3
 returns-3 c = sym (third-wrong (c .before .before .before .before .before .before .before .args .epsilon) (c .before .before .before .before .before .before .before .args .s .now) (omega arith) (omega arith) (omega arith))
 
@@ -59,6 +62,7 @@ well-formed-spec =
     mul-byte-at
     add-byte-at
     byte-at-requires-3
+    cast-if3
     returns-3
     frame-end-requires
     returns-4)

@@ -7,14 +7,14 @@ use Rattle.lemmas.proofs.RoundTrip.{Formed, formed-from}
 use Rattle.model.specs.Frame.{wellFormed}
 use Rattle.model.specs.Setup.{inLimits, width}
 use Rattle.frame.proofs.Asking.{read-passed, read-accepted, read-refused, payload-part}
-use Rattle.timestamp.specs.Views.{setupOf}
+use Rattle.setup.specs.Views.{setupOf}
 use Rattle.model.specs.Codec.{ReadAnswer}
 use Rattle.frame.proofs.reader.payload_of.Statement.{statement}
 use Rattle.frame.proofs.reader.payload_of.Tie as tie
 
 -- what an accepted frame has
 accepted : (c : tie.Else1) → (inLimits (setupOf (c .before .before .before .args .setup)) ≡ true) × (wellFormed (c .before .before .before .args .setup .epsilon) (c .before .before .before .args .frame .now) ≡ true)
-accepted c = read-passed (setupOf (c .before .before .before .args .setup)) (c .before .before .before .args .frame .now) (sym (c .before .check-read .ensures) ∙ c .if1 .left)
+accepted c = read-passed (setupOf (c .before .before .before .args .setup)) (c .before .before .before .args .own) (c .before .before .before .args .frame .now) (sym (c .before .check-read .ensures) ∙ c .if1 .left)
 
 check-read-requires : tie.Need-check-read-requires
 check-read-requires c κs = search needs
@@ -23,7 +23,7 @@ slice-aggregate-result : tie.Need-slice-aggregate-result
 slice-aggregate-result c = search needs
 
 returns : tie.Need-returns
-returns c = sym (ap (λ (a : ReadAnswer). a .payload) (read-refused (setupOf (c .before .before .before .before .args .setup)) (c .before .before .before .before .args .frame .now) (c .before .before .check-read .result) (c .before .before .check-read .ensures) (c .before .if1 .taken)))
+returns c = sym (ap (λ (a : ReadAnswer). a .payload) (read-refused (setupOf (c .before .before .before .before .args .setup)) (c .before .before .before .before .args .own) (c .before .before .before .before .args .frame .now) (c .before .before .check-read .result) (c .before .before .check-read .ensures) (c .before .if1 .taken)))
 
 cast-at : tie.Need-cast-at
 cast-at c = search needs
@@ -48,7 +48,7 @@ part-result-end : tie.Need-part-result-end
 part-result-end c = search needs
 
 returns-2 : tie.Need-returns-2
-returns-2 c = payload-part (c .before .before .before .before .before .args .setup .epsilon) (c .before .before .before .before .before .args .frame .now) ∙ sym (ap (λ (a : ReadAnswer). a .payload) (read-accepted (setupOf (c .before .before .before .before .before .args .setup)) (c .before .before .before .before .before .args .frame .now) (c .before .before .before .check-read .result) (c .before .before .before .check-read .ensures) (c .before .before .if1 .left)))
+returns-2 c = payload-part (c .before .before .before .before .before .args .setup .epsilon) (c .before .before .before .before .before .args .frame .now) ∙ sym (ap (λ (a : ReadAnswer). a .payload) (read-accepted (setupOf (c .before .before .before .before .before .args .setup)) (c .before .before .before .before .before .args .own) (c .before .before .before .before .before .args .frame .now) (c .before .before .before .check-read .result) (c .before .before .before .check-read .ensures) (c .before .before .if1 .left)))
 
 pub payload-of-spec : {M : Type 1} → statement M
 payload-of-spec =

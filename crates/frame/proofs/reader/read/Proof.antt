@@ -6,14 +6,14 @@ use Rattle.lemmas.proofs.Questions.{limits-from}
 use Rattle.model.specs.Frame.{wellFormed}
 use Rattle.model.specs.Setup.{inLimits}
 use Rattle.frame.proofs.Asking.{read-passed, read-accepted, read-refused}
-use Rattle.timestamp.specs.Views.{setupOf}
+use Rattle.setup.specs.Views.{setupOf}
 use Rattle.model.specs.Codec.{noTimestamp}
 use Rattle.frame.proofs.reader.read.Statement.{statement}
 use Rattle.frame.proofs.reader.read.Tie as tie
 
 -- what an accepted frame has
 accepted : (c : tie.Else1) → (inLimits (setupOf (c .before .before .before .args .setup)) ≡ true) × (wellFormed (c .before .before .before .args .setup .epsilon) (c .before .before .before .args .frame .now) ≡ true)
-accepted c = read-passed (setupOf (c .before .before .before .args .setup)) (c .before .before .before .args .frame .now) (sym (c .before .check-read .ensures) ∙ c .if1 .left)
+accepted c = read-passed (setupOf (c .before .before .before .args .setup)) (c .before .before .before .args .own) (c .before .before .before .args .frame .now) (sym (c .before .check-read .ensures) ∙ c .if1 .left)
 
 check-read-requires : tie.Need-check-read-requires
 check-read-requires c κs = search needs
@@ -21,7 +21,7 @@ check-read-requires c κs = search needs
 returns : tie.Need-returns
 unfolding noTimestamp
 returns c =
-    rw (read-refused (setupOf (c .before .before .before .args .setup)) (c .before .before .before .args .frame .now) (c .before .check-read .result) (c .before .check-read .ensures) (c .if1 .taken))
+    rw (read-refused (setupOf (c .before .before .before .args .setup)) (c .before .before .before .args .own) (c .before .before .before .args .frame .now) (c .before .check-read .result) (c .before .check-read .ensures) (c .if1 .taken))
 
 cast-stamp-of : tie.Need-cast-stamp-of
 cast-stamp-of c = search needs
@@ -34,7 +34,7 @@ station-of-requires c κs = search needs
 
 returns-2 : tie.Need-returns-2
 returns-2 c =
-    rw (read-accepted (setupOf (c .before .before .before .before .before .before .args .setup)) (c .before .before .before .before .before .before .args .frame .now) (c .before .before .before .before .check-read .result) (c .before .before .before .before .check-read .ensures) (c .before .before .before .if1 .left))
+    rw (read-accepted (setupOf (c .before .before .before .before .before .before .args .setup)) (c .before .before .before .before .before .before .args .own) (c .before .before .before .before .before .before .args .frame .now) (c .before .before .before .before .check-read .result) (c .before .before .before .before .check-read .ensures) (c .before .before .before .if1 .left))
     (cc (c .station-of .ensures (c .before .before .before .before .before .before .args .setup .epsilon), c .before .stamp-of .ensures))
 
 pub read-spec : {M : Type 1} → statement M

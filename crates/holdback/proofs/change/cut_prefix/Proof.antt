@@ -24,12 +24,12 @@ same-length : tie.Need-same-length
 same-length c = search needs
 
 returns : tie.Need-returns
-returns c = let counted = c .before .before in
-    let cleared = counted .before .before .before .before .before in
+returns c = let count-is = c .before .before in
+    let cleared = count-is .before .before .before .before .before in
     let out = cleared .before .before .before .before in
     let entry = out .before .before in
     let start = entry .before in
-    prefix-cut (start .pre .0) (λ i. omega (arith, entry .slice-known .given i)) _ _ _ (out .cut .ensures) (cleared .clear .ensures) (counted .put-u16 .ensures)
+    prefix-cut (start .pre .0) (λ i. omega (arith, entry .slice-known .given i)) _ _ _ (out .cut .ensures) (cleared .clear .ensures) (count-is .put-u16 .ensures)
 
 pub cut-prefix-spec : {M : Type 1} → statement M
 cut-prefix-spec =

@@ -30,9 +30,9 @@ same-length c = search needs
 
 returns : tie.Need-returns
 returns c = let copied = c .before .before in
-    let counted = copied .before .before .before .before .before in
-    let start = counted .before .before .before .before in
-    prefix-written (start .pre .0) (λ i. omega (arith, counted .before .before .before .shared-slice-known .given i)) (start .args .delivery .now) _ _ (counted .put-u16 .ensures) (copied .copy-into .ensures)
+    let count-is = copied .before .before .before .before .before in
+    let start = count-is .before .before .before .before in
+    prefix-written (start .pre .0) (λ i. omega (arith, count-is .before .before .before .shared-slice-known .given i)) (start .args .delivery .now) _ _ (count-is .put-u16 .ensures) (copied .copy-into .ensures)
 
 pub write-prefix-spec : {M : Type 1} → statement M
 write-prefix-spec =

@@ -1,15 +1,14 @@
 -- `holdback::compare::frame_before` meets its contract: the frame's rank is read, and its counts are lent. Assumes nothing.
-use native.Mathlib.Omega.{arith}
 use mathlib.Core.Path.{_∙_, ap₂}
 use mathlib.Core.List.{List}
 use Prim.Native.Nat.{ℕ}
 use Rattle.timestamp.specs.declared.ordering.Rank.{Rank}
-use Rattle.timestamp.specs.Views.{setupOf}
+use Rattle.setup.specs.Views.{setupOf}
 use Rattle.lemmas.proofs.Questions.{limits-from}
-use Rattle.frame.proofs.Asking.{counts-part}
 use Rattle.holdback.specs.Queue.{rankBefore}
 use Rattle.holdback.proofs.RoundTrip.{passing}
-use Rattle.holdback.proofs.Testing.{counts-end, ranked}
+use Rattle.holdback.proofs.Frames.{counts-end, counts-decoded}
+use Rattle.holdback.proofs.Testing.{ranked}
 use borrow.Author.Needs.{needs}
 use Rattle.holdback.proofs.compare.frame_before.Statement.{statement}
 use Rattle.holdback.proofs.compare.frame_before.Tie as tie
@@ -22,35 +21,23 @@ rank-of-requires c κs =
     let start = c .before .before .before in
     (start .pre .0, passing (setupOf (start .args .s)) (start .args .f .now) (start .pre .1 .0) .r-below)
 
-mul-comes-before : tie.Need-mul-comes-before
-mul-comes-before c = search needs
-
-add-comes-before : tie.Need-add-comes-before
-add-comes-before c = search needs
-
-sub-comes-before : tie.Need-sub-comes-before
-sub-comes-before c = search needs
-
-part-comes-before-start : tie.Need-part-comes-before-start
-part-comes-before-start c = search needs
-
-part-comes-before-end : tie.Need-part-comes-before-end
-part-comes-before-end c =
+counts-part-requires : tie.Need-counts-part-requires
+counts-part-requires c κs =
     let start = c .before .before .before .before in
-    let long = counts-end (setupOf (start .args .s)) (start .args .f .now) (start .pre .1 .0) in
-    omega arith
+    let setup = setupOf (start .args .s) in
+    (limits-from setup (start .pre .0 .0) .epsilon-most, counts-end (start .args .s .epsilon) (start .args .f .now) (passing setup (start .args .f .now) (start .pre .1 .0) .well))
 
 comes-before-requires : tie.Need-comes-before-requires
 comes-before-requires c κs =
     let start = c .before .before .before .before .before in
     let setup = setupOf (start .args .s) in
-    (ranked setup (start .args .v) (start .args .f .now) _ (c .before .rank-of .result) (limits-from setup (start .pre .0 .0)) (start .pre .1 .0) (counts-part (start .args .s .epsilon) (start .args .f .now)) (c .before .rank-of .ensures), start .pre .1 .1)
+    (ranked setup (start .args .v) (start .args .f .now) _ (c .before .rank-of .result) (limits-from setup (start .pre .0 .0)) (start .pre .1 .0) (counts-decoded (start .args .s .epsilon) (start .args .f .now) (c .counts-part .ensures)) (c .before .rank-of .ensures), start .pre .1 .1)
 
 returns : tie.Need-returns
 returns c =
     let start = c .before .before .before .before .before .before in
     c .comes-before .ensures
-    ∙ ap₂ (λ (q : Rank) (l : List ℕ). rankBefore (start .args .s .epsilon) q l (start .args .g) (start .args .kg .now)) (c .before .before .rank-of .ensures) (counts-part (start .args .s .epsilon) (start .args .f .now))
+    ∙ ap₂ (λ (q : Rank) (l : List ℕ). rankBefore (start .args .s .epsilon) q l (start .args .g) (start .args .kg .now)) (c .before .before .rank-of .ensures) (counts-decoded (start .args .s .epsilon) (start .args .f .now) (c .before .counts-part .ensures))
 
 pub frame-before-spec : {M : Type 1} → statement M
 frame-before-spec =
@@ -58,10 +45,6 @@ frame-before-spec =
     (tie.spec
     cast-epsilon
     rank-of-requires
-    mul-comes-before
-    add-comes-before
-    sub-comes-before
-    part-comes-before-start
-    part-comes-before-end
+    counts-part-requires
     comes-before-requires
     returns)

@@ -1,7 +1,6 @@
 -- `holdback::compare::newest_less` meets its contract: eight counts of each frame, read as numbers. Assumes nothing.
 use native.Mathlib.Omega.{arith}
 use Rattle.holdback.proofs.Newest.{narrow-no, sums-no, numbers-say}
-use borrow.Author.Needs.{needs}
 use Rattle.holdback.proofs.compare.newest_less.Statement.{statement}
 use Rattle.holdback.proofs.compare.newest_less.Tie as tie
 

@@ -1,6 +1,6 @@
 -- `holdback::due::cut_due` meets its contract: what is due is the prefix, and the rest is not. Assumes nothing.
 use native.Mathlib.Omega.{arith}
-use Rattle.timestamp.specs.Views.{setupOf}
+use Rattle.setup.specs.Views.{setupOf}
 use Rattle.lemmas.proofs.Questions.{limits-from}
 use mathlib.Core.Path.{ap, _∙_}
 use mathlib.Core.List.{List}
@@ -9,7 +9,7 @@ use Rattle.laws.specs.Lists.{overlay}
 use Rattle.model.specs.Frame.{Frame}
 use Rattle.model.specs.Holdback.{encodeFrames, encodeHoldback}
 use Rattle.model.specs.Tick.{dueNow}
-use Rattle.holdback.proofs.Cut.{count-small, sound-figures, due-number, due-left, due-taken}
+use Rattle.holdback.proofs.Cut.{count-small, sound-spans, due-number, due-left, due-taken}
 use borrow.Author.Needs.{needs}
 use Rattle.holdback.proofs.due.cut_due.Statement.{statement}
 use Rattle.holdback.proofs.due.cut_due.Tie as tie
@@ -27,10 +27,10 @@ write-prefix-requires c κs =
     let s = setupOf (start .args .s) in
     let b = start .args .buf .now in
     let sound = start .pre .1 .0 .0 in
-    let counted = start .pre .1 .0 .1 .1 in
+    let count-is = start .pre .1 .0 .1 .1 in
     let found = c .before .before .due-prefix in
-    let few = count-small s (start .args .v) b sound (start .args .count) limits counted in
-    (sound-figures s (start .args .v) b sound (dueNow s (start .args .v)) (start .args .count) (start .args .end) (found .result .index) (found .result .at) (start .pre .1 .0 .1 .0) counted (start .pre .1 .1 .0) (found .ensures), (start .pre .1 .1 .1, omega arith))
+    let few = count-small s (start .args .v) b sound (start .args .count) limits count-is in
+    (sound-spans s (start .args .v) b sound (dueNow s (start .args .v)) (start .args .count) (start .args .end) (found .result .index) (found .result .at) (start .pre .1 .0 .1 .0) count-is (start .pre .1 .1 .0) (found .ensures), (start .pre .1 .1 .1, omega arith))
 
 cut-prefix-requires : tie.Need-cut-prefix-requires
 cut-prefix-requires c κs =
@@ -39,10 +39,10 @@ cut-prefix-requires c κs =
     let s = setupOf (start .args .s) in
     let b = start .args .buf .now in
     let sound = start .pre .1 .0 .0 in
-    let counted = start .pre .1 .0 .1 .1 in
+    let count-is = start .pre .1 .0 .1 .1 in
     let found = c .before .before .before .before .before .before .due-prefix in
-    let few = count-small s (start .args .v) b sound (start .args .count) limits counted in
-    (sound-figures s (start .args .v) b sound (dueNow s (start .args .v)) (start .args .count) (start .args .end) (found .result .index) (found .result .at) (start .pre .1 .0 .1 .0) counted (start .pre .1 .1 .0) (found .ensures), omega arith)
+    let few = count-small s (start .args .v) b sound (start .args .count) limits count-is in
+    (sound-spans s (start .args .v) b sound (dueNow s (start .args .v)) (start .args .count) (start .args .end) (found .result .index) (found .result .at) (start .pre .1 .0 .1 .0) count-is (start .pre .1 .1 .0) (found .ensures), omega arith)
 
 same-length : tie.Need-same-length
 same-length c = search needs
@@ -57,7 +57,7 @@ returns c =
     let s = setupOf (start .args .s) in
     let b = start .args .buf .now in
     let sound = start .pre .1 .0 .0 in
-    let counted = start .pre .1 .0 .1 .1 in
+    let count-is = start .pre .1 .0 .1 .1 in
     let found = c .before .before .before .before .before .before .before .before .before .due-prefix in
     let kept = c .before .before .cut-prefix .ensures in
     let given = c .before .before .before .before .before .before .write-prefix .ensures in (

@@ -3,10 +3,9 @@ use borrow.Author.Needs.{needs}
 use native.Mathlib.Omega.{arith}
 use Prim.Native.Nat.{_-_}
 use Rattle.model.specs.Tick.{dueNow}
-use Rattle.timestamp.specs.Views.{setupOf}
+use Rattle.setup.specs.Views.{setupOf}
 use Rattle.lemmas.proofs.Questions.{limits-from}
-use Rattle.holdback.specs.Sound.{Led}
-use Rattle.holdback.proofs.Walks.{led-starts, led-inside, led-next, led-passes, led-stops, led-turns, led-ends}
+use Rattle.holdback.proofs.Searching.{Led, led-starts, led-inside, led-next, led-passes, led-stops, led-turns, led-ends}
 use Rattle.holdback.proofs.due.due_prefix.Statement.{statement}
 use Rattle.holdback.proofs.due.due_prefix.Tie as tie
 

@@ -1,6 +1,6 @@
 -- `holdback::origins::repeats` meets its contract: the place of its rank is looked up. Assumes nothing.
 use mathlib.Core.Path.{ap, _∙_}
-use Rattle.timestamp.specs.Views.{setupOf}
+use Rattle.setup.specs.Views.{setupOf}
 use Rattle.lemmas.proofs.Questions.{limits-from}
 use Rattle.model.specs.Frame.{decode}
 use Rattle.holdback.specs.Seen.{hasMark, isMarked}

@@ -1,6 +1,6 @@
 -- `holdback::origins::slot` meets its contract: a station has its row, a reading its place in it. Assumes nothing.
 use mathlib.Core.Path.{refl}
-use Rattle.timestamp.specs.Views.{setupOf}
+use Rattle.setup.specs.Views.{setupOf}
 use Rattle.lemmas.proofs.Questions.{limits-from}
 use Rattle.holdback.proofs.Seen.{rank-below}
 use borrow.Author.Needs.{needs}

@@ -5,24 +5,23 @@ use Prim.Native.Nat.{_-_, _<_}
 use Rattle.model.specs.Frame.{decode}
 use Rattle.model.specs.Order.{before}
 use Rattle.model.specs.Judge.{placeFor}
-use Rattle.timestamp.specs.Views.{setupOf}
+use Rattle.setup.specs.Views.{setupOf}
 use Rattle.lemmas.proofs.Questions.{limits-from}
-use Rattle.holdback.specs.Sound.{Led}
 use Rattle.holdback.specs.Starts.{startPlaces, sumPlace}
 use Rattle.model.specs.Holdback.{passes}
 use mathlib.Core.Path.{_≡_, _∙_}
 use mathlib.Core.Bool.{true}
 use Rattle.lemmas.proofs.Bounds.{Limits}
-use Rattle.frame.proofs.Asking.{counts-part}
 use Rattle.holdback.proofs.RoundTrip.{passing}
-use Rattle.holdback.proofs.Testing.{fits-passes, counts-end, ranked, rank-fits, rank-placed, before-rank}
+use Rattle.holdback.proofs.Frames.{counts-end, counts-decoded}
+use Rattle.holdback.proofs.Testing.{fits-passes, ranked, rank-fits, rank-placed, before-rank}
 use Rattle.holdback.proofs.Started.{place-inside, starts-long, starts-at, start-leads}
-use Rattle.holdback.proofs.Walks.{led-inside, led-next, led-passes, led-stops, led-turns, led-ends}
+use Rattle.holdback.proofs.Searching.{Led, led-inside, led-next, led-passes, led-stops, led-turns, led-ends}
 use Rattle.holdback.proofs.search.place_for.Statement.{statement}
 use Rattle.holdback.proofs.search.place_for.Tie as tie
 
 abbrev Inv-loop : tie.InvT-loop
-Inv-loop s v buf count starts frame epsilon rank kn start i₀ at₀ i at = Led (λ g. before (s .epsilon) (s .modulus) v g (decode (s .epsilon) frame)) (setupOf s) v buf count i at
+Inv-loop s v buf count starts frame epsilon rank kn start i₀ at₀ i at = Led (λ g. before (setupOf s) v g (decode (s .epsilon) frame)) (setupOf s) v buf count i at
 
 abbrev μ-loop : tie.MeasureT-loop
 μ-loop s v buf count starts frame epsilon rank kn start i₀ at₀ i at = count - i
@@ -42,23 +41,10 @@ rank-of-requires c κs =
     let start = c .before .before .before .before in
     (start .pre .0, passing (setupOf (start .args .s)) (start .args .frame .now) (passed start) .r-below)
 
-mul-kn : tie.Need-mul-kn Inv-loop μ-loop
-mul-kn c = search needs
-
-add-kn : tie.Need-add-kn Inv-loop μ-loop
-add-kn c = search needs
-
-sub-kn : tie.Need-sub-kn Inv-loop μ-loop
-sub-kn c = search needs
-
-part-kn-start : tie.Need-part-kn-start Inv-loop μ-loop
-part-kn-start c = search needs
-
-part-kn-end : tie.Need-part-kn-end Inv-loop μ-loop
-part-kn-end c =
+counts-part-requires : tie.Need-counts-part-requires Inv-loop μ-loop
+counts-part-requires c κs =
     let start = c .before .before .before .before .before in
-    let long = counts-end (setupOf (start .args .s)) (start .args .frame .now) (passed start) in
-    omega arith
+    (limits start .epsilon-most, counts-end (start .args .s .epsilon) (start .args .frame .now) (passing (setupOf (start .args .s)) (start .args .frame .now) (passed start) .well))
 
 rank-place-requires : tie.Need-rank-place-requires Inv-loop μ-loop
 rank-place-requires c κs =
@@ -122,15 +108,17 @@ frame-before-requires : tie.Need-frame-before-requires Inv-loop μ-loop
 frame-before-requires c κs =
     let start = c .before .before .before .before .before .before .before .before .before .before .before .before .before in
     let read = c .before .before .before .before .before .before .before .before .rank-of in
+    let counts = counts-decoded (start .args .s .epsilon) (start .args .frame .now) (c .before .before .before .before .before .before .before .counts-part .ensures) in
     let ok = led-passes (c .before .before .before .before .loop .inv) (c .before .before .before .loop-test .taken) (c .before .frame-end .ensures) in
-    (start .pre .0, (ok, ranked (setupOf (start .args .s)) (start .args .v) (start .args .frame .now) _ (read .result) (limits start) (passed start) (counts-part (start .args .s .epsilon) (start .args .frame .now)) (read .ensures)))
+    (start .pre .0, (ok, ranked (setupOf (start .args .s)) (start .args .v) (start .args .frame .now) _ (read .result) (limits start) (passed start) counts (read .ensures)))
 
 returns : tie.Need-returns Inv-loop μ-loop
 unfolding placeFor
 returns c =
     let start = c .before .before .before .before .before .before .before .before .before .before .before .before .before .before .before in
     let read = c .before .before .before .before .before .before .before .before .before .before .rank-of in
-    let tested = before-rank (setupOf (start .args .s)) (start .args .v) _ (decode (start .args .s .epsilon) (start .args .frame .now)) (read .result) _ (read .ensures) (counts-part (start .args .s .epsilon) (start .args .frame .now)) (c .before .frame-before .ensures) in
+    let counts = counts-decoded (start .args .s .epsilon) (start .args .frame .now) (c .before .before .before .before .before .before .before .before .before .counts-part .ensures) in
+    let tested = before-rank (setupOf (start .args .s)) (start .args .v) _ (decode (start .args .s .epsilon) (start .args .frame .now)) (read .result) _ (read .ensures) counts (c .before .frame-before .ensures) in
     led-stops (c .before .before .before .before .before .before .loop .inv) (c .before .before .before .before .before .loop-test .taken) (c .before .before .before .frame-end .ensures) tested (c .if1 .taken)
 
 add-i : tie.Need-add-i Inv-loop μ-loop
@@ -143,7 +131,8 @@ loop-again : tie.Need-loop-again Inv-loop μ-loop
 loop-again c =
     let start = c .before .before .before .before .before .before .before .before .before .before .before .before .before .before .before in
     let read = c .before .before .before .before .before .before .before .before .before .before .rank-of in
-    let tested = before-rank (setupOf (start .args .s)) (start .args .v) _ (decode (start .args .s .epsilon) (start .args .frame .now)) (read .result) _ (read .ensures) (counts-part (start .args .s .epsilon) (start .args .frame .now)) (c .before .frame-before .ensures) in
+    let counts = counts-decoded (start .args .s .epsilon) (start .args .frame .now) (c .before .before .before .before .before .before .before .before .before .counts-part .ensures) in
+    let tested = before-rank (setupOf (start .args .s)) (start .args .v) _ (decode (start .args .s .epsilon) (start .args .frame .now)) (read .result) _ (read .ensures) counts (c .before .frame-before .ensures) in
     led-turns (c .before .before .before .before .before .before .loop .inv) (c .before .before .before .before .before .loop-test .taken) (c .before .before .before .frame-end .ensures) tested (c .if1 .left)
 
 returns-2 : tie.Need-returns-2 Inv-loop μ-loop
@@ -158,11 +147,7 @@ place-for-spec =
     μ-loop
     cast-epsilon
     rank-of-requires
-    mul-kn
-    add-kn
-    sub-kn
-    part-kn-start
-    part-kn-end
+    counts-part-requires
     rank-place-requires
     mul-start
     shared-slice-read-start

@@ -4,10 +4,10 @@ use Rattle.model.specs.Setup.{depth}
 use Rattle.model.specs.Frame.{twoAt}
 use native.Mathlib.Omega.{arith}
 use mathlib.Core.Path.{_∙_}
-use Rattle.timestamp.specs.Views.{setupOf}
+use Rattle.setup.specs.Views.{setupOf}
 use Rattle.lemmas.proofs.Questions.{limits-from}
 use Rattle.holdback.proofs.Seen.{seen-none}
-use Rattle.holdback.proofs.Walks.{opened-no, too-many}
+use Rattle.holdback.proofs.Walks.{walked-no, too-many}
 use borrow.Author.Needs.{needs}
 use Rattle.holdback.proofs.soundness.sound.Statement.{statement}
 use Rattle.holdback.proofs.soundness.sound.Tie as tie
@@ -37,7 +37,7 @@ returns : tie.Need-returns
 returns c =
     let start = c .before .before .before .before .before .before .before .before .before .before in
     let many : depth (start .args .s .n) (start .args .s .epsilon) (start .args .s .delta) < twoAt (start .args .buf .now) 0 = omega (arith, c .before .before .before .before .before .before .two-at .ensures, c .before .before .depth .ensures, c .before .if1 .taken) in
-    opened-no (c .emptied .ensures) (too-many (setupOf (start .args .s)) (start .args .v) (start .args .buf .now) many) (start .pre .1 .1 .0 ∙ seen-none (setupOf (start .args .s)) (start .args .v)) (start .pre .1 .1 .1)
+    walked-no (c .emptied .ensures) (too-many (setupOf (start .args .s)) (start .args .v) (start .args .buf .now) many) (start .pre .1 .1 .0 ∙ seen-none (setupOf (start .args .s)) (start .args .v)) (start .pre .1 .1 .1)
 
 walk-frames-requires : tie.Need-walk-frames-requires
 walk-frames-requires c κs =
@@ -45,7 +45,7 @@ walk-frames-requires c κs =
       start .pre .0,
       record {
         two = start .pre .1 .0;
-        counted = c .before .before .before .before .before .before .before .two-at .ensures;
+        count-is = c .before .before .before .before .before .before .before .two-at .ensures;
         few = omega (arith, c .before .before .before .depth .ensures, c .before .before .if1 .left);
         empty = start .pre .1 .1 .0 ∙ seen-none (setupOf (start .args .s)) (start .args .v);
         all-front = start .pre .1 .1 .1;

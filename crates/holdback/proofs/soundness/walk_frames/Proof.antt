@@ -1,7 +1,7 @@
 -- `holdback::soundness::walk_frames` meets its contract. The invariant of the loop: the frames so far are sound, the table of origins has theirs, and the table of starts, for sums up to theirs, where those start. The measure is what is left of the count. Assumes nothing.
 use native.Mathlib.Omega.{arith}
 use borrow.Author.Needs.{needs}
-use Rattle.timestamp.specs.Views.{setupOf}
+use Rattle.setup.specs.Views.{setupOf}
 use mathlib.Core.Path.{_≡_, ap, sym, _∙_}
 use Prim.Native.Nat.{ℕ, _-_, _≤_, _<_}
 use mathlib.Core.List.{List}
@@ -14,7 +14,7 @@ use Rattle.holdback.specs.Sound.{Walking}
 use Rattle.holdback.specs.Starts.{startUnit, startPlaces, front}
 use Rattle.holdback.proofs.Seen.{seen-cleared}
 use Rattle.holdback.proofs.Started.{all-front}
-use Rattle.holdback.proofs.Walks.{walk-starts, starting-long, table-long, at-low-enough, Right, judged-bad, judged-good, walk-fails, opened-no, opened-yes, judged-within, judged-timely, judged-place, walk-turns, Filling, filling-starts, filling-turns, filling-ends}
+use Rattle.holdback.proofs.Walks.{walk-starts, starting-long, table-long, at-low-enough, Right, judged-bad, judged-good, walk-fails, walked-no, walked-yes, judged-within, judged-timely, judged-place, walk-turns, Filling, filling-starts, filling-turns, filling-ends}
 use Rattle.holdback.proofs.soundness.walk_frames.Statement.{statement}
 use Rattle.holdback.proofs.soundness.walk_frames.Tie as tie
 
@@ -67,8 +67,8 @@ returns c =
     let b = start .args .buf .now in
     let loop = c .before .before .before .before .before .before .before .before .before .before .before .before .before .loop in
     let judged = c .before .before .before .before .before .before .before .before .before .before .judge-at in
-    let l : loop .i < twoAt b 0 = omega (arith, c .before .before .before .before .before .before .before .before .before .before .before .before .loop-test .taken, start .pre .1 .counted) in
-    opened-no (c .emptied .ensures)
+    let l : loop .i < twoAt b 0 = omega (arith, c .before .before .before .before .before .before .before .before .before .before .before .before .loop-test .taken, start .pre .1 .count-is) in
+    walked-no (c .emptied .ensures)
     (walk-fails (setupOf (start .args .s)) (start .args .v) b (loop .i) l
     (judged-bad (setupOf (start .args .s)) (start .args .v) b (loop .i) (judged .result) (judged .ensures) (c .before .before .before .before .before .before .before .before .before .if1 .taken)))
     (seen-cleared (setupOf (start .args .s)) (start .args .v) (loop .seen) _ (length (start .args .seen .now)) (table-long (loop .inv .0)) (sym (seen-same (c .before .before .before .before .before .before .before .before .before .before .before .before .before))) (c .before .before .before .before .before .before .before .clear .ensures))
@@ -138,7 +138,7 @@ loop-again c =
     let more = c .before .before .before .before .before .before .before .before .before .before .before .before .before .loop-test .taken in (
       walk-turns (walk at) (right at) _ (c .before .before .before .before .before .before .before .set-mark .ensures),
       (
-        filling-turns (walk at) (right at) (loop .inv .1 .0) (omega (arith, more, start at .pre .1 .counted)) (c .before .before .before .before .rank-place .ensures) (c .before .before .fill2 .ensures),
+        filling-turns (walk at) (right at) (loop .inv .1 .0) (omega (arith, more, start at .pre .1 .count-is)) (c .before .before .before .before .rank-place .ensures) (c .before .before .fill2 .ensures),
         omega (arith, more),
       ),
     )
@@ -166,7 +166,7 @@ returns-2 c =
     let loop = c .before .before .before .before .before .loop in
     let start = c .before .before .before .before .before .before .before .before .before .before in
     let left = c .before .before .before .before .loop-test .left in
-    opened-yes (start .pre .1) (loop .inv .0) (filling-ends (loop .inv .0) (loop .inv .1 .0) (start .pre .1 .counted) (loop .inv .1 .1) left (c .before .before .fill3 .ensures)) (loop .inv .1 .1) left
+    walked-yes (start .pre .1) (loop .inv .0) (filling-ends (loop .inv .0) (loop .inv .1 .0) (start .pre .1 .count-is) (loop .inv .1 .1) left (c .before .before .fill3 .ensures)) (loop .inv .1 .1) left
 
 pub walk-frames-spec : {M : Type 1} → statement M
 walk-frames-spec =

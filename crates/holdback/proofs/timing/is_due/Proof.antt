@@ -1,5 +1,5 @@
 -- `holdback::timing::is_due` meets its contract: the due clock reads B. Assumes nothing.
-use Rattle.timestamp.specs.Views.{setupOf}
+use Rattle.setup.specs.Views.{setupOf}
 use Rattle.model.specs.Frame.{decode}
 use Rattle.holdback.proofs.Testing.{due-tested}
 use borrow.Author.Needs.{needs}

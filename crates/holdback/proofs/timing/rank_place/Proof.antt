@@ -1,5 +1,5 @@
 -- `holdback::timing::rank_place` meets its contract: the due clock is not before v. Assumes nothing.
-use Rattle.timestamp.specs.Views.{setupOf}
+use Rattle.setup.specs.Views.{setupOf}
 use Rattle.model.specs.Timestamp.{sum}
 use Rattle.model.specs.Order.{due}
 use Rattle.holdback.specs.Starts.{rankPlace}

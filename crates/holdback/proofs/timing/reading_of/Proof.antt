@@ -1,10 +1,10 @@
 -- `holdback::timing::reading_of` meets its contract: a reading is `near` at the r that the frame has. Assumes nothing.
 use native.Mathlib.Omega.{arith}
 use mathlib.Core.Path.{ap, _∙_}
-use Rattle.timestamp.specs.Views.{setupOf}
+use Rattle.setup.specs.Views.{setupOf}
 use Rattle.lemmas.proofs.Questions.{limits-from}
 use Rattle.model.specs.Timestamp.{near}
-use Rattle.model.specs.Judge.{readingOf}
+use Rattle.model.specs.Order.{readingOf}
 use borrow.Author.Needs.{needs}
 use Rattle.holdback.proofs.timing.reading_of.Statement.{statement}
 use Rattle.holdback.proofs.timing.reading_of.Tie as tie

@@ -1,6 +1,6 @@
 -- `holdback::timing::sum_of` meets its contract: a reading and c, both bounded. Assumes nothing.
 use native.Mathlib.Omega.{arith}
-use Rattle.timestamp.specs.Views.{setupOf}
+use Rattle.setup.specs.Views.{setupOf}
 use Rattle.lemmas.proofs.Questions.{limits-from}
 use Rattle.holdback.proofs.RoundTrip.{passing}
 use Rattle.holdback.proofs.Testing.{summed}

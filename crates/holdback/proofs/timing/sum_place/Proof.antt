@@ -1,5 +1,5 @@
 -- `holdback::timing::sum_place` meets its contract: the place of its rank. Assumes nothing.
-use Rattle.timestamp.specs.Views.{setupOf}
+use Rattle.setup.specs.Views.{setupOf}
 use Rattle.model.specs.Frame.{decode}
 use mathlib.Core.Path.{_∙_}
 use Rattle.lemmas.proofs.Questions.{limits-from}

@@ -1,5 +1,5 @@
 -- `holdback::timing::timely` meets its contract: the two tests one after the other. Assumes nothing.
-use Rattle.timestamp.specs.Views.{setupOf}
+use Rattle.setup.specs.Views.{setupOf}
 use Rattle.holdback.proofs.Testing.{untimely, timely-rest}
 use borrow.Author.Needs.{needs}
 use Rattle.holdback.proofs.timing.timely.Statement.{statement}

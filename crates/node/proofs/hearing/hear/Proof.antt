@@ -6,7 +6,9 @@ use mathlib.Core.List.{List}
 use denote.Enum.Declared
 use lib.ListN.{length, take, drop}
 use borrow.Author.Needs.{needs}
+use Rattle.model.specs.Setup.{verdictLength}
 use Rattle.model.specs.Holdback.{held}
+use Rattle.model.specs.Judge.{judge, judgeQuestions, refused, verdictNumber}
 use Rattle.lemmas.proofs.Bounds.{Limits}
 use Rattle.lemmas.proofs.Questions.{limits-from}
 use Rattle.holdback.proofs.Seen.{length-seen}
@@ -14,24 +16,28 @@ use Rattle.holdback.proofs.Started.{starts-long}
 use Rattle.batch.specs.Walk.{countOf, entryAt, nextAt}
 use Rattle.batch.specs.declared.Step.{Step}
 use Rattle.batch.proofs.Walk.{step-ordered, step-within, step-next, step-entry}
-use Rattle.timestamp.specs.Views.{setupOf, stampOf}
+use Rattle.setup.specs.Views.{setupOf}
+use Rattle.timestamp.specs.Views.{stampOf}
 use Rattle.node.specs.Views.{verdictOf}
-use Rattle.node.specs.States.{Taking, Placing}
-use Rattle.node.proofs.Verdicts.{Tags, is-refused}
-use Rattle.node.proofs.Places.{size-small, fits}
-use Rattle.node.proofs.Turns.{Turning, turning-start, turn-refused, turn-taken, turning-end}
+use Rattle.node.specs.States.{Taking, heardAll}
+use Rattle.node.proofs.Verdicts.{Tags, is-refused, refused-number, taken-readable}
+use Rattle.node.proofs.Places.{size-small, known, fits}
+use Rattle.node.proofs.StampTurns.{StampTurning, stamp-start, stamp-refused, stamp-taken, stamp-end}
+use Rattle.node.proofs.Turns.{QueueTurning, queue-start, queue-refused, queue-taken, written-last, queue-end}
 use Rattle.node.proofs.hearing.hear.Statement.{statement}
 use Rattle.node.proofs.hearing.hear.Tie as tie
 
 abbrev tags : Tags
 tags = record { tag = Declared.tagOf Rattle.node.proofs.verdict.Verdict.the-type; at-taken = λ place. refl; at-refused = λ number. refl }
 
+-- the two halves: what goes on the queue, and what goes into the stamp
 abbrev Inv-loop : tie.InvT-loop
-Inv-loop setup clock batch end holdback₀ seen₀ starts₀ verdicts₀ count own₀ taken₀ stop₀ at₀ i₀ holdback seen starts verdicts own took stop at i =
-    Turning (setupOf setup) clock (stampOf own₀) batch holdback₀ verdicts₀ (stampOf own) took stop at i holdback seen starts verdicts
+Inv-loop setup clock batch count end holdback₀ seen₀ starts₀ verdicts₀ entries absorbed₀ taken₀ held₀ stop₀ at₀ i₀ holdback seen starts verdicts absorbed took kept stop at i =
+    QueueTurning (setupOf setup) clock batch holdback₀ verdicts₀ took kept stop at i holdback seen starts verdicts
+    × StampTurning (setupOf setup) clock (stampOf absorbed₀) batch (heardAll (setupOf setup) clock batch holdback₀ .verdicts) (stampOf absorbed) at i
 
 abbrev μ-loop : tie.MeasureT-loop
-μ-loop setup clock batch end holdback₀ seen₀ starts₀ verdicts₀ count own₀ taken₀ stop₀ at₀ i₀ holdback seen starts verdicts own took stop at i = count - i
+μ-loop setup clock batch count end holdback₀ seen₀ starts₀ verdicts₀ entries absorbed₀ taken₀ held₀ stop₀ at₀ i₀ holdback seen starts verdicts absorbed took kept stop at i = entries - i
 
 limits : (c : tie.Start Inv-loop μ-loop) → Limits (setupOf (c .args .setup))
 limits c = limits-from (setupOf (c .args .setup)) (c .pre .0 .limits)
@@ -40,15 +46,21 @@ count-of-requires : tie.Need-count-of-requires Inv-loop μ-loop
 count-of-requires c κs = search needs
 
 loop-holds : tie.Need-loop-holds Inv-loop μ-loop
-loop-holds c = let start = c .before .before .before .before .before .before in turning-start (λ i. omega (arith, c .before .before .before .before .slice-known .given i)) (start .pre .1 .1 .1) (start .pre .1 .0) (start .pre .1 .1 .0)
+loop-holds c =
+    let asked = c .before .before .before .before .before .before .pre .1 in
+    let listening = asked .1 .1 in
+    (queue-start (λ i. omega (arith, c .before .before .before .before .slice-known .given i)) (listening .exact) (asked .0) (asked .1 .0), stamp-start (listening .narrow) (listening .exact))
 
 -- so many entries have a place for their verdict
-few : (c : tie.After-count-of Inv-loop μ-loop) → (countOf (c .before .before .before .before .before .before .args .batch .now) ≤ 255) × (countOf (c .before .before .before .before .before .before .args .batch .now) ≤ length (c .before .before .before .before .before .before .args .verdicts .now))
+few : (c : tie.After-count-of Inv-loop μ-loop) → (countOf (c .before .before .before .before .before .before .args .batch .now) ≤ verdictLength) × (countOf (c .before .before .before .before .before .before .args .batch .now) ≤ length (c .before .before .before .before .before .before .args .verdicts .now))
 unfolding countOf
 few c = omega (arith, c .before .before .before .before .before .shared-slice-known .given 0, c .before .before .before .before .before .before .pre .1 .1 .1 .room)
 
 more : (c : tie.In-loop Inv-loop μ-loop) → c .before .loop .i < countOf (c .before .before .before .before .before .before .before .before .args .batch .now)
 more c = omega (arith, c .before .before .count-of .ensures)
+
+inside : (c : tie.In-loop Inv-loop μ-loop) → c .before .loop .i < length (c .before .loop .verdicts)
+inside c = omega (arith, few (c .before .before), more c, c .before .loop .inv .0 .long)
 
 walk-step-requires : tie.Need-walk-step-requires Inv-loop μ-loop
 walk-step-requires c κs = search needs
@@ -73,7 +85,10 @@ module _ (c : tie.After-walk-step Inv-loop μ-loop) where
   next : step .end ≡ nextAt batch place
   next = step-next batch place step (c .walk-step .ensures)
 
-  entry : take (step .end - step .start) (drop (step .start) batch) ≡ entryAt batch place
+  abbrev bytes : List ℕ
+  bytes = take (step .end - step .start) (drop (step .start) batch)
+
+  entry : bytes ≡ entryAt batch place
   entry = step-entry batch place step (c .walk-step .ensures)
 
 sub-s : tie.Need-sub-s Inv-loop μ-loop
@@ -86,7 +101,7 @@ part-s-end : tie.Need-part-s-end Inv-loop μ-loop
 part-s-end c = omega (arith, ordered c, within c)
 
 judge-requires : tie.Need-judge-requires Inv-loop μ-loop
-judge-requires c κs = (c .before .before .before .before .before .before .before .before .before .before .before .before .before .pre .0, c .before .before .before .before .before .before .loop .inv .queued)
+judge-requires c κs = let queue = c .before .before .before .before .before .before .loop .inv .0 in (c .before .before .before .before .before .before .before .before .before .before .before .before .before .pre .0, (queue .queued, queue .extent .count-is))
 
 enum-known-verdict : tie.Need-enum-known-verdict Inv-loop μ-loop
 enum-known-verdict c = search needs
@@ -98,7 +113,7 @@ number-of-requires : tie.Need-number-of-requires Inv-loop μ-loop
 number-of-requires c κs = search needs
 
 slice-write-verdicts : tie.Need-slice-write-verdicts Inv-loop μ-loop
-slice-write-verdicts c = omega (arith, few (c .before .before .before .before .before .before .before .before .before .before .before), more (c .before .before .before .before .before .before .before .before .before), c .before .before .before .before .before .before .before .before .before .before .loop .inv .long)
+slice-write-verdicts c = inside (c .before .before .before .before .before .before .before .before .before)
 
 add-i : tie.Need-add-i Inv-loop μ-loop
 add-i c = omega (arith, few (c .before .before .before .before .before .before .before .before .before .before .before), more (c .before .before .before .before .before .before .before .before .before))
@@ -106,71 +121,95 @@ add-i c = omega (arith, few (c .before .before .before .before .before .before .
 loop-less : tie.Need-loop-less Inv-loop μ-loop
 loop-less c = omega arith
 
+-- a refused frame
+module _ (c : tie.After-number-of Inv-loop μ-loop) where
+  abbrev number : ℕ
+  number = verdictNumber (verdictOf (c .before .before .before .judge .result))
+
+  no : judge (setupOf (c .before .before .before .before .before .before .before .before .before .before .before .before .before .before .before .before .before .args .setup)) (c .before .before .before .before .before .before .before .before .before .before .before .before .before .before .before .before .before .args .clock) (judgeQuestions (setupOf (c .before .before .before .before .before .before .before .before .before .before .before .before .before .before .before .before .before .args .setup)) (c .before .before .before .before .before .before .before .before .before .before .before .before .before .before .before .before .before .args .clock)) (held (c .before .before .before .before .before .before .before .before .before .before .before .before .before .before .before .before .before .args .setup .epsilon) (c .before .before .before .before .before .before .before .before .before .before .loop .holdback)) (bytes (c .before .before .before .before .before .before .before .before)) ≡ refused number
+  no = sym (c .before .before .before .judge .ensures .0) ∙ is-refused tags (c .before .before .before .judge .result) (c .before .before .match .keys2)
+
+  no-zero : c .number-of .result ≡ 0 → ⊥
+  no-zero z = refused-number (setupOf (c .before .before .before .before .before .before .before .before .before .before .before .before .before .before .before .before .before .args .setup)) (c .before .before .before .before .before .before .before .before .before .before .before .before .before .before .before .before .before .args .clock) (held (c .before .before .before .before .before .before .before .before .before .before .before .before .before .before .before .before .before .args .setup .epsilon) (c .before .before .before .before .before .before .before .before .before .before .loop .holdback)) (bytes (c .before .before .before .before .before .before .before .before)) number no (sym (c .number-of .ensures) ∙ z)
+
 loop-again : tie.Need-loop-again Inv-loop μ-loop
 loop-again c =
-    turn-refused (c .before .before .before .before .before .before .before .before .before .before .loop .inv) (more (c .before .before .before .before .before .before .before .before .before)) (few (c .before .before .before .before .before .before .before .before .before .before .before) .1) (entry (c .before .before .before .before .before .before .before .before)) (next (c .before .before .before .before .before .before .before .before)) (sym (c .before .before .before .judge .ensures .0) ∙ is-refused tags (c .before .before .before .judge .result) (c .before .before .match .keys2)) (c .number-of .ensures)
+    let now = c .before .before .before .before .before .before .before .before .before .before .loop in
+    let queue = queue-refused (now .inv .0) (more (c .before .before .before .before .before .before .before .before .before)) (few (c .before .before .before .before .before .before .before .before .before .before .before) .1) (entry (c .before .before .before .before .before .before .before .before)) (next (c .before .before .before .before .before .before .before .before)) (no c) (c .number-of .ensures) in
+    (queue, stamp-refused (now .inv .1) (more (c .before .before .before .before .before .before .before .before .before)) (entry (c .before .before .before .before .before .before .before .before)) (next (c .before .before .before .before .before .before .before .before)) (written-last (now .verdicts) (now .i) (c .number-of .result) queue (inside (c .before .before .before .before .before .before .before .before .before))) (no-zero c))
 
 -- what taking it asks
 module _ (c : tie.After-known-told Inv-loop μ-loop) where
-  abbrev bytes : List ℕ
-  bytes = take (c .before .before .before .before .before .before .before .before .walk-step .result .end - c .before .before .before .before .before .before .before .before .walk-step .result .start) (drop (c .before .before .before .before .before .before .before .before .walk-step .result .start) (c .before .before .before .before .before .before .before .before .before .before .before .before .before .before .before .before .before .args .batch .now))
-
-  taking : Taking (setupOf (c .before .before .before .before .before .before .before .before .before .before .before .before .before .before .before .before .before .args .setup)) (c .before .before .before .before .before .before .before .before .before .before .before .before .before .before .before .before .before .args .clock) (c .before .before .before .before .before .before .before .before .before .before .loop .holdback) (c .before .verdict .given .0 .0 .index) bytes
+  taking : Taking (setupOf (c .before .before .before .before .before .before .before .before .before .before .before .before .before .before .before .before .before .args .setup)) (c .before .before .before .before .before .before .before .before .before .before .before .before .before .before .before .before .before .args .clock) (c .before .before .before .before .before .before .before .before .before .before .loop .holdback) (c .before .verdict .given .0 .0 .index) (c .before .verdict .given .0 .0 .at) (bytes (c .before .before .before .before .before .before .before .before))
   taking =
       record {
         timed = c .before .before .before .before .before .before .before .before .before .before .before .before .before .before .before .before .before .pre .0;
-        size = c .before .before .before .before .before .before .before .before .before .before .loop .inv .queued .size;
-        sound = c .before .before .before .before .before .before .before .before .before .before .loop .inv .queued .sound;
+        size = c .before .before .before .before .before .before .before .before .before .before .loop .inv .0 .queued .size;
+        sound = c .before .before .before .before .before .before .before .before .before .before .loop .inv .0 .queued .sound;
         judged = sym (c .before .before .before .judge .ensures .0) ∙ ap verdictOf (c .before .verdict .given .1);
+        starts = c .before .before .before .judge .ensures .1 .stands (c .before .verdict .given .0 .0) (c .before .verdict .given .1);
       }
 
-  placing : Placing (c .before .before .before .before .before .before .before .before .before .before .before .before .before .before .before .before .before .args .setup .epsilon) (c .before .before .before .before .before .before .before .before .before .before .loop .holdback) (c .before .verdict .given .0 .0 .index) (c .before .verdict .given .0 .0 .at) (c .before .before .before .before .before .before .before .before .before .before .loop .stop)
-  placing = record { starts = c .before .before .before .judge .ensures .1 .stands (c .before .verdict .given .0 .0) (c .before .verdict .given .1); ends = c .before .before .before .before .before .before .before .before .before .before .loop .inv .ends }
+enqueue-requires : tie.Need-enqueue-requires Inv-loop μ-loop
+enqueue-requires c κs = let queue = c .before .before .before .before .before .before .before .before .before .before .before .before .before .loop .inv .0 in (taking (c .before .before .before), (queue .queued, queue .extent))
 
-take-requires : tie.Need-take-requires Inv-loop μ-loop
-take-requires c κs = (taking (c .before .before .before), (placing (c .before .before .before), c .before .before .before .before .before .before .before .before .before .before .before .before .before .loop .inv .queued))
+absorb-frame-requires : tie.Need-absorb-frame-requires Inv-loop μ-loop
+absorb-frame-requires c κs =
+    let start = c .before .before .before .before .before .before .before .before .before .before .before .before .before .before .before .before .before .before .before .before .before .before .before .before .before .before .before in
+    let taken = taking (c .before .before .before .before .before .before .before .before .before .before) in
+    taken-readable (setupOf (start .args .setup)) (start .args .clock) (held (start .args .setup .epsilon) (c .before .before .before .before .before .before .before .before .before .before .before .before .before .before .before .before .before .before .before .before .loop .holdback)) (bytes (c .before .before .before .before .before .before .before .before .before .before .before .before .before .before .before .before .before .before)) (c .before .before .before .before .before .before .before .before .before .before .before .verdict .given .0 .0 .index) (taken .timed) (taken .judged)
+
+add-held : tie.Need-add-held Inv-loop μ-loop
+add-held c = omega (arith, known (taking (c .before .before .before .before .before .before .before .before .before .before .before)) .few, c .before .before .before .before .before .before .before .before .before .before .before .before .before .before .before .before .before .before .before .before .before .loop .inv .0 .extent .count-is)
 
 add-stop : tie.Need-add-stop Inv-loop μ-loop
-add-stop c = omega (arith, fits (taking (c .before .before .before .before .before .before .before .before .before .before)), c .before .before .before .before .before .before .before .before .before .before .before .before .before .before .before .before .before .before .before .before .loop .inv .ends, c .before .before .before .before .before .before .before .before .before .before .before .before .before .before .before .before .before .before .before .before .loop .inv .queued .size, size-small (setupOf (c .before .before .before .before .before .before .before .before .before .before .before .before .before .before .before .before .before .before .before .before .before .before .before .before .before .before .before .args .setup)) (limits (c .before .before .before .before .before .before .before .before .before .before .before .before .before .before .before .before .before .before .before .before .before .before .before .before .before .before .before)))
+add-stop c =
+    let start = c .before .before .before .before .before .before .before .before .before .before .before .before .before .before .before .before .before .before .before .before .before .before .before .before .before .before .before .before in
+    let queue = c .before .before .before .before .before .before .before .before .before .before .before .before .before .before .before .before .before .before .before .before .before .loop .inv .0 in
+    omega (arith, fits (taking (c .before .before .before .before .before .before .before .before .before .before .before)), queue .extent .ends, queue .queued .size, size-small (setupOf (start .args .setup)) (limits start))
 
 slice-write-verdicts-2 : tie.Need-slice-write-verdicts-2 Inv-loop μ-loop
-slice-write-verdicts-2 c = omega (arith, few (c .before .before .before .before .before .before .before .before .before .before .before .before .before .before .before .before .before .before .before .before .before), more (c .before .before .before .before .before .before .before .before .before .before .before .before .before .before .before .before .before .before .before), c .before .before .before .before .before .before .before .before .before .before .before .before .before .before .before .before .before .before .before .before .loop .inv .long)
+slice-write-verdicts-2 c = inside (c .before .before .before .before .before .before .before .before .before .before .before .before .before .before .before .before .before .before .before .before)
 
 add-taken : tie.Need-add-taken Inv-loop μ-loop
-add-taken c = omega (arith, few (c .before .before .before .before .before .before .before .before .before .before .before .before .before .before .before .before .before .before .before .before .before), more (c .before .before .before .before .before .before .before .before .before .before .before .before .before .before .before .before .before .before .before), c .before .before .before .before .before .before .before .before .before .before .before .before .before .before .before .before .before .before .before .before .loop .inv .few)
+add-taken c = omega (arith, few (c .before .before .before .before .before .before .before .before .before .before .before .before .before .before .before .before .before .before .before .before .before .before), more (c .before .before .before .before .before .before .before .before .before .before .before .before .before .before .before .before .before .before .before .before), c .before .before .before .before .before .before .before .before .before .before .before .before .before .before .before .before .before .before .before .before .before .loop .inv .0 .few)
 
 add-i-2 : tie.Need-add-i-2 Inv-loop μ-loop
-add-i-2 c = omega (arith, few (c .before .before .before .before .before .before .before .before .before .before .before .before .before .before .before .before .before .before .before .before .before), more (c .before .before .before .before .before .before .before .before .before .before .before .before .before .before .before .before .before .before .before))
+add-i-2 c = omega (arith, few (c .before .before .before .before .before .before .before .before .before .before .before .before .before .before .before .before .before .before .before .before .before .before), more (c .before .before .before .before .before .before .before .before .before .before .before .before .before .before .before .before .before .before .before .before))
 
 loop-less-2 : tie.Need-loop-less-2 Inv-loop μ-loop
-loop-less-2 c = omega (arith, c .before .before .before .before .before .before .before .before .before .before .before .before .before .before .before .before .before .before .before .loop-test .taken)
+loop-less-2 c = omega (arith, c .before .before .before .before .before .before .before .before .before .before .before .before .before .before .before .before .before .before .before .before .loop-test .taken)
 
 loop-again-2 : tie.Need-loop-again-2 Inv-loop μ-loop
 loop-again-2 c =
-    let start = c .before .before .before .before .before .before .before .before .before .before .before .before .before .before .before .before .before .before .before .before .before .before .before .before .before .before .before in
-    turn-taken (c .before .before .before .before .before .before .before .before .before .before .before .before .before .before .before .before .before .before .before .before .loop .inv) (more (c .before .before .before .before .before .before .before .before .before .before .before .before .before .before .before .before .before .before .before)) (few (c .before .before .before .before .before .before .before .before .before .before .before .before .before .before .before .before .before .before .before .before .before) .1) (entry (c .before .before .before .before .before .before .before .before .before .before .before .before .before .before .before .before .before .before)) (next (c .before .before .before .before .before .before .before .before .before .before .before .before .before .before .before .before .before .before)) (limits start .epsilon-most) (taking (c .before .before .before .before .before .before .before .before .before .before) .judged) (c .before .before .before .before .before .before .take .ensures)
+    let now = c .before .before .before .before .before .before .before .before .before .before .before .before .before .before .before .before .before .before .before .before .before .loop in
+    let queue = queue-taken (now .inv .0) (more (c .before .before .before .before .before .before .before .before .before .before .before .before .before .before .before .before .before .before .before .before)) (few (c .before .before .before .before .before .before .before .before .before .before .before .before .before .before .before .before .before .before .before .before .before .before) .1) (entry (c .before .before .before .before .before .before .before .before .before .before .before .before .before .before .before .before .before .before .before)) (next (c .before .before .before .before .before .before .before .before .before .before .before .before .before .before .before .before .before .before .before)) (taking (c .before .before .before .before .before .before .before .before .before .before .before) .judged) (c .before .before .before .before .before .before .before .enqueue .ensures) in
+    (queue, stamp-taken (now .inv .1) (more (c .before .before .before .before .before .before .before .before .before .before .before .before .before .before .before .before .before .before .before .before)) (entry (c .before .before .before .before .before .before .before .before .before .before .before .before .before .before .before .before .before .before .before)) (next (c .before .before .before .before .before .before .before .before .before .before .before .before .before .before .before .before .before .before .before)) (written-last (now .verdicts) (now .i) 0 queue (inside (c .before .before .before .before .before .before .before .before .before .before .before .before .before .before .before .before .before .before .before .before))) (limits (c .before .before .before .before .before .before .before .before .before .before .before .before .before .before .before .before .before .before .before .before .before .before .before .before .before .before .before .before) .epsilon-most) refl (c .absorb-frame .ensures))
 
 same-length : tie.Need-same-length Inv-loop μ-loop
-same-length c = c .before .loop .inv .queued .size ∙ sym (c .before .before .before .before .before .before .before .before .pre .1 .0 .size)
+same-length c = c .before .loop .inv .0 .queued .size ∙ sym (c .before .before .before .before .before .before .before .before .pre .1 .0 .size)
 
 same-length-2 : tie.Need-same-length-2 Inv-loop μ-loop
 same-length-2 c =
     let start = c .before .before .before .before .before .before .before .before in
-    (ap length (c .before .loop .inv .queued .table-is) ∙ length-seen (setupOf (start .args .setup)) (start .args .clock) (held (start .args .setup .epsilon) (c .before .loop .holdback)))
+    (ap length (c .before .loop .inv .0 .queued .table-is) ∙ length-seen (setupOf (start .args .setup)) (start .args .clock) (held (start .args .setup .epsilon) (c .before .loop .holdback)))
     ∙ sym (ap length (start .pre .1 .0 .table-is) ∙ length-seen (setupOf (start .args .setup)) (start .args .clock) (held (start .args .setup .epsilon) (start .args .holdback .now)))
 
 same-length-3 : tie.Need-same-length-3 Inv-loop μ-loop
 same-length-3 c =
     let start = c .before .before .before .before .before .before .before .before in
     let s = setupOf (start .args .setup) in
-    starts-long s (start .args .clock) (c .before .loop .holdback) (c .before .loop .inv .queued .starts-is)
+    starts-long s (start .args .clock) (c .before .loop .holdback) (c .before .loop .inv .0 .queued .starts-is)
     ∙ sym (starts-long s (start .args .clock) (start .args .holdback .now) (start .pre .1 .0 .starts-is))
 
 same-length-4 : tie.Need-same-length-4 Inv-loop μ-loop
-same-length-4 c = c .before .loop .inv .long
+same-length-4 c = c .before .loop .inv .0 .long
 
 returns : tie.Need-returns Inv-loop μ-loop
-returns c = turning-end (c .before .loop .inv) (omega (arith, c .before .before .count-of .ensures)) (few (c .before .before) .1)
+returns c =
+    let inv = c .before .loop .inv in
+    let done : countOf (c .before .before .before .before .before .before .before .before .args .batch .now) ≤ c .before .loop .i = omega (arith, c .before .before .count-of .ensures) in
+    (queue-end (inv .0) done (few (c .before .before) .1), record { stamp = stamp-end (inv .1) done })
 
 pub hear-spec : {M : Type 1} → statement M
 hear-spec =
@@ -192,7 +231,9 @@ hear-spec =
     add-i
     loop-less
     loop-again
-    take-requires
+    enqueue-requires
+    absorb-frame-requires
+    add-held
     add-stop
     slice-write-verdicts-2
     add-taken

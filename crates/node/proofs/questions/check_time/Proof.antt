@@ -2,13 +2,12 @@
 use Prim.Native.Nat.{_+_, _-_, _≤_, _<_}
 use native.Mathlib.Omega.{arith}
 use mathlib.Core.Path.{_≡_, _∙_, sym, ap}
-use lib.ListN.{drop}
 use borrow.Author.Tests.{not-true, not-false}
 use borrow.Author.Needs.{needs}
-use Rattle.model.specs.Timestamp.{near, atMost}
+use Rattle.model.specs.Timestamp.{countsFrom, atMost}
+use Rattle.model.specs.Order.{readingOf}
 use Rattle.model.specs.Frame.{Frame, decode}
-use Rattle.model.specs.Judge.{readingOf}
-use Rattle.timestamp.specs.Views.{setupOf}
+use Rattle.setup.specs.Views.{setupOf}
 use Rattle.node.proofs.Times.{Given, given, late-no, early-no, counts-no, times-right, counts-there}
 use Rattle.node.proofs.questions.check_time.Statement.{statement}
 use Rattle.node.proofs.questions.check_time.Tie as tie
@@ -19,8 +18,7 @@ frame c = decode (c .args .setup .epsilon) (c .args .s .now)
 known : (c : tie.Start) → Given (setupOf (c .args .setup)) (c .args .clock) (c .args .s .now)
 known c = given (setupOf (c .args .setup)) (c .args .clock) (c .args .s .now) (c .pre)
 
-reads : (c : tie.After-reading-of) → c .reading-of .result ≡ near (c .before .before .before .before .args .setup .epsilon) (c .before .before .before .before .args .setup .modulus) (c .before .before .before .before .args .clock) (frame (c .before .before .before .before) .stamp .r)
-unfolding readingOf
+reads : (c : tie.After-reading-of) → c .reading-of .result ≡ readingOf (setupOf (c .before .before .before .before .args .setup)) (c .before .before .before .before .args .clock) (frame (c .before .before .before .before))
 reads c = c .reading-of .ensures
 
 high : (c : tie.After-reading-of) → c .reading-of .result < c .before .before .before .before .args .setup .modulus + c .before .before .before .before .args .setup .epsilon
@@ -47,7 +45,9 @@ add-if1-2 : tie.Need-add-if1-2
 add-if1-2 c = omega (arith, high (c .before), known (c .before .before .before .before .before) .limits)
 
 returns : tie.Need-returns
-returns c = late-no (setupOf (c .before .before .before .before .before .before .args .setup)) (c .before .before .before .before .before .before .args .clock) (frame (c .before .before .before .before .before .before)) (c .before .before .reading-of .result) (reads (c .before .before)) (c .if1 .taken)
+returns c =
+    let start = c .before .before .before .before .before .before in
+    late-no (setupOf (start .args .setup)) (start .args .clock) (frame start) (c .before .before .reading-of .result) (reads (c .before .before)) (c .if1 .taken)
 
 sub-if2 : tie.Need-sub-if2
 sub-if2 c = omega (arith, known (c .before .before .before .before .before .before) .limits)
@@ -69,46 +69,45 @@ late-left c = c .if1 .left
 
 returns-2 : tie.Need-returns-2
 returns-2 c =
-    early-no (setupOf (c .before .before .before .before .before .before .before .before .args .setup)) (c .before .before .before .before .before .before .before .before .args .clock) (frame (c .before .before .before .before .before .before .before .before)) (c .before .before .before .before .reading-of .result) (reads (c .before .before .before .before)) (late-left (c .before .before)) (omega (arith, leads (c .before)))
+    let start = c .before .before .before .before .before .before .before .before in
+    early-no (setupOf (start .args .setup)) (start .args .clock) (frame start) (c .before .before .before .before .reading-of .result) (reads (c .before .before .before .before)) (late-left (c .before .before)) (omega (arith, leads (c .before)))
 
 early-left : (c : tie.Else2) → c .before .before .before .before .reading-of .result + frame (c .before .before .before .before .before .before .before .before) .stamp .c ≤ c .before .before .before .before .before .before .before .before .args .setup .modulus + (c .before .before .before .before .before .before .before .before .args .setup .epsilon - 1)
 early-left c = omega (arith, leads (c .before))
+
+counts-part-requires : tie.Need-counts-part-requires
+counts-part-requires c κs = (known (c .before .before .before .before .before .before .before .before) .limits .epsilon-most, known (c .before .before .before .before .before .before .before .before) .long)
 
 add-from : tie.Need-add-from
 add-from c = search needs
 
 sub-from : tie.Need-sub-from
-sub-from c = omega (arith, high (c .before .before .before .before))
-
-add-counts-at-most : tie.Need-add-counts-at-most
-add-counts-at-most c = search needs
-
-mul-counts-at-most : tie.Need-mul-counts-at-most
-mul-counts-at-most c = search needs
-
-add-counts-at-most-2 : tie.Need-add-counts-at-most-2
-add-counts-at-most-2 c = search needs
+sub-from c = omega (arith, high (c .before .before .before .before .before))
 
 cast-counts-at-most : tie.Need-cast-counts-at-most
 cast-counts-at-most c = search needs
 
 sub-counts-at-most : tie.Need-sub-counts-at-most
-sub-counts-at-most c = omega (arith, known (c .before .before .before .before .before .before .before .before .before) .limits)
+sub-counts-at-most c = omega (arith, known (c .before .before .before .before .before .before .before .before .before .before) .limits)
 
 counts-at-most-requires : tie.Need-counts-at-most-requires
-counts-at-most-requires c κs = omega (arith, known (c .before .before .before .before .before .before .before .before .before) .long)
+counts-at-most-requires c κs = search needs
 
-counts : (c : tie.After-counts-at-most) → c .counts-at-most .result ≡ atMost (c .before .before .before .before .before .before .before .before .before .before .args .setup .n - 1) (drop (c .before .before .before .before .before .before .before .before .before .before .args .setup .modulus + c .before .before .before .before .before .before .before .before .before .before .args .setup .epsilon - c .before .before .before .before .before .before .reading-of .result) (frame (c .before .before .before .before .before .before .before .before .before .before) .stamp .kn))
+counts : (c : tie.After-counts-at-most) → c .counts-at-most .result ≡ atMost (c .before .before .before .before .before .before .before .before .before .before .before .args .setup .n - 1) (countsFrom (c .before .before .before .before .before .before .before .before .before .before .before .args .setup .epsilon) (c .before .before .before .before .before .before .before .reading-of .result) (frame (c .before .before .before .before .before .before .before .before .before .before .before) .stamp .kn) (c .before .before .before .before .before .before .before .before .before .before .before .args .setup .modulus))
 counts c =
-    c .counts-at-most .ensures ∙ ap (atMost (c .before .before .before .before .before .before .before .before .before .before .args .setup .n - 1)) (counts-there (c .before .before .before .before .before .before .before .before .before .before .args .setup .epsilon) (c .before .before .before .before .before .before .before .before .before .before .args .setup .modulus + c .before .before .before .before .before .before .before .before .before .before .args .setup .epsilon - c .before .before .before .before .before .before .reading-of .result) (c .before .before .before .before .before .before .before .before .before .before .args .s .now))
+    let start = c .before .before .before .before .before .before .before .before .before .before .before in
+    c .counts-at-most .ensures
+    ∙ ap (atMost (start .args .setup .n - 1)) (counts-there (start .args .setup .epsilon) (c .before .before .before .before .before .before .before .reading-of .result) (start .args .setup .modulus) (start .args .s .now) (c .before .before .counts-part .result .now) (c .before .before .counts-part .ensures) (omega (arith, high (c .before .before .before .before .before .before .before))))
 
 returns-3 : tie.Need-returns-3
 returns-3 c =
-    counts-no (setupOf (c .before .before .before .before .before .before .before .before .before .before .before .args .setup)) (c .before .before .before .before .before .before .before .before .before .before .before .args .clock) (frame (c .before .before .before .before .before .before .before .before .before .before .before)) (c .before .before .before .before .before .before .before .reading-of .result) (reads (c .before .before .before .before .before .before .before)) (late-left (c .before .before .before .before .before)) (early-left (c .before .before .before)) (sym (counts (c .before)) ∙ not-true (c .before .counts-at-most .result) (c .if3 .taken))
+    let start = c .before .before .before .before .before .before .before .before .before .before .before .before in
+    counts-no (setupOf (start .args .setup)) (start .args .clock) (frame start) (c .before .before .before .before .before .before .before .before .reading-of .result) (reads (c .before .before .before .before .before .before .before .before)) (late-left (c .before .before .before .before .before .before)) (early-left (c .before .before .before .before)) (sym (counts (c .before)) ∙ not-true (c .before .counts-at-most .result) (c .if3 .taken))
 
 returns-4 : tie.Need-returns-4
 returns-4 c =
-    times-right (setupOf (c .before .before .before .before .before .before .before .before .before .before .before .args .setup)) (c .before .before .before .before .before .before .before .before .before .before .before .args .clock) (frame (c .before .before .before .before .before .before .before .before .before .before .before)) (c .before .before .before .before .before .before .before .reading-of .result) (reads (c .before .before .before .before .before .before .before)) (late-left (c .before .before .before .before .before)) (early-left (c .before .before .before)) (sym (counts (c .before)) ∙ not-false (c .before .counts-at-most .result) (c .if3 .left))
+    let start = c .before .before .before .before .before .before .before .before .before .before .before .before in
+    times-right (setupOf (start .args .setup)) (start .args .clock) (frame start) (c .before .before .before .before .before .before .before .before .reading-of .result) (reads (c .before .before .before .before .before .before .before .before)) (late-left (c .before .before .before .before .before .before)) (early-left (c .before .before .before .before)) (sym (counts (c .before)) ∙ not-false (c .before .counts-at-most .result) (c .if3 .left))
 
 pub check-time-spec : {M : Type 1} → statement M
 check-time-spec =
@@ -126,11 +125,9 @@ check-time-spec =
     c-of-requires
     add-if2-2
     returns-2
+    counts-part-requires
     add-from
     sub-from
-    add-counts-at-most
-    mul-counts-at-most
-    add-counts-at-most-2
     cast-counts-at-most
     sub-counts-at-most
     counts-at-most-requires

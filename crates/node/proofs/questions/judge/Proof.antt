@@ -14,15 +14,15 @@ use Rattle.model.specs.Holdback.{held, sameOrigin}
 use Rattle.model.specs.Judge.{taken}
 use Rattle.lemmas.proofs.Bounds.{Limits}
 use Rattle.lemmas.proofs.Questions.{limits-from}
-use Rattle.holdback.specs.Seen.{InWindow}
+use Rattle.holdback.specs.Seen.{Placeable}
 use Rattle.holdback.specs.Sound.{fits}
 use Rattle.holdback.proofs.Changes.{length-held}
 use Rattle.holdback.proofs.Seen.{length-seen}
-use Rattle.timestamp.specs.Views.{setupOf}
+use Rattle.setup.specs.Views.{setupOf}
 use Rattle.node.specs.Views.{timeQuestions}
 use Rattle.node.specs.States.{Readable}
 use Rattle.node.proofs.Times.{given}
-use Rattle.node.proofs.Verdicts.{form-no, time-no, repeat-no, room-no, all-yes, fits-when, late-window, time-late, time-early, marked-is, refused-located, taken-located}
+use Rattle.node.proofs.Verdicts.{form-no, time-no, repeat-no, room-no, all-yes, fits-when, late-placeable, time-late, time-early, marked-is, refused-located, taken-located}
 use Rattle.node.proofs.Places.{size-two}
 use Rattle.node.proofs.questions.judge.Statement.{statement}
 use Rattle.node.proofs.questions.judge.Tie as tie
@@ -36,11 +36,17 @@ frame c = decode (c .args .setup .epsilon) (c .args .s .now)
 limits : (c : tie.Start) → Limits (setupOf (c .args .setup))
 limits c = limits-from (setupOf (c .args .setup)) (c .pre .0 .limits)
 
+-- the count is that of the queue's frames
+long : (c : tie.Start) → length (queue c) ≡ c .args .count
+long c = length-held (c .args .setup .epsilon) (c .args .holdback .now) ∙ sym (c .pre .1 .1)
+
 check-requires : tie.Need-check-requires
 check-requires c κs = c .before .before .before .before .pre .0 .limits
 
 returns : tie.Need-returns
-returns c = (form-no (setupOf (c .before .before .before .before .before .before .args .setup)) (c .before .before .before .before .before .before .args .clock) (queue (c .before .before .before .before .before .before)) (c .before .before .before .before .before .before .args .s .now) (c .before .check .result) (c .before .check .ensures) (c .if1 .taken), refused-located)
+returns c =
+    let start = c .before .before .before .before .before .before in
+    (form-no (setupOf (start .args .setup)) (start .args .clock) (queue start) (start .args .s .now) (c .before .check .result) (c .before .check .ensures) (c .if1 .taken), refused-located)
 
 passed : (c : tie.Else1) → firstNo (frameQuestions (setupOf (c .before .before .before .before .before .before .args .setup)) (c .before .before .before .before .before .before .args .s .now)) ≡ 0
 passed c = sym (c .before .check .ensures) ∙ c .if1 .left
@@ -52,30 +58,35 @@ check-time-requires : tie.Need-check-time-requires
 check-time-requires c κs = readable c
 
 returns-2 : tie.Need-returns-2
-returns-2 c = (time-no (setupOf (c .before .before .before .before .before .before .before .before .args .setup)) (c .before .before .before .before .before .before .before .before .args .clock) (queue (c .before .before .before .before .before .before .before .before)) (c .before .before .before .before .before .before .before .before .args .s .now) (passed (c .before .before)) (c .before .check-time .result) (c .before .check-time .ensures) (c .if2 .taken), refused-located)
+returns-2 c =
+    let start = c .before .before .before .before .before .before .before .before in
+    (time-no (setupOf (start .args .setup)) (start .args .clock) (queue start) (start .args .s .now) (passed (c .before .before)) (c .before .check-time .result) (c .before .check-time .ensures) (c .if2 .taken), refused-located)
 
 timely : (c : tie.Else2) → firstNo (timeQuestions (setupOf (c .before .before .before .before .before .before .before .before .args .setup)) (c .before .before .before .before .before .before .before .before .args .clock) (frame (c .before .before .before .before .before .before .before .before))) ≡ 0
 timely c = sym (c .before .check-time .ensures) ∙ c .if2 .left
 
-window : (c : tie.Else2) → InWindow (setupOf (c .before .before .before .before .before .before .before .before .args .setup)) (c .before .before .before .before .before .before .before .before .args .clock) (frame (c .before .before .before .before .before .before .before .before))
-window c =
-    late-window (setupOf (c .before .before .before .before .before .before .before .before .args .setup)) (c .before .before .before .before .before .before .before .before .args .clock) (frame (c .before .before .before .before .before .before .before .before)) (given (setupOf (c .before .before .before .before .before .before .before .before .args .setup)) (c .before .before .before .before .before .before .before .before .args .clock) (c .before .before .before .before .before .before .before .before .args .s .now) (readable (c .before .before)) .frame)
-    (time-late (setupOf (c .before .before .before .before .before .before .before .before .args .setup)) (c .before .before .before .before .before .before .before .before .args .clock) (frame (c .before .before .before .before .before .before .before .before)) (timely c))
+placeable : (c : tie.Else2) → Placeable (setupOf (c .before .before .before .before .before .before .before .before .args .setup)) (c .before .before .before .before .before .before .before .before .args .clock) (frame (c .before .before .before .before .before .before .before .before))
+placeable c =
+    let start = c .before .before .before .before .before .before .before .before in
+    late-placeable (setupOf (start .args .setup)) (start .args .clock) (frame start) (given (setupOf (start .args .setup)) (start .args .clock) (start .args .s .now) (readable (c .before .before)) .frame)
+    (time-late (setupOf (start .args .setup)) (start .args .clock) (frame start) (timely c))
 
 repeats-requires : tie.Need-repeats-requires
-repeats-requires c κs = (
-  (c .before .before .before .before .before .before .before .before .pre .0 .limits, c .before .before .before .before .before .before .before .before .pre .0 .below),
-  (window c, ap length (c .before .before .before .before .before .before .before .before .pre .1 .table-is) ∙ length-seen (setupOf (c .before .before .before .before .before .before .before .before .args .setup)) (c .before .before .before .before .before .before .before .before .args .clock) (queue (c .before .before .before .before .before .before .before .before))),
-)
+repeats-requires c κs =
+    let start = c .before .before .before .before .before .before .before .before in (
+      (start .pre .0 .limits, start .pre .0 .below),
+      (placeable c, ap length (start .pre .1 .0 .table-is) ∙ length-seen (setupOf (start .args .setup)) (start .args .clock) (queue start)),
+    )
 
 repeated : (c : tie.After-repeats) → c .repeats .result ≡ any (sameOrigin (frame (c .before .before .before .before .before .before .before .before .before))) (queue (c .before .before .before .before .before .before .before .before .before))
-repeated c = c .repeats .ensures ∙ marked-is (setupOf (c .before .before .before .before .before .before .before .before .before .args .setup)) (c .before .before .before .before .before .before .before .before .before .args .clock) (c .before .before .before .before .before .before .before .before .before .args .holdback .now) (c .before .before .before .before .before .before .before .before .before .args .seen .now) (c .before .before .before .before .before .before .before .before .before .args .starts .now) (frame (c .before .before .before .before .before .before .before .before .before)) (c .before .before .before .before .before .before .before .before .before .pre .0) (c .before .before .before .before .before .before .before .before .before .pre .1) (window (c .before))
+repeated c =
+    let start = c .before .before .before .before .before .before .before .before .before in
+    c .repeats .ensures ∙ marked-is (setupOf (start .args .setup)) (start .args .clock) (start .args .holdback .now) (start .args .seen .now) (start .args .starts .now) (frame start) (start .pre .0) (start .pre .1 .0) (placeable (c .before))
 
 returns-3 : tie.Need-returns-3
-returns-3 c = (repeat-no (setupOf (c .before .before .before .before .before .before .before .before .before .before .args .setup)) (c .before .before .before .before .before .before .before .before .before .before .args .clock) (queue (c .before .before .before .before .before .before .before .before .before .before)) (c .before .before .before .before .before .before .before .before .before .before .args .s .now) (passed (c .before .before .before .before)) (timely (c .before .before)) (sym (repeated (c .before)) ∙ c .if3 .taken), refused-located)
-
-two-at-requires : tie.Need-two-at-requires
-two-at-requires c κs = search needs
+returns-3 c =
+    let start = c .before .before .before .before .before .before .before .before .before .before in
+    (repeat-no (setupOf (start .args .setup)) (start .args .clock) (queue start) (start .args .s .now) (passed (c .before .before .before .before)) (timely (c .before .before)) (sym (repeated (c .before)) ∙ c .if3 .taken), refused-located)
 
 cast-depth : tie.Need-cast-depth
 cast-depth c = search needs
@@ -87,19 +98,18 @@ cast-depth-3 : tie.Need-cast-depth-3
 cast-depth-3 c = search needs
 
 depth-requires : tie.Need-depth-requires
-depth-requires c κs = (limits (c .before .before .before .before .before .before .before .before .before .before .before .before .before .before) .n-most, (limits (c .before .before .before .before .before .before .before .before .before .before .before .before .before .before) .epsilon-most, limits (c .before .before .before .before .before .before .before .before .before .before .before .before .before .before) .delta-most))
+depth-requires c κs = let lim = limits (c .before .before .before .before .before .before .before .before .before .before .before .before .before) in (lim .n-most, (lim .epsilon-most, lim .delta-most))
 
-long : (c : tie.After-two-at) → length (queue (c .before .before .before .before .before .before .before .before .before .before .before)) ≡ c .two-at .result
-long c = length-held (c .before .before .before .before .before .before .before .before .before .before .before .args .setup .epsilon) (c .before .before .before .before .before .before .before .before .before .before .before .args .holdback .now) ∙ sym (c .two-at .ensures)
-
-full : (c : tie.Then4) → depth (c .before .before .before .before .before .before .before .before .before .before .before .before .before .before .before .before .args .setup .n) (c .before .before .before .before .before .before .before .before .before .before .before .before .before .before .before .before .args .setup .epsilon) (c .before .before .before .before .before .before .before .before .before .before .before .before .before .before .before .before .args .setup .delta) ≤ length (queue (c .before .before .before .before .before .before .before .before .before .before .before .before .before .before .before .before))
-full c = omega (arith, c .before .depth .ensures, long (c .before .before .before .before .before))
+full : (c : tie.Then4) → depth (c .before .before .before .before .before .before .before .before .before .before .before .before .before .before .before .args .setup .n) (c .before .before .before .before .before .before .before .before .before .before .before .before .before .before .before .args .setup .epsilon) (c .before .before .before .before .before .before .before .before .before .before .before .before .before .before .before .args .setup .delta) ≤ length (queue (c .before .before .before .before .before .before .before .before .before .before .before .before .before .before .before))
+full c = omega (arith, c .before .depth .ensures, long (c .before .before .before .before .before .before .before .before .before .before .before .before .before .before .before))
 
 returns-4 : tie.Need-returns-4
-returns-4 c = (room-no (setupOf (c .before .before .before .before .before .before .before .before .before .before .before .before .before .before .before .before .args .setup)) (c .before .before .before .before .before .before .before .before .before .before .before .before .before .before .before .before .args .clock) (queue (c .before .before .before .before .before .before .before .before .before .before .before .before .before .before .before .before)) (c .before .before .before .before .before .before .before .before .before .before .before .before .before .before .before .before .args .s .now) (passed (c .before .before .before .before .before .before .before .before .before .before)) (timely (c .before .before .before .before .before .before .before .before)) (sym (repeated (c .before .before .before .before .before .before .before)) ∙ c .before .before .before .before .before .before .if3 .left) (full c), refused-located)
+returns-4 c =
+    let start = c .before .before .before .before .before .before .before .before .before .before .before .before .before .before .before in
+    (room-no (setupOf (start .args .setup)) (start .args .clock) (queue start) (start .args .s .now) (passed (c .before .before .before .before .before .before .before .before .before)) (timely (c .before .before .before .before .before .before .before)) (sym (repeated (c .before .before .before .before .before .before)) ∙ c .before .before .before .before .before .if3 .left) (full c), refused-located)
 
-room : (c : tie.Else4) → length (queue (c .before .before .before .before .before .before .before .before .before .before .before .before .before .before .before .before)) < depth (c .before .before .before .before .before .before .before .before .before .before .before .before .before .before .before .before .args .setup .n) (c .before .before .before .before .before .before .before .before .before .before .before .before .before .before .before .before .args .setup .epsilon) (c .before .before .before .before .before .before .before .before .before .before .before .before .before .before .before .before .args .setup .delta)
-room c = omega (arith, c .before .depth .ensures, long (c .before .before .before .before .before))
+room : (c : tie.Else4) → length (queue (c .before .before .before .before .before .before .before .before .before .before .before .before .before .before .before)) < depth (c .before .before .before .before .before .before .before .before .before .before .before .before .before .before .before .args .setup .n) (c .before .before .before .before .before .before .before .before .before .before .before .before .before .before .before .args .setup .epsilon) (c .before .before .before .before .before .before .before .before .before .before .before .before .before .before .before .args .setup .delta)
+room c = omega (arith, c .before .depth .ensures, long (c .before .before .before .before .before .before .before .before .before .before .before .before .before .before .before))
 
 fit : (c : tie.Else2) → fits (setupOf (c .before .before .before .before .before .before .before .before .args .setup)) (c .before .before .before .before .before .before .before .before .args .clock) (c .before .before .before .before .before .before .before .before .args .s .now) ≡ true
 fit c =
@@ -107,17 +117,22 @@ fit c =
     fits-when (setupOf (start .args .setup)) (start .args .clock) (start .args .s .now) (passed (c .before .before)) (time-late (setupOf (start .args .setup)) (start .args .clock) (frame start) (timely c)) (time-early (setupOf (start .args .setup)) (start .args .clock) (frame start) (timely c))
 
 place-for-requires : tie.Need-place-for-requires
-place-for-requires c κs = (
-  (c .before .before .before .before .before .before .before .before .before .before .before .before .before .before .before .before .pre .0 .limits, c .before .before .before .before .before .before .before .before .before .before .before .before .before .before .before .before .pre .0 .below),
-  ((c .before .before .before .before .before .before .before .before .before .before .before .before .before .before .before .before .pre .1 .sound, (size-two (setupOf (c .before .before .before .before .before .before .before .before .before .before .before .before .before .before .before .before .args .setup)) (length (c .before .before .before .before .before .before .before .before .before .before .before .before .before .before .before .before .args .holdback .now)) (c .before .before .before .before .before .before .before .before .before .before .before .before .before .before .before .before .pre .1 .size), c .before .before .before .before .before .two-at .ensures)), (c .before .before .before .before .before .before .before .before .before .before .before .before .before .before .before .before .pre .1 .starts-is, fit (c .before .before .before .before .before .before .before .before))),
-)
+place-for-requires c κs =
+    let start = c .before .before .before .before .before .before .before .before .before .before .before .before .before .before .before in (
+      (start .pre .0 .limits, start .pre .0 .below),
+      (
+        (start .pre .1 .0 .sound, (size-two (setupOf (start .args .setup)) (length (start .args .holdback .now)) (start .pre .1 .0 .size), start .pre .1 .1)),
+        (start .pre .1 .0 .starts-is, fit (c .before .before .before .before .before .before .before)),
+      ),
+    )
 
 returns-5 : tie.Need-returns-5
-returns-5 c = (
-  ap taken (c .place-for .ensures .frames)
-      ∙ all-yes (setupOf (c .before .before .before .before .before .before .before .before .before .before .before .before .before .before .before .before .before .args .setup)) (c .before .before .before .before .before .before .before .before .before .before .before .before .before .before .before .before .before .args .clock) (queue (c .before .before .before .before .before .before .before .before .before .before .before .before .before .before .before .before .before)) (c .before .before .before .before .before .before .before .before .before .before .before .before .before .before .before .before .before .args .s .now) (passed (c .before .before .before .before .before .before .before .before .before .before .before)) (timely (c .before .before .before .before .before .before .before .before .before)) (sym (repeated (c .before .before .before .before .before .before .before .before)) ∙ c .before .before .before .before .before .before .before .if3 .left) (room (c .before)),
-  taken-located (c .place-for .ensures .starts),
-)
+returns-5 c =
+    let start = c .before .before .before .before .before .before .before .before .before .before .before .before .before .before .before .before in (
+      ap taken (c .place-for .ensures .frames)
+          ∙ all-yes (setupOf (start .args .setup)) (start .args .clock) (queue start) (start .args .s .now) (passed (c .before .before .before .before .before .before .before .before .before .before)) (timely (c .before .before .before .before .before .before .before .before)) (sym (repeated (c .before .before .before .before .before .before .before)) ∙ c .before .before .before .before .before .before .if3 .left) (room (c .before)),
+      taken-located (c .place-for .ensures .starts),
+    )
 
 pub judge-spec : {M : Type 1} → statement M
 judge-spec =
@@ -129,7 +144,6 @@ judge-spec =
     returns-2
     repeats-requires
     returns-3
-    two-at-requires
     cast-depth
     cast-depth-2
     cast-depth-3

@@ -9,7 +9,7 @@ use Rattle.laws.specs.Lists.{select}
 use Rattle.model.specs.Holdback.{held, encodeHoldback}
 use Rattle.model.specs.Tick.{dueNow}
 use Rattle.holdback.specs.Queue.{frameStart}
-use Rattle.timestamp.specs.Views.{setupOf}
+use Rattle.setup.specs.Views.{setupOf}
 use Rattle.node.proofs.Places.{size-two}
 use Rattle.node.proofs.queue.deliver.Statement.{statement}
 use Rattle.node.proofs.queue.deliver.Tie as tie
@@ -20,17 +20,14 @@ two c = size-two (setupOf (c .args .setup)) (length (c .args .holdback .now)) (c
 room : (c : tie.Start) → length (c .args .holdback .now) ≤ length (c .args .delivery .now)
 room c = omega (arith, c .pre .size, c .pre .room)
 
-two-at-requires : tie.Need-two-at-requires
-two-at-requires c κs = search needs
-
 cut-due-requires : tie.Need-cut-due-requires
 cut-due-requires c κs =
-    let start = c .before .before .before .before .before .before in
-    let counted = c .before .before .two-at .ensures in (
+    let start = c .before .before .before .before in
+    let extent = start .pre .extent in (
       (start .pre .timed .limits, start .pre .timed .below),
       (
-        (start .pre .sound, (two start, counted)),
-        (start .pre .ends ∙ ap (frameStart (start .args .setup .epsilon) (start .args .holdback .now)) (sym counted), room start),
+        (start .pre .sound, (two start, extent .count-is)),
+        (extent .ends ∙ ap (frameStart (start .args .setup .epsilon) (start .args .holdback .now)) (sym (extent .count-is)), room start),
       ),
     )
 
@@ -42,10 +39,10 @@ same-length-2 c = search needs
 
 returns : tie.Need-returns
 returns c =
-    let start = c .before .before .before .before .before .before .before .before .before .before .before in
+    let start = c .before .before .before .before .before .before .before .before .before in
     let done = c .before .before .before .before .cut-due .ensures in
     record {
-      counted = done .0;
+      count-is = done .0;
       kept =
           done .1 .0
           ∙ ap (λ (n : ℕ). encodeHoldback n (select (λ f. not (dueNow (setupOf (start .args .setup)) (start .args .clock) f)) (held (start .args .setup .epsilon) (start .args .holdback .now)))) (start .pre .size);
@@ -53,5 +50,4 @@ returns c =
     }
 
 pub deliver-spec : {M : Type 1} → statement M
-deliver-spec =
-    tie.close (tie.spec two-at-requires cut-due-requires same-length same-length-2 returns)
+deliver-spec = tie.close (tie.spec cut-due-requires same-length same-length-2 returns)

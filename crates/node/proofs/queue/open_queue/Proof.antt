@@ -2,7 +2,7 @@
 use mathlib.Core.Path.{sym, _∙_}
 use lib.ListN.{length}
 use borrow.Author.Needs.{needs}
-use Rattle.timestamp.specs.Views.{setupOf}
+use Rattle.setup.specs.Views.{setupOf}
 use Rattle.node.proofs.Places.{size-two, opened-sound, opened-empty}
 use Rattle.node.proofs.queue.open_queue.Statement.{statement}
 use Rattle.node.proofs.queue.open_queue.Tie as tie
@@ -27,7 +27,7 @@ returns : tie.Need-returns
 returns c =
     let start = c .before .before .before .before .before .before .before .before .before .before .before .before in
     let walk = c .before .before .before .before .before .sound .ensures in
-    opened-sound (setupOf (start .args .setup)) (start .args .clock) (start .args .holdback .now) (start .pre .0) (start .pre .1 .0 .size) (sym (walk .sound-is) ∙ c .if1 .taken) (walk .stop-is) (walk .table-is) (walk .starts-is)
+    opened-sound (setupOf (start .args .setup)) (start .args .clock) (start .args .holdback .now) (start .pre .0) (start .pre .1 .0 .size) (sym (walk .sound-is) ∙ c .if1 .taken) (walk .count-is) (walk .stop-is) (walk .table-is) (walk .starts-is)
 
 empty-requires : tie.Need-empty-requires
 empty-requires c κs = let start = c .before .before .before .before .before .before .before .before .before .before .before .before .before in size-two (setupOf (start .args .setup)) (length (start .args .holdback .now)) (start .pre .1 .0 .size)
@@ -45,7 +45,7 @@ returns-2 : tie.Need-returns-2
 returns-2 c =
     let start = c .before .before .before .before .before .before .before .before .before .before .before .before .before .before .before .before in
     let walk = c .before .before .before .before .before .before .before .before .before .sound .ensures in
-    opened-empty (setupOf (start .args .setup)) (start .args .clock) (start .args .holdback .now) (start .pre .0) (start .pre .1 .0 .size) (sym (walk .sound-is) ∙ c .before .before .before .before .if1 .left) (walk .table-is) (walk .starts-is) (c .before .before .empty .ensures)
+    opened-empty (setupOf (start .args .setup)) (start .args .clock) (start .args .holdback .now) (start .pre .0) (start .pre .1 .0 .size) (sym (walk .sound-is) ∙ c .before .before .before .before .if1 .left) (walk .count-is) (walk .stop-is) (walk .table-is) (walk .starts-is) (c .before .before .empty .ensures)
 
 pub open-queue-spec : {M : Type 1} → statement M
 open-queue-spec =

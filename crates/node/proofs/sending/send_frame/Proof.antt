@@ -8,23 +8,22 @@ use Rattle.node.proofs.sending.send_frame.Tie as tie
 
 returns : tie.Need-returns
 returns c =
-    none-sent (c .before .before .before .args .setup .epsilon) (c .before .before .before .args .setup .own) (stampOf (c .before .before .before .args .stamp)) (c .before .before .before .args .send) (c .before .before .before .args .payload .now) (c .before .before .before .args .outgoing .now) (not-true (c .before .before .before .args .send) (c .if1 .taken))
+    let start = c .before .before .before in
+    none-sent (start .args .setup .epsilon) (start .args .own) (stampOf (start .args .stamp)) (start .args .send) (start .args .payload .now) (start .args .outgoing .now) (not-true (start .args .send) (c .if1 .taken))
 
 cast-lay : tie.Need-cast-lay
 cast-lay c = search needs
 
-cast-lay-2 : tie.Need-cast-lay-2
-cast-lay-2 c = search needs
-
 lay-requires : tie.Need-lay-requires
-lay-requires c κs = c .before .before .before .before .before .before .pre
+lay-requires c κs = c .before .before .before .before .before .pre
 
 same-length : tie.Need-same-length
 same-length c = search needs
 
 returns-2 : tie.Need-returns-2
 returns-2 c =
-    one-sent (c .before .before .before .before .before .before .before .before .before .args .setup .epsilon) (c .before .before .before .before .before .before .before .before .before .args .setup .own) (stampOf (c .before .before .before .before .before .before .before .before .before .args .stamp)) (c .before .before .before .before .before .before .before .before .before .args .send) (c .before .before .before .before .before .before .before .before .before .args .payload .now) (c .before .before .before .before .before .before .before .before .before .args .outgoing .now) (c .before .before .lay .result) _ (not-false (c .before .before .before .before .before .before .before .before .before .args .send) (c .before .before .before .before .before .before .if1 .left)) (c .before .before .lay .ensures)
+    let start = c .before .before .before .before .before .before .before .before in
+    one-sent (start .args .setup .epsilon) (start .args .own) (stampOf (start .args .stamp)) (start .args .send) (start .args .payload .now) (start .args .outgoing .now) (c .before .before .lay .result) _ (not-false (start .args .send) (c .before .before .before .before .before .if1 .left)) (c .before .before .lay .ensures)
 
 pub send-frame-spec : {M : Type 1} → statement M
-send-frame-spec = tie.close (tie.spec returns cast-lay cast-lay-2 lay-requires same-length returns-2)
+send-frame-spec = tie.close (tie.spec returns cast-lay lay-requires same-length returns-2)

@@ -4,13 +4,14 @@ use mathlib.Core.Path.{sym, _∙_, ap}
 use lib.ListN.{length}
 use borrow.Author.Needs.{needs}
 use Rattle.model.specs.Holdback.{soundHoldback}
+use Rattle.model.specs.Tick.{tablesSound}
 use Rattle.lemmas.proofs.Bounds.{Limits}
 use Rattle.lemmas.proofs.Questions.{limits-from}
 use Rattle.holdback.proofs.Seen.{length-seen}
 use Rattle.holdback.proofs.Started.{starts-long}
-use Rattle.timestamp.specs.Views.{setupOf, stampOf}
-use Rattle.node.specs.States.{stampSound}
-use Rattle.node.proofs.Finish.{listening, listened, repair-small}
+use Rattle.setup.specs.Views.{setupOf}
+use Rattle.timestamp.specs.Views.{stampOf}
+use Rattle.node.proofs.Finish.{listening, listened-queue, listened-stamp, repaired-both, repair-small}
 use Rattle.node.proofs.ticking.listen.Statement.{statement}
 use Rattle.node.proofs.ticking.listen.Tie as tie
 
@@ -49,29 +50,34 @@ hear-requires c κs =
       (
         opened .queued,
         (
-          opened .ends,
+          opened .extent,
           listening (setupOf (start .args .setup)) (start .args .clock) (stampOf (start .args .tables)) (limits start) (c .before .before .before .before .before .before .before .before .before .before .before .before .before .open-stamp .ensures) (start .pre .1 .exact) (start .pre .1 .room),
         ),
       ),
     )
 
-add-t29 : tie.Need-add-t29
-add-t29 c =
+add-t30 : tie.Need-add-t30
+add-t30 c =
     let start = c .before .before .before .before .before .before .before .before .before .before .before .before .before .before .before .before .before .before .before .before .before .before .before .before .before .before .before in
     let stamp = c .before .before .before .before .before .before .before .before .before .before .before .before .before .before .before .before .before .before .before .before .before .before .before .open-stamp in
     let opened = c .before .before .before .before .before .before .before .before .before .before .before .before .before .before .before .before .before .before .before .open-queue in
-    omega (arith, repair-small (stamp .result .repair) (opened .result .repair) (stampSound (setupOf (start .args .setup)) (start .args .clock) (stampOf (start .args .tables))) (soundHoldback (setupOf (start .args .setup)) (start .args .clock) (start .args .holdback .now)) (stamp .ensures .repaired) (opened .ensures .repaired))
+    omega (arith, repair-small (stamp .result .repair) (opened .result .repair) (tablesSound (setupOf (start .args .setup)) (start .args .clock) (stampOf (start .args .tables))) (soundHoldback (setupOf (start .args .setup)) (start .args .clock) (start .args .holdback .now)) (stamp .ensures .repaired) (opened .ensures .repaired))
 
 same-length : tie.Need-same-length
-same-length c = c .before .before .before .before .before .before .before .before .before .hear .kept .1 .1 .1 .1 .1 .0 ∙ c .before .before .before .before .before .before .before .before .before .before .before .before .before .before .before .before .before .before .before .open-queue .kept .1 .1 .0
+same-length c = c .before .before .before .before .before .before .before .before .before .hear .kept .1 .1 .1 .1 .1 .1 .0 ∙ c .before .before .before .before .before .before .before .before .before .before .before .before .before .before .before .before .before .before .before .open-queue .kept .1 .1 .0
 
 same-length-2 : tie.Need-same-length-2
-same-length-2 c = c .before .before .before .before .before .before .before .before .before .hear .kept .1 .1 .1 .1 .1 .1 .1 .1 .0
+same-length-2 c = c .before .before .before .before .before .before .before .before .before .hear .kept .1 .1 .1 .1 .1 .1 .1 .1 .1 .0
 
 returns : tie.Need-returns
 returns c =
     let start = c .before .before .before .before .before .before .before .before .before .before .before .before .before .before .before .before .before .before .before .before .before .before .before .before .before .before .before in
-    listened (setupOf (start .args .setup)) (start .args .clock) (stampOf (start .args .tables)) (limits start) (c .before .before .before .before .before .before .before .before .before .before .before .before .before .before .before .before .before .before .before .before .before .before .before .open-stamp .ensures) (c .before .before .before .before .before .before .before .before .before .before .before .before .before .before .before .before .before .before .before .open-queue .ensures) (c .before .before .before .before .before .before .before .before .before .hear .ensures)
+    let s = setupOf (start .args .setup) in
+    let tables = stampOf (start .args .tables) in
+    let stamp = c .before .before .before .before .before .before .before .before .before .before .before .before .before .before .before .before .before .before .before .before .before .before .before .open-stamp .ensures in
+    let opened = c .before .before .before .before .before .before .before .before .before .before .before .before .before .before .before .before .before .before .before .open-queue .ensures in
+    let heard = c .before .before .before .before .before .before .before .before .before .hear .ensures in
+    (repaired-both s (start .args .clock) tables opened stamp, (listened-queue s (start .args .clock) tables opened (heard .0), listened-stamp s (start .args .clock) tables opened (limits start) stamp (heard .1)))
 
 pub listen-spec : {M : Type 1} → statement M
 listen-spec =
@@ -84,7 +90,7 @@ listen-spec =
     slice-aggregate-hear
     slice-aggregate-hear-2
     hear-requires
-    add-t29
+    add-t30
     same-length
     same-length-2
     returns)

@@ -3,8 +3,9 @@ use mathlib.Core.Path.{sym, _∙_}
 use borrow.Author.Needs.{needs}
 use Rattle.lemmas.proofs.Bounds.{Limits}
 use Rattle.lemmas.proofs.Questions.{limits-from}
-use Rattle.timestamp.specs.Views.{setupOf, stampOf}
-use Rattle.node.specs.States.{stampSound}
+use Rattle.model.specs.Tick.{tablesSound}
+use Rattle.setup.specs.Views.{setupOf}
+use Rattle.timestamp.specs.Views.{stampOf}
 use Rattle.node.proofs.Finish.{stamp-sound, stamp-replaced}
 use Rattle.node.proofs.ticking.open_stamp.Statement.{statement}
 use Rattle.node.proofs.ticking.open_stamp.Tie as tie
@@ -28,7 +29,7 @@ step-requires : tie.Need-step-requires
 step-requires c κs = (limits (c .before .before .before .before .before) .epsilon-pos, limits (c .before .before .before .before .before) .epsilon-most)
 
 returns : tie.Need-returns
-unfolding stampSound
+unfolding tablesSound
 returns c =
     stamp-sound (setupOf (c .before .before .before .before .before .before .args .setup)) (c .before .before .before .before .before .before .args .clock) (stampOf (c .before .before .before .before .before .before .args .tables)) (stampOf (c .step .result)) (sym (c .before .before .is-sound-for .ensures) ∙ c .before .if1 .taken) (c .step .ensures)
 
@@ -36,7 +37,7 @@ replaced-requires : tie.Need-replaced-requires
 replaced-requires c κs = search needs
 
 returns-2 : tie.Need-returns-2
-unfolding stampSound
+unfolding tablesSound
 returns-2 c =
     stamp-replaced (setupOf (c .before .before .before .before .before .before .args .setup)) (c .before .before .before .before .before .before .args .clock) (stampOf (c .before .before .before .before .before .before .args .tables)) (stampOf (c .replaced .result)) (sym (c .before .before .is-sound-for .ensures) ∙ c .before .if1 .left) (c .replaced .ensures (c .before .before .before .before .before .before .args .setup .epsilon) (limits (c .before .before .before .before .before .before) .epsilon-most))
 

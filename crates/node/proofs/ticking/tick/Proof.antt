@@ -2,14 +2,14 @@
 use mathlib.Core.Path.{sym, _∙_}
 use borrow.Author.Needs.{needs}
 use Rattle.model.specs.Tick.{Input, refusal}
-use Rattle.node.specs.Views.{inputOf}
+use Rattle.node.specs.Views.{callInput}
 use Rattle.node.proofs.Finish.{refused-output}
 use Rattle.node.proofs.ticking.tick.Statement.{statement}
 use Rattle.node.proofs.ticking.tick.Tie as tie
 
 abbrev input : tie.Start → Input
 input c =
-    inputOf (c .args .setup) (c .args .clock) (c .args .tables) (c .args .holdback .now) (c .args .batch .now) (c .args .send) (c .args .payload .now) (c .args .outgoing .now) (c .args .verdicts .now) (c .args .delivery .now)
+    callInput (c .args .setup) (c .args .own) (c .args .clock) (c .args .tables) (c .args .holdback .now) (c .args .batch .now) (c .args .send) (c .args .payload .now) (c .args .outgoing .now) (c .args .verdicts .now) (c .args .delivery .now)
 
 check-call-requires : tie.Need-check-call-requires
 check-call-requires c κs = search needs

@@ -3,8 +3,11 @@ use mathlib.Core.Path.{_≡_, sym, ap, _∙_}
 use native.Mathlib.Omega.{arith}
 use borrow.Author.Needs.{needs}
 use Rattle.model.specs.Tick.{tick}
-use Rattle.timestamp.specs.Views.{setupOf, stampOf}
-use Rattle.node.specs.Answers.{answerOf, outputOf}
+use Rattle.lemmas.proofs.Questions.{setup-from}
+use Rattle.timestamp.specs.Views.{stampOf}
+use Rattle.setup.specs.Views.{setupOf}
+use Rattle.trace.specs.Views.{nodeSetupOf}
+use Rattle.node.specs.Answers.{answerOf, callOutput}
 use Rattle.trace.specs.Trace.{tickNumber}
 use Rattle.trace.specs.Replay.{callOf}
 use Rattle.replay.specs.declared.playing.Played.{Played}
@@ -24,7 +27,7 @@ returns : tie.Need-returns
 returns c =
     let a = c .before .before .before .before .before .before .before .args in
     ap (λ (p : Played). resultOf p (a .holdback .now) (a .text .now)) (c .refused .ensures)
-    ∙ turn-cut (setupOf (a .setup)) (stampOf (a .tables)) (a .holdback .now) (a .bytes .now) (a .text .now)
+    ∙ turn-cut (nodeSetupOf (a .node)) (stampOf (a .tables)) (a .holdback .now) (a .bytes .now) (a .text .now)
     (c .before .before .before .read-call .result .number) (c .before .before .before .read-call .ensures .0) (c .before .if1 .taken)
 
 batch-of-requires : tie.Need-batch-of-requires
@@ -50,23 +53,23 @@ same-length c = search needs
 
 -- the arguments, and where the call starts
 abbrev start : tie.After-tick → tie.Start
-start c = c .before .before .before .before .before .before .before .before .before .before .before .before .before
+start c = c .before .before .before .before .before .before .before .before .before .before .before .before .before .before
 
 abbrev reading : tie.After-tick → tie.After-read-call
-reading c = c .before .before .before .before .before .before .before .before .before
+reading c = c .before .before .before .before .before .before .before .before .before .before
 
 one-tick : (c : tie.After-tick) → 0 ≡ tickNumber (start c .args .bytes .now)
-one-tick c = sym (c .before .before .before .before .before .before .before .if1 .left) ∙ reading c .read-call .ensures .0
+one-tick c = sym (c .before .before .before .before .before .before .before .before .if1 .left) ∙ reading c .read-call .ensures .0
 
 -- what the call answered and left
 same : (c : tie.After-tick)
-    → outputOf (c .tick .result) (c .tick .last .1 .1 .1 .0) (c .tick .last .1 .1 .1 .1 .1 .1 .1 .0) (c .tick .last .1 .1 .1 .1 .1 .1 .1 .1 .0) (c .tick .last .1 .1 .1 .1 .1 .1 .1 .1 .1 .0)
-    ≡ tick (callOf (setupOf (start c .args .setup)) (stampOf (start c .args .tables)) (start c .args .holdback .now) (start c .args .bytes .now))
+    → callOutput (c .tick .result) (c .tick .last .1 .1 .1 .1 .0) (c .tick .last .1 .1 .1 .1 .1 .1 .1 .1 .0) (c .tick .last .1 .1 .1 .1 .1 .1 .1 .1 .1 .0) (c .tick .last .1 .1 .1 .1 .1 .1 .1 .1 .1 .1 .0)
+    ≡ tick (callOf (nodeSetupOf (start c .args .node)) (stampOf (start c .args .tables)) (start c .args .holdback .now) (start c .args .bytes .now))
 same c =
     let a = start c .args in
     c .tick .ensures
     ∙ ap tick
-    (call-is (setupOf (a .setup)) (stampOf (a .tables)) (a .holdback .now) (a .bytes .now)
+    (call-is (nodeSetupOf (a .node)) (stampOf (a .tables)) (a .holdback .now) (a .bytes .now)
     (reading c .read-call .ensures .1 .0) (reading c .read-call .ensures .1 .1)
     (c .before .before .before .before .before .batch-of .ensures) (c .before .before .before .before .payload-of .ensures))
 
@@ -77,17 +80,19 @@ returns-2 : tie.Need-returns-2
 returns-2 c =
     let called = c .before .before .before .before .before .before .before .before .before in
     let a = start called .args in
-    ap (λ (p : Played). resultOf p (called .tick .last .1 .1 .1 .0) (a .text .now)) (c .refused2 .ensures)
-    ∙ turn-refused (setupOf (a .setup)) (stampOf (a .tables)) (a .holdback .now) (a .bytes .now) (a .text .now) _ (one-tick called) (same called) (c .before .if2 .taken)
+    ap (λ (p : Played). resultOf p (called .tick .last .1 .1 .1 .1 .0) (a .text .now)) (c .refused2 .ensures)
+    ∙ turn-refused (nodeSetupOf (a .node)) (stampOf (a .tables)) (a .holdback .now) (a .bytes .now) (a .text .now) _ (one-tick called) (same called) (c .before .if2 .taken)
 
-cast-t25 : tie.Need-cast-t25
-cast-t25 c = search needs
+cast-t26 : tie.Need-cast-t26
+cast-t26 c = search needs
 
 slice-aggregate-put-lines : tie.Need-slice-aggregate-put-lines
 slice-aggregate-put-lines c = search needs
 
 put-lines-requires : tie.Need-put-lines-requires
-put-lines-requires c κs = search needs
+put-lines-requires c κs =
+    let at-start = start (c .before .before .before .before .before .before .before .before .before .before .before) in
+    setup-from (setupOf (at-start .args .node .setup)) (at-start .args .node .own) (at-start .pre .ready .valid) .0 .epsilon-most
 
 same-length-2 : tie.Need-same-length-2
 same-length-2 c = search needs
@@ -98,7 +103,7 @@ same-length-3 c = search needs
 figured : (c : tie.Else2) → Figured (reading (c .before .before .before .before .before .before .before .before) .read-call .result .clock) (answerOf (c .before .before .before .before .before .before .before .before .tick .result))
 figured c =
     record {
-      clock-small = omega (arith, c .before .before .before .before .before .before .before .before .before .before .before .before .before .before .before .before .struct-known .given);
+      clock-small = omega (arith, c .before .before .before .before .before .before .before .before .before .before .before .before .before .before .before .before .before .struct-known .given);
       repair-small = omega (arith, c .before .struct-known2 .given);
       c-small = omega (arith, c .before .struct-known2 .given);
       taken-small = omega (arith, c .before .struct-known2 .given);
@@ -110,7 +115,7 @@ returns-3 c =
     let else2 = c .before .before .before .before .before .before in
     let called = else2 .before .before .before .before .before .before .before .before in
     let a = start called .args in
-    turn-played (setupOf (a .setup)) (stampOf (a .tables)) (a .holdback .now) (a .bytes .now) (a .text .now) _ (reading called .read-call .result .clock)
+    turn-played (nodeSetupOf (a .node)) (stampOf (a .tables)) (a .holdback .now) (a .bytes .now) (a .text .now) _ (reading called .read-call .result .clock)
     (start called .pre .ready) (start called .pre .room) (one-tick called) (same called) (else2 .if2 .left) (reading called .read-call .ensures .1 .0) (figured else2)
     (c .before .before .put-lines .ensures .0) (c .before .before .put-lines .ensures .1)
 
@@ -130,7 +135,7 @@ play-spec =
     refused-requires-2
     same-length
     returns-2
-    cast-t25
+    cast-t26
     slice-aggregate-put-lines
     put-lines-requires
     same-length-2

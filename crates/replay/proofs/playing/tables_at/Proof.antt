@@ -5,14 +5,15 @@ use native.Mathlib.Omega.{arith}
 use borrow.Author.Needs.{needs}
 use borrow.Author.Tests.{eq-eqb, ne-eqb}
 use Rattle.model.specs.Timestamp.{widened, fresh}
-use Rattle.lemmas.proofs.Questions.{limits-from}
-use Rattle.timestamp.specs.Views.{setupOf}
+use Rattle.lemmas.proofs.Questions.{setup-from}
+use Rattle.setup.specs.Views.{setupOf}
 use Rattle.trace.specs.Trace.{oneBefore}
-use Rattle.trace.specs.Replay.{freshBefore}
+use Rattle.trace.specs.Replay.{tablesAt, freshBefore}
 use Rattle.replay.proofs.playing.tables_at.Statement.{statement}
 use Rattle.replay.proofs.playing.tables_at.Tie as tie
 
 returns : tie.Need-returns
+unfolding tablesAt
 returns c = rw (ne-eqb (c .before .before .args .i) 0 (omega arith))
 
 read-call-requires : tie.Need-read-call-requires
@@ -29,15 +30,15 @@ cast-fresh c = search needs
 
 fresh-requires : tie.Need-fresh-requires
 fresh-requires c κs =
-    let start = c .before .before .before .before .before .before in
-    let limits = limits-from (setupOf (start .args .setup)) (start .pre .limits) in
+    let start = c .before .before .before .before .before .before .before in
+    let limits = setup-from (setupOf (start .args .node .setup)) (start .args .node .own) (start .pre .valid) .0 in
     (limits .epsilon-pos, limits .epsilon-most)
 
 returns-2 : tie.Need-returns-2
-unfolding freshBefore
+unfolding tablesAt freshBefore
 returns-2 c =
-    let setup = c .before .before .before .before .before .before .before .args .setup in
-    rw (eq-eqb (c .before .before .before .before .before .before .before .args .i) 0 (omega arith))
+    let setup = c .before .before .before .before .before .before .before .before .args .node .setup in
+    rw (eq-eqb (c .before .before .before .before .before .before .before .before .args .i) 0 (omega arith))
     (c .fresh .ensures
     ∙ ap (λ (clock : ℕ). widened (fresh (setup .epsilon) clock)) (c .before .before .one-before .ensures ∙ ap (oneBefore (setup .modulus)) (c .before .before .before .before .read-call .ensures .1 .0)))
 

@@ -17,8 +17,8 @@ abbrev μ-loop : tie.MeasureT-loop
 μ-loop bytes₀ used₀ end₀ bytes used end = length bytes₀ - used
 
 -- what came has room, and the buffer is as long as it was
-few : (c : tie.After-bytes Inv-loop μ-loop) → c .before .before .before .before .loop .used + c .before .read-full .result ≤ c .before .before .before .before .loop .end
-few c = came-few (c .before .before .before .before .loop .inv) (c .before .before .before .loop-test .taken) (c .before .read-full .last .1 .0) (c .bytes .given .0) (c .before .read-full .result) (c .before .read-full .ensures .0)
+few : (c : tie.After-bytes Inv-loop μ-loop) → c .before .before .before .before .loop .used + c .before .read-next .result ≤ c .before .before .before .before .loop .end
+few c = came-few (c .before .before .before .before .loop .inv) (c .before .before .before .loop-test .taken) (c .before .read-next .last .0) (c .bytes .given .0) (c .before .read-next .result) (c .before .read-next .ensures .0)
 
 slice-reshare-prefix-tick-end : tie.Need-slice-reshare-prefix-tick-end Inv-loop μ-loop
 slice-reshare-prefix-tick-end c = search needs
@@ -32,33 +32,33 @@ tick-end-requires c κs = search needs
 loop-holds : tie.Need-loop-holds Inv-loop μ-loop
 loop-holds c = coming-none (c .before .before .before .args .bytes .now) (c .before .before .before .pre) (c .tick-end .ensures)
 
-sub-read-full : tie.Need-sub-read-full Inv-loop μ-loop
-sub-read-full c = search needs
+sub-read-next : tie.Need-sub-read-next Inv-loop μ-loop
+sub-read-next c = search needs
 
-part-read-full-start : tie.Need-part-read-full-start Inv-loop μ-loop
-part-read-full-start c = search needs
+part-read-next-start : tie.Need-part-read-next-start Inv-loop μ-loop
+part-read-next-start c = search needs
 
-part-read-full-end : tie.Need-part-read-full-end Inv-loop μ-loop
-part-read-full-end c = omega (arith, c .before .loop .inv .most, c .before .loop .inv .room, c .before .loop .inv .long)
+part-read-next-end : tie.Need-part-read-next-end Inv-loop μ-loop
+part-read-next-end c = omega (arith, c .before .loop .inv .most, c .before .loop .inv .room, c .before .loop .inv .long)
 
-read-full-requires : tie.Need-read-full-requires Inv-loop μ-loop
-read-full-requires c κs = search needs
+read-next-requires : tie.Need-read-next-requires Inv-loop μ-loop
+read-next-requires c κs = search needs
 
 add-used : tie.Need-add-used Inv-loop μ-loop
 add-used c = omega (arith, few (c .before), c .before .before .before .before .before .loop .inv .most)
 
 same-length : tie.Need-same-length Inv-loop μ-loop
-same-length c = next-long (c .before .before .before .before .before .before .loop .inv) (c .before .before .before .before .before .loop-test .taken) (c .before .before .before .read-full .last .1 .0) (c .before .before .bytes .given .0)
+same-length c = next-long (c .before .before .before .before .before .before .loop .inv) (c .before .before .before .before .before .loop-test .taken) (c .before .before .before .read-next .last .0) (c .before .before .bytes .given .0)
 
 returns : tie.Need-returns Inv-loop μ-loop
 returns c =
     let at-loop = c .before .before .before .before .before .before in
-    came-cut (at-loop .loop .inv) (c .before .before .before .before .before .loop-test .taken) (c .before .before .before .read-full .last .1 .0) (c .before .before .bytes .given .0) (c .before .before .before .read-full .result) (c .if1 .taken)
+    came-cut (at-loop .loop .inv) (c .before .before .before .before .before .loop-test .taken) (c .before .before .before .read-next .last .0) (c .before .before .bytes .given .0) (c .before .before .before .read-next .result) (c .if1 .taken)
 
-within : (c : tie.Else1 Inv-loop μ-loop) → c .before .before .before .before .before .before .loop .used + c .before .before .before .read-full .result ≤ length (putMid (c .before .before .before .before .before .before .loop .used) (c .before .before .before .before .before .before .loop .end - c .before .before .before .before .before .before .loop .used) (c .before .before .before .before .before .before .loop .bytes) (c .before .before .before .read-full .last .1 .0))
+within : (c : tie.Else1 Inv-loop μ-loop) → c .before .before .before .before .before .before .loop .used + c .before .before .before .read-next .result ≤ length (putMid (c .before .before .before .before .before .before .loop .used) (c .before .before .before .before .before .before .loop .end - c .before .before .before .before .before .before .loop .used) (c .before .before .before .before .before .before .loop .bytes) (c .before .before .before .read-next .last .0))
 within c =
     let at-loop = c .before .before .before .before .before .before in
-    omega (arith, few (c .before .before), at-loop .loop .inv .most, at-loop .loop .inv .room, next-long (at-loop .loop .inv) (c .before .before .before .before .before .loop-test .taken) (c .before .before .before .read-full .last .1 .0) (c .before .before .bytes .given .0))
+    omega (arith, few (c .before .before), at-loop .loop .inv .most, at-loop .loop .inv .room, next-long (at-loop .loop .inv) (c .before .before .before .before .before .loop-test .taken) (c .before .before .before .read-next .last .0) (c .before .before .bytes .given .0))
 
 slice-reshare-prefix-tick-end-2 : tie.Need-slice-reshare-prefix-tick-end-2 Inv-loop μ-loop
 slice-reshare-prefix-tick-end-2 c = within c
@@ -75,7 +75,7 @@ loop-less c = omega (arith, c .before .before .before .before .before .before .b
 loop-again : tie.Need-loop-again Inv-loop μ-loop
 loop-again c =
     let at-loop = c .before .before .before .before .before .before .before .before in
-    came-more (at-loop .loop .inv) (c .before .before .before .before .before .before .before .loop-test .taken) (c .before .before .before .before .before .read-full .last .1 .0) (c .before .before .before .before .bytes .given .0) (c .before .before .before .before .before .read-full .result) (omega arith) (c .before .before .if1 .left) (c .tick-end2 .ensures)
+    came-more (at-loop .loop .inv) (c .before .before .before .before .before .before .before .loop-test .taken) (c .before .before .before .before .before .read-next .last .0) (c .before .before .before .before .bytes .given .0) (c .before .before .before .before .before .read-next .result) (omega arith) (c .before .before .if1 .left) (c .tick-end2 .ensures)
 
 same-length-2 : tie.Need-same-length-2 Inv-loop μ-loop
 same-length-2 c = c .before .loop .inv .long
@@ -93,10 +93,10 @@ read-tick-spec =
     slice-aggregate-tick-end
     tick-end-requires
     loop-holds
-    sub-read-full
-    part-read-full-start
-    part-read-full-end
-    read-full-requires
+    sub-read-next
+    part-read-next-start
+    part-read-next-end
+    read-next-requires
     add-used
     same-length
     returns

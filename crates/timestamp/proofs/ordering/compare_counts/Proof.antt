@@ -5,7 +5,7 @@ use mathlib.Core.Path.{_≡_, refl, sym, ap, _∙_}
 use native.Mathlib.Omega.{arith}
 use lib.ListN.{drop}
 use Rattle.laws.specs.Lex.{lexCompare}
-use Rattle.timestamp.specs.Ranks.{orderOf, countsFrom}
+use Rattle.timestamp.specs.Ranks.{orderOf, newestCounts}
 use Rattle.timestamp.proofs.Ordered.{counts-none, counts-first, counts-after, counts-next}
 use Rattle.timestamp.proofs.ordering.compare_counts.Statement.{statement}
 use Rattle.timestamp.proofs.ordering.compare_counts.Tie as tie
@@ -13,8 +13,8 @@ use Rattle.timestamp.proofs.ordering.compare_counts.Tie as tie
 abbrev Inv-loop : tie.InvT-loop
 Inv-loop epsilon a ca b cb k₀ k =
     (k ≤ epsilon)
-    × (lexCompare (countsFrom epsilon ca a) (countsFrom epsilon cb b)
-    ≡ lexCompare (drop k (countsFrom epsilon ca a)) (drop k (countsFrom epsilon cb b)))
+    × (lexCompare (newestCounts epsilon ca a) (newestCounts epsilon cb b)
+    ≡ lexCompare (drop k (newestCounts epsilon ca a)) (drop k (newestCounts epsilon cb b)))
 
 abbrev μ-loop : tie.MeasureT-loop
 μ-loop epsilon a ca b cb k₀ k = epsilon - k

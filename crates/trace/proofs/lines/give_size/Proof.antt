@@ -1,32 +1,26 @@
 -- `trace::lines::give_size` meets its contract. Assumes nothing.
+use Prim.Native.Nat.{ℕ}
 use mathlib.Core.Path.{ap}
 use mathlib.Core.List.{List}
-use Prim.Native.Nat.{ℕ}
+use native.Mathlib.Omega.{arith}
 use lib.ListN.{length}
 use Rattle.trace.proofs.Putting.{length-give}
-use Rattle.trace.proofs.Giving.{give-at}
+use Rattle.trace.proofs.Giving.{give-at, payload-most}
 use borrow.Author.Needs.{needs}
-use native.Mathlib.Omega.{arith}
 use Rattle.trace.proofs.lines.give_size.Statement.{statement}
 use Rattle.trace.proofs.lines.give_size.Tie as tie
 
-add-byte-at : tie.Need-add-byte-at
-add-byte-at c = search needs
+frame-at-requires : tie.Need-frame-at-requires
+frame-at-requires c κs = search needs
 
-byte-at-requires : tie.Need-byte-at-requires
-byte-at-requires c κs = search needs
+station-of-requires : tie.Need-station-of-requires
+station-of-requires c κs = search needs
 
-cast-station : tie.Need-cast-station
-cast-station c = search needs
+r-of-requires : tie.Need-r-of-requires
+r-of-requires c κs = search needs
 
-add-two-at : tie.Need-add-two-at
-add-two-at c = search needs
-
-two-at-requires : tie.Need-two-at-requires
-two-at-requires c κs = search needs
-
-payload-at-requires : tie.Need-payload-at-requires
-payload-at-requires c κs = search needs
+payload-part-requires : tie.Need-payload-part-requires
+payload-part-requires c κs = search needs
 
 digit-count-requires : tie.Need-digit-count-requires
 digit-count-requires c κs = search needs
@@ -44,27 +38,33 @@ payload-size-requires : tie.Need-payload-size-requires
 payload-size-requires c κs = search needs
 
 add-result-3 : tie.Need-add-result-3
-add-result-3 c = omega (arith, c .before .before .before .payload-at .ensures .1, c .payload-size .ensures .1, c .before .before .digit-count .ensures .1, c .before .digit-count2 .ensures .1)
+add-result-3 c =
+    omega (
+      arith,
+      c .before .before .before .before .before .before .frame-at .ensures .1,
+      payload-most (c .before .before .before .before .before .before .before .before .args .epsilon) (c .before .before .before .before .before .before .frame-at .result .now) (c .before .before .before .payload-part .result .now) (c .before .before .before .payload-part .ensures),
+      c .payload-size .ensures .1,
+      c .before .before .digit-count .ensures .1,
+      c .before .digit-count2 .ensures .1,
+    )
 
 returns : tie.Need-returns
 returns c =
-    let args = c .before .before .before .before .before .before .before .args in
-    let station = c .before .before .before .before .before .byte-at .result in
-    let r = c .before .before .before .before .two-at .result in
-    let payload = c .before .before .before .payload-at .result .now in
-    let text = give-at (args .epsilon) (args .delivery .now) (args .at) station r payload (c .before .before .before .before .before .byte-at .ensures) (c .before .before .before .before .two-at .ensures) (c .before .before .before .payload-at .ensures .0) in
+    let args = c .before .before .before .before .before .before .before .before .args in
+    let station = c .before .before .before .before .before .station-of .result in
+    let r = c .before .before .before .before .r-of .result in
+    let payload = c .before .before .before .payload-part .result .now in
+    let text = give-at (args .epsilon) (args .delivery .now) (args .at) station r (c .before .before .before .before .before .before .frame-at .result .now) payload (c .before .before .before .before .before .before .frame-at .ensures .0) (c .before .before .before .before .before .station-of .ensures (args .epsilon)) (c .before .before .before .before .r-of .ensures (args .epsilon)) (c .before .before .before .payload-part .ensures) in
     omega (arith, c .before .before .digit-count .ensures .0, c .before .digit-count2 .ensures .0, c .payload-size .ensures .0, length-give station r payload, ap (λ (l : List ℕ). length l) text)
 
 pub give-size-spec : {M : Type 1} → statement M
 give-size-spec =
     tie.close
     (tie.spec
-    add-byte-at
-    byte-at-requires
-    cast-station
-    add-two-at
-    two-at-requires
-    payload-at-requires
+    frame-at-requires
+    station-of-requires
+    r-of-requires
+    payload-part-requires
     digit-count-requires
     add-result
     digit-count-requires-2

@@ -17,7 +17,7 @@ use Rattle.trace.proofs.lines.gives_fit.Tie as tie
 abbrev Inv-loop : tie.InvT-loop
 Inv-loop delivery epsilon room left₀ at₀ room-left₀ left at room-left =
     (leb (length (giveLines epsilon delivery)) room ≡ leb (length (giveLinesFrom epsilon delivery left at)) room-left)
-    × (at + 17179869184 * left ≤ 2 + 17179869184 * 65535)
+    × (at + 512 * left ≤ 2 + 512 * 65535)
 
 abbrev μ-loop : tie.MeasureT-loop
 μ-loop delivery epsilon room left₀ at₀ room-left₀ left at room-left = left

@@ -15,7 +15,7 @@ use Rattle.trace.proofs.lines.put_gives.Tie as tie
 abbrev Inv-loop : tie.InvT-loop
 Inv-loop buf₀ from delivery epsilon left₀ at₀ end₀ buf left at end =
     Ahead buf₀ from (giveLines epsilon delivery) buf end (giveLinesFrom epsilon delivery left at)
-    × (at + 17179869184 * left ≤ 2 + 17179869184 * 65535)
+    × (at + 512 * left ≤ 2 + 512 * 65535)
 
 abbrev μ-loop : tie.MeasureT-loop
 μ-loop buf₀ from delivery epsilon left₀ at₀ end₀ buf left at end = left
@@ -46,7 +46,7 @@ put-give-at-requires c κs =
     let next = at-loop .loop .at + frameEnd (args .epsilon) (drop (at-loop .loop .at) (args .delivery .now)) in
     let e : at-loop .loop .left ≡ suc (at-loop .loop .left - 1) = omega arith in
     let lines = give-one (args .epsilon) (args .delivery .now) (at-loop .loop .left) (at-loop .loop .left - 1) (at-loop .loop .at) next e refl in (
-      (omega arith, c .before .before .before .before .before .before .pre .0),
+      c .before .before .before .before .before .before .pre .0,
       ahead-first (giveLine (frameFrom (args .epsilon) (args .delivery .now) (at-loop .loop .at))) (giveLinesFrom (args .epsilon) (args .delivery .now) (at-loop .loop .left - 1) next)
           (ahead-as lines (at-loop .loop .inv .0)),
     )

@@ -1,0 +1,98 @@
+-- `node::hearing::enqueue` meets its contract. Assumes nothing.
+use Prim.Native.Nat.{_<_}
+use native.Mathlib.Omega.{arith}
+use mathlib.Core.Path.{_∙_, ap}
+use lib.ListN.{length}
+use borrow.Author.Needs.{needs}
+use Rattle.model.specs.Holdback.{held}
+use Rattle.holdback.specs.Starts.{startPlaces}
+use Rattle.holdback.proofs.RoundTrip.{Bytes}
+use Rattle.holdback.proofs.Seen.{length-seen}
+use Rattle.holdback.proofs.Started.{place-inside}
+use Rattle.setup.specs.Views.{setupOf}
+use Rattle.node.proofs.Places.{Known, known, fits, short, movable, spans, more-held, more-extent, more-queued}
+use Rattle.node.proofs.hearing.enqueue.Statement.{statement}
+use Rattle.node.proofs.hearing.enqueue.Tie as tie
+
+here : (c : tie.Start) → Known (setupOf (c .args .setup)) (c .args .clock) (c .args .holdback .now) (c .args .place .index) (c .args .s .now)
+here c = known (c .pre .0)
+
+-- where it starts, from its second call
+abbrev begin : tie.After-slice-known4 → tie.Start
+begin c = c .before .before .before .before .before .before .before .before .before
+
+cast-put : tie.Need-cast-put
+cast-put c = search needs
+
+put-requires : tie.Need-put-requires
+put-requires c κs =
+    let start = c .before .before .before .before .before .before in
+    let extent = start .pre .1 .1 in
+    (spans (start .pre .0) extent, (here start .form, (omega (arith, fits (start .pre .0), extent .ends), omega (arith, extent .count-is, here start .few))))
+
+sum-place-requires : tie.Need-sum-place-requires
+sum-place-requires c κs = let start = begin c in ((start .pre .0 .timed .limits, start .pre .0 .timed .below), here start .fit)
+
+-- the sum has a place
+placed : (c : tie.After-sum-place) → c .sum-place .result < startPlaces
+placed c =
+    let start = begin (c .before) in
+    omega (arith, c .sum-place .ensures, place-inside (setupOf (start .args .setup)) (start .args .clock) (here start .limits) (start .args .s .now) (here start .fit))
+
+add-shift-starts : tie.Need-add-shift-starts
+add-shift-starts c = omega (arith, placed (c .before))
+
+add-shift-starts-2 : tie.Need-add-shift-starts-2
+add-shift-starts-2 c = omega (arith, short (begin (c .before .before) .pre .0))
+
+cast-shift-starts : tie.Need-cast-shift-starts
+cast-shift-starts c = omega (arith, short (begin (c .before .before) .pre .0))
+
+shift-starts-requires : tie.Need-shift-starts-requires
+shift-starts-requires c κs = let start = begin (c .before .before) in movable (start .pre .0) (start .pre .1 .0 .starts-is)
+
+mark-requires : tie.Need-mark-requires
+mark-requires c κs =
+    let start = c .before .before .before .before .before .before .before .before .before .before .before .before .before .before .before in (
+      (start .pre .0 .timed .limits, start .pre .0 .timed .below),
+      (here start .placeable, ap length (start .pre .1 .0 .table-is) ∙ length-seen (setupOf (start .args .setup)) (start .args .clock) (held (start .args .setup .epsilon) (start .args .holdback .now))),
+    )
+
+same-length : tie.Need-same-length
+same-length c = search needs
+
+same-length-2 : tie.Need-same-length-2
+same-length-2 c = search needs
+
+same-length-3 : tie.Need-same-length-3
+same-length-3 c = search needs
+
+returns : tie.Need-returns
+returns c =
+    let start = c .before .before .before .before .before .before .before .before .before .before .before .before .before .before .before .before .before .before in
+    let put = c .before .before .before .before .before .before .before .before .before .before .before .put .ensures in
+    let clean : Bytes (start .args .holdback .now) = λ i. omega (arith, c .before .before .before .before .before .before .before .before .before .before .before .before .before .before .before .before .slice-known .given i) in
+    let bytes-clean : Bytes (start .args .s .now) = λ i. omega (arith, c .before .before .before .before .before .before .before .before .before .before .before .before .before .before .before .before .before .shared-slice-known .given i) in
+    record {
+      queued = more-queued (start .pre .0) put clean bytes-clean (start .pre .1 .0) (c .before .before .mark .ensures) (c .before .before .before .before .before .before .before .before .sum-place .ensures) (c .before .before .before .before .before .before .shift-starts .ensures);
+      extent = more-extent (start .pre .0) put clean bytes-clean (start .pre .1 .1);
+      buffer-is = put;
+      queue = more-held (start .pre .0) put;
+    }
+
+pub enqueue-spec : {M : Type 1} → statement M
+enqueue-spec =
+    tie.close
+    (tie.spec
+    cast-put
+    put-requires
+    sum-place-requires
+    add-shift-starts
+    add-shift-starts-2
+    cast-shift-starts
+    shift-starts-requires
+    mark-requires
+    same-length
+    same-length-2
+    same-length-3
+    returns)

@@ -1,0 +1,146 @@
+-- The entries of a call one after the other: what has been heard, and what hearing has made of queue and stamp, before each.
+-- Assumes nothing.
+use Prim.Native.Nat.{ℕ, suc, _%_, _≤_, _<_}
+use native.Mathlib.Omega.{arith}
+use mathlib.Core.Path.{_≡_, refl, sym, ap, ap₂, _∙_}
+use mathlib.Core.Bool.{Bool, true, false, _||_, or-false}
+use mathlib.Core.List.{List, [], _∷_, _++_}
+use mathlib.Core.Option.{some}
+use lib.ListN.{length, take, getD, getElem?}
+use lib.Seq.{take-suc, take-all}
+use borrow.Author.Tests.{eq-eqb}
+use Rattle.laws.specs.Lists.{any}
+use Rattle.laws.proofs.Lists.{any-append}
+use Rattle.model.specs.Setup.{Setup}
+use Rattle.model.specs.Timestamp.{Timestamp}
+use Rattle.model.specs.Frame.{decode}
+use Rattle.model.specs.Batch.{batchEntries}
+use Rattle.model.specs.Question.{firstNo}
+use Rattle.model.specs.Judge.{Asking, Heard, hear, hearOne, judgeQuestions, absorbBy, absorbAll}
+use Rattle.model.specs.Tick.{opening, heardOf, heardStamp, openingQueue, openingStamp}
+use Rattle.model.specs.Run.{Node, stale, Call, Done, inputOf, isAccepted, outputOf, doneOf}
+use Rattle.theory.specs.Demand3.{heardIn, isFrom}
+use Rattle.lemmas.proofs.OneTick.{numbersOf, heard-verdicts, verdict-byte}
+use Rattle.theory.proofs.Event.{accepted-input, setup-at, clock-at, opens-stamp, opens-queue}
+use Rattle.theory.proofs.World.{Due-call, heardAt}
+
+-- general
+or-assoc : (a b c : Bool) → (a || (b || (c || false))) ≡ ((a || b) || c)
+or-assoc true b c = refl
+or-assoc false true c = refl
+or-assoc false false true = refl
+or-assoc false false false = refl
+
+-- what has been heard before entry e of the call
+abbrev pub heardTo : List Done → Call → ℕ → ℕ → Bool
+heardTo past call e k = heardAt past (call .node) k || any (isFrom k) (take e (call .sources))
+
+pub heard-suc : (past : List Done) (call : Call) (e : ℕ) → e < length (call .sources) → (j : ℕ) → heardTo past call (suc e) j ≡ (heardTo past call e j || isFrom j (getD (call .sources) e stale))
+unfolding any
+heard-suc past call e h j =
+    rw (take-suc (call .sources) e stale h, any-append (isFrom j) (take e (call .sources)) (getD (call .sources) e stale ∷ []))
+    (or-assoc (heardAt past (call .node) j) (any (isFrom j) (take e (call .sources))) (isFrom j (getD (call .sources) e stale)))
+
+-- after its last entry
+pub heard-end :
+    (past : List Done) (node : Node) (call : Call) → isAccepted (outputOf node call) ≡ true → (e : ℕ) → length (call .sources) ≤ e
+    → (k : ℕ) → heardTo past call e k ≡ heardAt (past ++ (doneOf node call ∷ [])) (call .node) k
+unfolding heardAt any heardIn doneOf
+heard-end past node call accepted e all k =
+    rw (
+      any-append (heardIn (call .node) k) past (doneOf node call ∷ []),
+      accepted,
+      eq-eqb (call .node) (call .node) refl,
+      take-all e (call .sources) all,
+      or-false (any (isFrom k) (call .sources)),
+    ) refl
+
+-- one entry more
+hear-snoc : (s : Setup) (v : ℕ) (asking : Asking) (h : Heard) (xs : List (List ℕ)) (b : List ℕ) → hear s v asking h (xs ++ (b ∷ [])) ≡ hearOne s v asking (hear s v asking h xs) b
+unfolding hear
+hear-snoc s v asking h [] b = refl
+hear-snoc s v asking h (x ∷ xs) b = hear-snoc s v asking (hearOne s v asking h x) xs b
+
+absorb-snoc :
+    (s : Setup) (v : ℕ) (h : Heard) (t : Timestamp) (xs : List (List ℕ)) (b : List ℕ)
+    → absorbAll s v t (xs ++ (b ∷ [])) (numbersOf s v h (xs ++ (b ∷ [])))
+    ≡ absorbBy (firstNo (judgeQuestions s v (hear s v (judgeQuestions s v) h xs .queue) b)) s v (decode (s .epsilon) b) (absorbAll s v t xs (numbersOf s v h xs))
+unfolding hear absorbAll numbersOf
+absorb-snoc s v h t [] b = refl
+absorb-snoc s v h t (x ∷ xs) b =
+    absorb-snoc s v (hearOne s v (judgeQuestions s v) h x) (absorbBy (firstNo (judgeQuestions s v (h .queue) x)) s v (decode (s .epsilon) x) t) xs b
+
+-- a node's call for v
+module _ (s : Setup) (v : ℕ) (node : Node) (call : Call) where
+  abbrev entries : List (List ℕ)
+  entries = batchEntries (call .batch)
+
+  -- what hearing starts from, on the queue
+  abbrev pub startHere : Heard
+  startHere = record { queue = openingQueue s (v % s .modulus) (node .holdback); verdicts = [] }
+
+  -- what hearing has made of the queue before entry e
+  unfoldable pub stateAt : ℕ → Heard
+  stateAt e = hear s (v % s .modulus) (judgeQuestions s (v % s .modulus)) startHere (take e entries)
+
+  -- and of the stamp
+  unfoldable pub stampAt : ℕ → Timestamp
+  stampAt e = absorbAll s (v % s .modulus) (openingStamp s (v % s .modulus) (node .tables)) (take e entries) (numbersOf s (v % s .modulus) startHere (take e entries))
+
+  pub state-suc :
+      (e : ℕ) → e < length entries
+      → stateAt (suc e) ≡ hearOne s (v % s .modulus) (judgeQuestions s (v % s .modulus)) (stateAt e) (getD entries e [])
+  unfolding stateAt
+  state-suc e h =
+      ap (hear s (v % s .modulus) (judgeQuestions s (v % s .modulus)) startHere) (take-suc entries e [] h)
+      ∙ hear-snoc s (v % s .modulus) (judgeQuestions s (v % s .modulus)) startHere (take e entries) (getD entries e [])
+
+  pub stamp-suc :
+      (e : ℕ) → e < length entries
+      → stampAt (suc e)
+      ≡ absorbBy (firstNo (judgeQuestions s (v % s .modulus) (stateAt e .queue) (getD entries e []))) s (v % s .modulus) (decode (s .epsilon) (getD entries e [])) (stampAt e)
+  unfolding stateAt stampAt
+  stamp-suc e h =
+      ap (λ (l : List (List ℕ)). absorbAll s (v % s .modulus) (openingStamp s (v % s .modulus) (node .tables)) l (numbersOf s (v % s .modulus) startHere l)) (take-suc entries e [] h)
+      ∙ absorb-snoc s (v % s .modulus) startHere (openingStamp s (v % s .modulus) (node .tables)) (take e entries) (getD entries e [])
+
+  -- an accepted one
+  module _ (c : Due-call s node call v) where
+    pub state-is :
+        (xs : List (List ℕ))
+        → hear (inputOf node call .setup) (inputOf node call .clock) (judgeQuestions (inputOf node call .setup) (inputOf node call .clock)) (opening (inputOf node call)) xs
+        ≡ hear s (v % s .modulus) (judgeQuestions s (v % s .modulus)) startHere xs
+    state-is xs = rw (opens-queue s node call c, setup-at s node call c, clock-at s node call c) refl
+
+    pub heard-all : heardOf (inputOf node call) ≡ hear s (v % s .modulus) (judgeQuestions s (v % s .modulus)) startHere entries
+    unfolding heardOf
+    heard-all = unfold inputOf in (state-is entries)
+
+    pub absorbed-all :
+        heardStamp (inputOf node call)
+        ≡ absorbAll s (v % s .modulus) (openingStamp s (v % s .modulus) (node .tables)) entries (numbersOf s (v % s .modulus) startHere entries)
+    unfolding heardStamp
+    absorbed-all =
+        rw (heard-verdicts (inputOf node call), opens-stamp s node call c, opens-queue s node call c, setup-at s node call c, clock-at s node call c) (unfold inputOf in refl)
+
+    pub state-end : heardOf (inputOf node call) ≡ stateAt (length entries)
+    unfolding stateAt
+    state-end =
+        heard-all ∙ ap (hear s (v % s .modulus) (judgeQuestions s (v % s .modulus)) startHere) (sym (take-all (length entries) entries (omega arith)))
+
+    pub stamp-end : heardStamp (inputOf node call) ≡ stampAt (length entries)
+    unfolding stampAt
+    stamp-end =
+        absorbed-all
+        ∙ ap (λ (l : List (List ℕ)). absorbAll s (v % s .modulus) (openingStamp s (v % s .modulus) (node .tables)) l (numbersOf s (v % s .modulus) startHere l))
+        (sym (take-all (length entries) entries (omega arith)))
+
+    -- the verdict of an entry, by the state before it
+    pub state-verdict :
+        (e : ℕ) (bytes : List ℕ) → getElem? entries e ≡ some bytes
+        → getD (outputOf node call .verdicts) e 0 ≡ firstNo (judgeQuestions s (v % s .modulus) (stateAt e .queue) bytes)
+    unfolding stateAt outputOf
+    state-verdict e bytes at =
+        verdict-byte (inputOf node call) (accepted-input node call (c .accepted)) e bytes (unfold inputOf in at)
+        ∙ (unfold inputOf in (ap (λ (h : Heard). firstNo (judgeQuestions (call .setup) (call .clock) (h .queue) bytes)) (state-is (take e entries)))
+        ∙ ap₂ (λ (t : Setup) (u : ℕ). firstNo (judgeQuestions t u (stateAt e .queue) bytes)) (setup-at s node call c) (clock-at s node call c))

@@ -1,0 +1,303 @@
+-- An accepted call keeps the invariant: the nodes and calls after it.
+-- Assumes nothing.
+use Prim.Native.Nat.{ℕ, suc, _+_, _%_, _≤_, _<_}
+use native.Mathlib.Omega.{arith}
+use mathlib.Core.Path.{_≡_, refl, sym, ap, ap₂, subst, _∙_}
+use mathlib.Core.Logic.{inl, inr}
+use mathlib.Core.Bool.{Bool, true, false, _&&_, _||_, not, or-false}
+use mathlib.Core.List.{List, [], _∷_, _++_, List·Memᴰ}
+use mathlib.Core.Option.{some}
+use lib.Dec.{eqb}
+use lib.ListN.{length, getElem?, length-set, length-append}
+use borrow.Author.Tests.{eqb-true, ne-eqb}
+use Rattle.laws.specs.Lists.{any, select}
+use Rattle.laws.proofs.Numbers.{eq-or-ne, clash, and-right, or-cases, not-of-false}
+use Rattle.laws.proofs.Lists.{any-append, any-mem, mem-getElem?, getElem?-lt, getElem?-append, getElem?-snoc-cases, mem-of-select, mem-select}
+use Rattle.model.specs.Setup.{Setup}
+use Rattle.model.specs.Timestamp.{trimmed, Timestamp, sum}
+use Rattle.model.specs.Frame.{Frame}
+use Rattle.model.specs.Order.{readingOf, due, dueNear}
+use Rattle.model.specs.Holdback.{held}
+use Rattle.model.specs.Tick.{heardOf, heardStamp, dueNow, keptOf}
+use Rattle.model.specs.Run.{Node, Source, sentBy, stale, Call, Done, World, inputOf, isAccepted, outputOf, doneOf, nodeAfter, act}
+use Rattle.theory.specs.Demand3.{heardIn, isFrom}
+use Rattle.theory.proofs.Event.{setup-at, clock-at, done-clock, after-clock, event-stamp, event-made, leaves-tables, leaves-queue, memory-left, event-reads, event-own}
+use Rattle.theory.proofs.Reach.{reached-grows, reached-gains}
+use Rattle.theory.proofs.Stamps.{bounded-grows, own-bounded}
+use Rattle.theory.proofs.HearLoop.{some-inj, followed-sends}
+use Rattle.theory.proofs.World.{AllWaiting, LeftAt, eventFrame, reached, Bounded, followed, heardAt, Explained, AllExplained, Maker, Settled, Passed-on, NodeOk, Group, Good, Legal, act-is, sends-accepted, nodesAfter, after-at, after-other, after-together}
+use Rattle.theory.proofs.Promises.{Ends}
+
+module _ (s : Setup) (floor from : ℕ) (w : World) (call : Call) (node : Node) (v : ℕ) (good : Good s floor from w) (legal : Legal s floor w call node v) (ends : Ends s floor from w call node v) where
+  -- the nodes and calls after it
+  abbrev node′ : Node
+  node′ = nodeAfter node (outputOf node call)
+
+  abbrev nodes′ : List Node
+  nodes′ = nodesAfter (w .nodes) call node
+
+  abbrev past′ : List Done
+  past′ = w .past ++ (doneOf node call ∷ [])
+
+  abbrev world′ : World
+  world′ = record { nodes = nodes′; past = past′ }
+
+  clock′ : node′ .clock ≡ v
+  clock′ = after-clock s node call (legal .called)
+
+  own′ : node′ .own ≡ node .own
+  unfolding nodeAfter
+  own′ = refl
+
+  grows : (u : ℕ) → reached (s .epsilon) (w .nodes) u ≤ reached (s .epsilon) nodes′ u
+  grows u = reached-grows (s .epsilon) (w .nodes) u (call .node) node node′ (legal .at) (omega (arith, clock′, legal .called .turn))
+
+  was : (j : ℕ) (a : Node) → getElem? nodes′ j ≡ some a → (b : Node) × (getElem? (w .nodes) j ≡ some b) × (a .own ≡ b .own)
+  was j a at =
+      elim (eq-or-ne (call .node) j) [
+        | inl q ↦
+            let e : a ≡ node′ = some-inj (sym at ∙ (ap (getElem? nodes′) (sym q) ∙ (after-at (w .nodes) call node (legal .at)))) in
+            (node, ap (getElem? (w .nodes)) (sym q) ∙ legal .at, ap (λ (x : Node). x .own) e ∙ own′)
+        | inr q ↦ (a, sym (after-other (w .nodes) call node j q) ∙ at, refl)
+      ]
+
+  group′ : Group s nodes′
+  group′ =
+      record {
+        limits = λ j a at. let r = was j a at in good .group .limits j (r .0) (r .1);
+        distinct = λ i j a b p q e.
+            let x = was i a p in
+            let y = was j b q in
+            good .group .distinct i j (x .0) (y .0) (x .1) (y .1) (sym (x .2) ∙ (e ∙ y .2));
+        together = after-together s floor w call node v legal;
+        few = omega (arith, length-set (w .nodes) (call .node) node′, good .group .few);
+      }
+
+  -- which messages have been heard
+  sent-known : (k : ℕ) (o : Source) (e : ℕ) → getElem? (call .sources) e ≡ some o → isFrom k o ≡ true → k < length (w .past)
+  unfolding isFrom
+  sent-known k (sentBy j) e at h =
+      let r = ends .kept .sent-before e j (unfold doneOf in at) in
+      omega (arith, eqb-true k j h, getElem?-lt (w .past) j (r .1))
+  sent-known k stale e at h = absurd (clash h refl)
+
+  heard-known : (i k : ℕ) → heardAt past′ i k ≡ true → k < length (w .past)
+  unfolding heardAt any heardIn doneOf
+  heard-known i k h =
+      elim (or-cases (any (heardIn i k) (w .past)) (heardIn i k (doneOf node call) || false) (sym (any-append (heardIn i k) (w .past) (doneOf node call ∷ [])) ∙ h)) [
+        | inl q ↦ good .heard-before i k q
+        | inr q ↦
+            let a : any (isFrom k) (call .sources) ≡ true =
+            and-right (eqb (call .node) i) (any (isFrom k) (call .sources))
+            (and-right (isAccepted (outputOf node call)) (eqb (call .node) i && any (isFrom k) (call .sources)) (sym (or-false (heardIn i k (doneOf node call))) ∙ q)) in
+            let r = any-mem (isFrom k) (call .sources) a in
+            let e = mem-getElem? (r .1) in
+            sent-known k (r .0) (e .0) (e .1) (r .2)
+      ]
+
+  heard-other : (j k : ℕ) → (call .node ≡ j → ⊥) → heardAt past′ j k ≡ heardAt (w .past) j k
+  unfolding heardAt any heardIn doneOf
+  heard-other j k ne =
+      rw (any-append (heardIn j k) (w .past) (doneOf node call ∷ []), legal .called .accepted, ne-eqb (call .node) j ne) (or-false (any (heardIn j k) (w .past)))
+
+  -- earlier calls stand where they stood
+  old-at : (k : ℕ) (m : Done) → getElem? (w .past) k ≡ some m → getElem? past′ k ≡ some m
+  old-at k m at = getElem?-append (w .past) (doneOf node call ∷ []) k (getElem?-lt (w .past) k at) ∙ at
+
+  known-at : (i k : ℕ) (m : Done) → getElem? past′ k ≡ some m → heardAt past′ i k ≡ true → getElem? (w .past) k ≡ some m
+  known-at i k m at hd = sym (getElem?-append (w .past) (doneOf node call ∷ []) k (heard-known i k hd)) ∙ at
+
+  explained-on :
+      (v j : ℕ) (heard : ℕ → Bool) (f : Frame) → ((k : ℕ) → heard k ≡ true → heardAt past′ j k ≡ true) → Explained s from (w .past) heard v f
+      → Explained s from past′ (heardAt past′ j) v f
+  explained-on v j heard f more (inl h) = inl h
+  explained-on v j heard f more (inr x) = inr (x .0, x .1, old-at (x .0) (x .1) (x .2), x .3, more (x .0) (x .4), x .5, x .6)
+
+  -- it has reached v, one node more
+  gains : reached (s .epsilon) nodes′ (v + s .epsilon) ≡ suc (reached (s .epsilon) (w .nodes) (v + s .epsilon))
+  gains = reached-gains (s .epsilon) (w .nodes) v (call .node) node node′ (legal .at) (omega (arith, legal .called .turn)) (omega (arith, clock′))
+
+  -- the new counts
+  bounded′ : Bounded s floor nodes′ v (eventFrame s (doneOf node call) .stamp .kn)
+  bounded′ =
+      subst (λ (t : Timestamp). Bounded s floor nodes′ v (t .kn)) (sym (event-own s node call (legal .called)))
+      (own-bounded s floor (w .nodes) nodes′ v (v % s .modulus) (heardStamp (inputOf node call)) (ends .stamp .absorbing .opened .wide)
+      (ends .limits .epsilon-pos) grows gains (ends .stamp .bounded))
+
+  maker′ : (d : Done) → Maker (w .nodes) d → Maker nodes′ d
+  maker′ d mk =
+      elim (eq-or-ne (call .node) (d .node)) [
+        | inl q ↦
+            let e : mk .node ≡ node = some-inj (sym (mk .at) ∙ (ap (getElem? (w .nodes)) (sym q) ∙ legal .at)) in
+            let c : mk .node .clock ≡ node .clock = ap (λ (x : Node). x .clock) e in
+            record {
+              node = node′;
+              at = ap (getElem? nodes′) (sym q) ∙ (after-at (w .nodes) call node (legal .at));
+              own-is = own′ ∙ (sym (ap (λ (x : Node). x .own) e) ∙ mk .own-is);
+              clock-is = omega (arith, mk .clock-is, clock′, legal .called .turn);
+            }
+        | inr q ↦ record { node = mk .node; at = after-other (w .nodes) call node (d .node) q ∙ mk .at; own-is = mk .own-is; clock-is = mk .clock-is }
+      ]
+
+  new-maker : Maker nodes′ (doneOf node call)
+  new-maker =
+      record {
+        node = node′;
+        at = unfold doneOf in (after-at (w .nodes) call node (legal .at));
+        own-is = unfold doneOf in own′;
+        clock-is = omega (arith, clock′, done-clock s node call (legal .called));
+      }
+
+  new-settled : Settled s floor nodes′ (doneOf node call)
+  new-settled =
+      record {
+        event = event-made s node call (legal .called);
+        maker = new-maker;
+        bounded = subst (λ (v : ℕ). Bounded s floor nodes′ v (eventFrame s (doneOf node call) .stamp .kn)) (sym (done-clock s node call (legal .called))) bounded′;
+      }
+
+  calls′ : (k : ℕ) (d : Done) → getElem? past′ k ≡ some d → isAccepted (d .output) ≡ true → Settled s floor nodes′ d
+  calls′ k d at acc =
+      elim (getElem?-snoc-cases (w .past) (doneOf node call) k at) [
+        | inl q ↦
+            let st = good .calls k d q acc in
+            record {
+              event = st .event;
+              maker = maker′ d (st .maker);
+              bounded = bounded-grows s floor (w .nodes) nodes′ (d .clock) (eventFrame s d .stamp .kn) grows (st .bounded);
+            }
+        | inr q ↦ subst (Settled s floor nodes′) (sym (q .1)) new-settled
+      ]
+
+  -- no call of this station was for this clock before
+  first-at : (k : ℕ) (a : Done) → getElem? (w .past) k ≡ some a → isAccepted (a .output) ≡ true → a .own ≡ node .own → a .clock ≡ v → ⊥
+  first-at k a at acc o c =
+      let mk = good .calls k a at acc .maker in
+      let e : a .node ≡ call .node = good .group .distinct (a .node) (call .node) (mk .node) node (mk .at) (legal .at) (mk .own-is ∙ o) in
+      let q : mk .node ≡ node = some-inj (sym (mk .at) ∙ (ap (getElem? (w .nodes)) e ∙ legal .at)) in
+      let h : mk .node .clock ≡ node .clock = ap (λ (x : Node). x .clock) q in
+      omega (arith, mk .clock-is, legal .called .turn)
+
+  unique′ : (k l : ℕ) (a b : Done) → getElem? past′ k ≡ some a → getElem? past′ l ≡ some b → isAccepted (a .output) ≡ true → isAccepted (b .output) ≡ true → a .own ≡ b .own → a .clock ≡ b .clock → k ≡ l
+  unique′ k l a b p q x y o c =
+      elim (getElem?-snoc-cases (w .past) (doneOf node call) k p) [
+        | inl p′ ↦ elim (getElem?-snoc-cases (w .past) (doneOf node call) l q) [
+          | inl q′ ↦ good .unique k l a b p′ q′ x y o c
+          | inr q′ ↦
+              absurd (first-at k a p′ x (o ∙ (ap (λ (d : Done). d .own) (q′ .1) ∙ unfold doneOf in refl)) (c ∙ (ap (λ (d : Done). d .clock) (q′ .1) ∙ done-clock s node call (legal .called))))
+        ]
+        | inr p′ ↦ elim (getElem?-snoc-cases (w .past) (doneOf node call) l q) [
+          | inl q′ ↦
+              absurd (first-at l b q′ y (sym o ∙ (ap (λ (d : Done). d .own) (p′ .1) ∙ unfold doneOf in refl)) (sym c ∙ (ap (λ (d : Done). d .clock) (p′ .1) ∙ done-clock s node call (legal .called))))
+          | inr q′ ↦ p′ .0 ∙ sym (q′ .0)
+        ]
+      ]
+
+  -- the other nodes
+  other-ok : (j : ℕ) (a : Node) → (call .node ≡ j → ⊥) → NodeOk s floor from w j a → NodeOk s floor from world′ j a
+  other-ok j a ne (inl u) =
+      inl (record {
+        early = u .early;
+        unheard = λ k. heard-other j k ne ∙ u .unheard k;
+        uncalled = λ k d at acc same.
+            elim (getElem?-snoc-cases (w .past) (doneOf node call) k at) [
+              | inl q ↦ u .uncalled k d q acc same
+              | inr q ↦ ne (unfold doneOf in (sym (ap (λ (x : Done). x .node) (q .1)) ∙ same))
+            ];
+      })
+  other-ok j a ne (inr l) =
+      inr (record {
+        memory = l .memory;
+        bounded = bounded-grows s floor (w .nodes) nodes′ (a .clock) (trimmed (s .epsilon) (a .tables) .kn) grows (l .bounded);
+        members = λ f mem. explained-on (a .clock) j (heardAt (w .past) j) f (λ k h. heard-other j k ne ∙ h) (l .members f mem);
+        waiting = λ k m at fol hd un. l .waiting k m (known-at j k m at hd) fol (sym (heard-other j k ne) ∙ hd) un;
+        passed-on = λ k d at acc same.
+            elim (getElem?-snoc-cases (w .past) (doneOf node call) k at) [
+              | inl q ↦ l .passed-on k d q acc same
+              | inr q ↦ absurd (ne (unfold doneOf in (sym (ap (λ (x : Done). x .node) (q .1)) ∙ same)))
+            ];
+      })
+
+  -- what the call leaves at its node, at its clock
+  tables-here : trimmed (s .epsilon) (node′ .tables) ≡ eventFrame s (doneOf node call) .stamp
+  tables-here = leaves-tables s node call (legal .called) ∙ sym (event-stamp s node call (legal .called))
+
+  queue-here : held (s .epsilon) (node′ .holdback) ≡ select (λ f. not (dueNow s (v % s .modulus) f)) (heardOf (inputOf node call) .queue)
+  unfolding keptOf
+  queue-here =
+      leaves-queue s node call (legal .called)
+      ∙ ap₂ (λ (t : Setup) (u : ℕ). select (λ f. not (dueNow t u f)) (heardOf (inputOf node call) .queue)) (setup-at s node call (legal .called)) (clock-at s node call (legal .called))
+
+  members′ : AllExplained s from past′ (heardAt past′ (call .node)) v (held (s .epsilon) (node′ .holdback))
+  members′ f mem =
+      let r = mem-of-select (λ g. not (dueNow s (v % s .modulus) g)) (heardOf (inputOf node call) .queue) (subst (λ (q : List Frame). List·Memᴰ f q) queue-here mem) in
+      explained-on v (call .node) (heardAt past′ (call .node)) f (λ k h. h) (ends .queue .members f (r .0))
+
+  -- a followed message that is not yet due reads at its true clock
+  reads : (k : ℕ) (m : Done) → getElem? (w .past) k ≡ some m → followed from m ≡ true → v ≤ due s (m .clock) (eventFrame s m .stamp .c)
+      → readingOf s (v % s .modulus) (eventFrame s m) + v ≡ s .modulus + m .clock
+  unfolding due sum
+  reads k m at fol un =
+      let st = good .calls k m at (sends-accepted m (followed-sends from m fol)) in
+      event-reads s v m (ends .limits) (st .event)
+      (omega (arith, st .maker .clock-is, legal .called .turn, good .group .together (m .node) (call .node) (st .maker .node) node (st .maker .at) (legal .at)))
+      (omega (arith, un, st .event .frame .sound .close, ends .limits .modulus-least))
+
+  not-due : (k : ℕ) (m : Done) → getElem? (w .past) k ≡ some m → followed from m ≡ true → v < due s (m .clock) (eventFrame s m .stamp .c)
+      → dueNow s (v % s .modulus) (eventFrame s m) ≡ false
+  unfolding dueNow dueNear due sum
+  not-due k m at fol un =
+      ne-eqb (readingOf s (v % s .modulus) (eventFrame s m) + eventFrame s m .stamp .c + s .delta + s .epsilon) (s .modulus)
+      (λ e. omega (arith, reads k m at fol (omega (arith, un))))
+
+  waiting′ : AllWaiting s from past′ (heardAt past′ (call .node)) v (held (s .epsilon) (node′ .holdback))
+  waiting′ k m at fol hd un =
+      let old : getElem? (w .past) k ≡ some m = known-at (call .node) k m at hd in
+      subst (λ (q : List Frame). List·Memᴰ (eventFrame s m) q) (sym queue-here)
+      (mem-select (λ g. not (dueNow s (v % s .modulus) g)) (ends .queue .present k m old fol hd (omega arith)) (not-of-false (not-due k m old fol un)))
+
+  passes-on : (k : ℕ) (d : Done) → getElem? past′ k ≡ some d → isAccepted (d .output) ≡ true → d .node ≡ call .node → Passed-on s d v (eventFrame s (doneOf node call) .stamp)
+  passes-on k d at acc same =
+      record {
+        last = doneOf node call;
+        sound = event-made s node call (legal .called) .frame .sound;
+        comes =
+            elim (getElem?-snoc-cases (w .past) (doneOf node call) k at) [
+              | inl q ↦ inr (ends .kept .later k d q acc (unfold doneOf in same))
+              | inr q ↦ inl (q .1)
+            ];
+        under = rw (done-clock s node call (legal .called)) (record { sums = omega arith; counts = λ u h. omega arith });
+      }
+
+  here-ok : LeftAt s floor from world′ (call .node) node′
+  here-ok =
+      record {
+        memory = memory-left s node call (legal .called);
+        bounded =
+            subst (λ (x : ℕ). Bounded s floor nodes′ x (trimmed (s .epsilon) (node′ .tables) .kn)) (sym clock′)
+            (subst (λ (t : Timestamp). Bounded s floor nodes′ v (t .kn)) (sym tables-here) bounded′);
+        members = subst (λ (x : ℕ). AllExplained s from past′ (heardAt past′ (call .node)) x (held (s .epsilon) (node′ .holdback))) (sym clock′) members′;
+        waiting = subst (λ (x : ℕ). AllWaiting s from past′ (heardAt past′ (call .node)) x (held (s .epsilon) (node′ .holdback))) (sym clock′) waiting′;
+        passed-on = λ k d at acc same.
+            subst (λ (x : ℕ). Passed-on s d x (trimmed (s .epsilon) (node′ .tables))) (sym clock′)
+            (subst (λ (t : Timestamp). Passed-on s d v t) (sym tables-here) (passes-on k d at acc same));
+      }
+
+  pub step-good : Good s floor from (act w call)
+  step-good = subst (Good s floor from) (sym (act-is w call node (legal .at)))
+      (record {
+        group = group′;
+        node = node-ok;
+        calls = calls′;
+        unique = unique′;
+        heard-before = λ i k h. omega (arith, heard-known i k h, length-append (w .past) (doneOf node call ∷ []));
+      })
+    where
+      node-ok : (j : ℕ) (a : Node) → getElem? nodes′ j ≡ some a → NodeOk s floor from world′ j a
+      node-ok j a at =
+          elim (eq-or-ne (call .node) j) [
+            | inl q ↦
+                let e : a ≡ node′ = some-inj (sym at ∙ (ap (getElem? nodes′) (sym q) ∙ (after-at (w .nodes) call node (legal .at)))) in
+                subst (λ (x : ℕ). NodeOk s floor from world′ x a) q (subst (λ (x : Node). NodeOk s floor from world′ (call .node) x) (sym e) (inr here-ok))
+            | inr q ↦ other-ok j a q (good .node j a (sym (after-other (w .nodes) call node j q) ∙ at))
+          ]

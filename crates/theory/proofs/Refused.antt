@@ -1,0 +1,95 @@
+-- A refused call: it changes no node, and adds nothing to what is known.
+-- Assumes nothing.
+use Prim.Native.Nat.{ℕ, zero, suc}
+use native.Mathlib.Omega.{arith}
+use mathlib.Core.Path.{_≡_, refl, sym, ap, subst, _∙_}
+use mathlib.Core.Logic.{inl, inr}
+use mathlib.Core.Bool.{true, false, or-false}
+use mathlib.Core.List.{List, [], _∷_, _++_}
+use mathlib.Core.Option.{some}
+use lib.Dec.{eqb·suc-zero}
+use lib.ListN.{set, getElem?, length-append}
+use lib.Seq.{set-getD}
+use Rattle.laws.specs.Lists.{any}
+use Rattle.laws.proofs.Numbers.{clash}
+use Rattle.laws.proofs.Lists.{any-append, getElem?-lt, getElem?-getD, getElem?-append, getElem?-snoc-cases}
+use Rattle.model.specs.Setup.{Setup}
+use Rattle.model.specs.Frame.{Frame}
+use Rattle.model.specs.Question.{firstNo}
+use Rattle.model.specs.Tick.{callQuestions, refusal, acceptance, tickBy, tick}
+use Rattle.model.specs.Run.{Node, Call, Done, World, inputOf, isAccepted, outputOf, doneOf, nodeAfter, movedClock, act}
+use Rattle.theory.specs.Demand3.{heardIn}
+use Rattle.theory.proofs.HearLoop.{followed-sends}
+use Rattle.theory.proofs.World.{NodeOk, heardAt, Explained, Good, act-is, sends-accepted, nodesAfter}
+
+-- a refused call leaves its node
+pub refused-node : (node : Node) (call : Call) → isAccepted (outputOf node call) ≡ false → nodeAfter node (outputOf node call) ≡ node
+unfolding nodeAfter movedClock outputOf tick isAccepted refusal acceptance inputOf
+refused-node node call h = go (firstNo (callQuestions (inputOf node call))) h
+  where
+    go : (k : ℕ) → isAccepted (tickBy k (inputOf node call)) ≡ false → nodeAfter node (tickBy k (inputOf node call)) ≡ node
+    go zero e = absurd (clash refl e)
+    go (suc k) e = rw (eqb·suc-zero k) refl
+
+refused-heard : (past : List Done) (d : Done) (i k : ℕ) → isAccepted (d .output) ≡ false → heardAt (past ++ (d ∷ [])) i k ≡ heardAt past i k
+unfolding heardAt any heardIn
+refused-heard past d i k refused =
+    rw (any-append (heardIn i k) past (d ∷ []), refused) (or-false (any (heardIn i k) past))
+
+-- and adds nothing to what is known
+good-more :
+    (s : Setup) (floor from : ℕ) (w : World) (d : Done) → Good s floor from w → isAccepted (d .output) ≡ false
+    → Good s floor from (record { nodes = w .nodes; past = w .past ++ (d ∷ []) })
+good-more s floor from w d good refused =
+    record {
+      group = good .group;
+      node = λ i a at. node-more i a (good .node i a at);
+      calls = λ k e at acc. good .calls k e (old k e at acc) acc;
+      unique = λ k l a b p q x y o c. good .unique k l a b (old k a p x) (old l b q y) x y o c;
+      heard-before = λ i k h. omega (arith, good .heard-before i k (sym (heard-same i k) ∙ h), length-append (w .past) (d ∷ []));
+    }
+  where
+    old : (k : ℕ) (m : Done) → getElem? (w .past ++ (d ∷ [])) k ≡ some m → isAccepted (m .output) ≡ true → getElem? (w .past) k ≡ some m
+    old k m at acc =
+        elim (getElem?-snoc-cases (w .past) d k at) [
+          | inl q ↦ q
+          | inr q ↦ absurd (clash (ap (λ (x : Done). isAccepted (x .output)) (sym (q .1)) ∙ acc) refused)
+        ]
+
+    heard-same : (i k : ℕ) → heardAt (w .past ++ (d ∷ [])) i k ≡ heardAt (w .past) i k
+    heard-same i k = refused-heard (w .past) d i k refused
+
+    explained : (i v : ℕ) (f : Frame) → Explained s from (w .past) (heardAt (w .past) i) v f → Explained s from (w .past ++ (d ∷ [])) (heardAt (w .past ++ (d ∷ [])) i) v f
+    explained i v f (inl h) = inl h
+    explained i v f (inr x) =
+        inr (x .0, x .1, getElem?-append (w .past) (d ∷ []) (x .0) (getElem?-lt (w .past) (x .0) (x .2)) ∙ x .2, x .3, heard-same i (x .0) ∙ x .4, x .5, x .6)
+
+    node-more : (i : ℕ) (a : Node) → NodeOk s floor from w i a → NodeOk s floor from (record { nodes = w .nodes; past = w .past ++ (d ∷ []) }) i a
+    node-more i a (inl u) =
+        inl (record {
+          early = u .early;
+          unheard = λ k. heard-same i k ∙ u .unheard k;
+          uncalled = λ k e at acc same. u .uncalled k e (old k e at acc) acc same;
+        })
+    node-more i a (inr l) =
+        inr (record {
+          memory = l .memory;
+          bounded = l .bounded;
+          members = λ f mem. explained i (a .clock) f (l .members f mem);
+          waiting = λ k m at fol hd un. l .waiting k m (old k m at (sends-accepted m (followed-sends from m fol))) fol (sym (heard-same i k) ∙ hd) un;
+          passed-on = λ k e at acc same. l .passed-on k e (old k e at acc) acc same;
+        })
+
+-- a refused call
+pub refused-good :
+    (s : Setup) (floor from : ℕ) (w : World) (call : Call) (node : Node) → Good s floor from w → getElem? (w .nodes) (call .node) ≡ some node
+    → isAccepted (outputOf node call) ≡ false → Good s floor from (act w call)
+refused-good s floor from w call node good at refused =
+    subst (Good s floor from) (sym (act-is w call node at))
+    (subst (λ (l : List Node). Good s floor from (record { nodes = l; past = w .past ++ (doneOf node call ∷ []) })) (sym same-nodes)
+    (good-more s floor from w (doneOf node call) good (unfold doneOf in refused)))
+  where
+    same-nodes : nodesAfter (w .nodes) call node ≡ w .nodes
+    same-nodes =
+        ap (set (w .nodes) (call .node)) (refused-node node call refused ∙ sym (getElem?-getD (w .nodes) (call .node) node at))
+        ∙ set-getD (w .nodes) (call .node) node

@@ -1,0 +1,3 @@
+pub mod Refuting
+pub mod Telling
+pub mod Unedited

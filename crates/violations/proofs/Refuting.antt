@@ -1,0 +1,304 @@
+-- Each promise makes its test true, so a test that computes to false refutes the demand. Nothing here looks into a definition of the tick
+-- or of the premises: it holds under any edit of them.
+-- Assumes nothing.
+use Prim.Native.Nat.{ℕ, zero, suc, _+_, _<_}
+use native.Mathlib.Nat.{zero-add, add-zero, suc-add, add-suc}
+use mathlib.Core.Path.{_≡_, refl, sym, ap, subst, _∙_}
+use mathlib.Core.Logic.{_⊎_, inl, inr}
+use mathlib.Core.Bool.{Bool, true, false, _&&_, cond}
+use mathlib.Core.List.{List, [], _∷_}
+use mathlib.Core.List.{List·Memᴰ, List·Memᴰ·head, List·Memᴰ·tail, List·Memᴰ·not-nil, List·Memᴰ·cases-cons}
+use mathlib.Core.Option.{Option, none, some}
+use lib.Dec.{ltb, eqb}
+use lib.ListN.{take, getD, getElem?}
+use borrow.Author.Tests.{eqb-true, eq-eqb, ltb-true}
+use Rattle.laws.specs.Lists.{any, sameList}
+use Rattle.laws.proofs.Numbers.{true-or-false, clash, and-intro, and-left, and-right, or-cases, cond-true, cond-false}
+use Rattle.laws.proofs.Lists.{every-of-mem, any-mem, mem-getElem?, sameList-refl, sameList-eq}
+use Rattle.model.specs.Setup.{Setup}
+use Rattle.model.specs.Timestamp.{Timestamp}
+use Rattle.model.specs.Published.{Process}
+use Rattle.model.specs.Tick.{Input, tick}
+use Rattle.model.specs.Run.{Node, Source, sentBy, stale, Call, Done, isAccepted, runFrom, atStart}
+use Rattle.theory.specs.Premises.{goodStart, largestClock, keeps, sameTimestamp, allFresh, noneStale}
+use Rattle.theory.specs.Demand2.{AnyState, Demand2Any, Published, Outcome, outcomeOf, publish, publishAll, publishedStart, SameAs, Matched, Demand2Fresh}
+use Rattle.theory.specs.Demand3.{covered, isFrom, earlier, Leads, later, takes, on, Promised, Demand3}
+use Rattle.violations.specs.Tests.{everyFrom, anyFrom, implies, sameFrames, sendsRight, sendingTest, verdictRight, entryRight, hearingTest, deliversRight, deliveringTest, laterThan, takesFrom, stepTo, causesRight, causalityTest}
+use Rattle.violations.specs.Tests.{verdictTest, takenTest, deliveredTest, deliveryTest, sentTest, outgoingTest, repairTest, boundedTest, boundedQueueTest}
+use Rattle.violations.specs.Tests.{FreshTest, sameTables, sameRepair, sameTaken, sameVerdicts, sameHoldback, sameOutgoing, sameSent, sameDelivery, sameDelivered, matchedBy, freshTest}
+
+implies-intro : (a b : Bool) → (a ≡ true → b ≡ true) → implies a b ≡ true
+implies-intro true b h = h refl
+implies-intro false b h = refl
+
+same : {a b : ℕ} → a ≡ b → eqb a b ≡ true
+same {a} {b} e = eq-eqb a b e
+
+sameFrames-refl : (a : List (List ℕ)) → sameFrames a a ≡ true
+unfolding sameFrames
+sameFrames-refl [] = refl
+sameFrames-refl (x ∷ a) = and-intro (sameList-refl x) (sameFrames-refl a)
+
+sameFrames-eq : {a b : List (List ℕ)} → a ≡ b → sameFrames a b ≡ true
+sameFrames-eq {a} {b} e = rw e (sameFrames-refl b)
+
+on-by-one : (i k : ℕ) → suc i + k ≡ i + suc k
+on-by-one i k = suc-add i k ∙ sym (add-suc i k)
+
+module _ {A : Type 0} where
+  every-from : (p : ℕ → A → Bool) (i : ℕ) (l : List A) → ((k : ℕ) (x : A) → getElem? l k ≡ some x → p (i + k) x ≡ true) → everyFrom p i l ≡ true
+  unfolding everyFrom
+  every-from p i [] h = refl
+  every-from p i (x ∷ l) h =
+      and-intro (sym (ap (λ (n : ℕ). p n x) (add-zero i)) ∙ h 0 x refl)
+      (every-from p (suc i) l (λ k y e. ap (λ (n : ℕ). p n y) (on-by-one i k) ∙ h (suc k) y e))
+
+  every-at : (p : ℕ → A → Bool) (l : List A) → ((k : ℕ) (x : A) → getElem? l k ≡ some x → p k x ≡ true) → everyFrom p 0 l ≡ true
+  every-at p l h = every-from p 0 l (λ k x e. ap (λ (n : ℕ). p n x) (zero-add k) ∙ h k x e)
+
+  any-from : (p : ℕ → A → Bool) (i : ℕ) (l : List A) → anyFrom p i l ≡ true → (k : ℕ) × (x : A) × (getElem? l k ≡ some x) × (p (i + k) x ≡ true)
+  unfolding anyFrom
+  any-from p i [] h = absurd (clash h refl)
+  any-from p i (x ∷ l) h =
+      elim (or-cases (p i x) (anyFrom p (suc i) l) h) [
+        | inl e ↦ (0, x, refl, ap (λ (n : ℕ). p n x) (add-zero i) ∙ e)
+        | inr e ↦
+            let r = any-from p (suc i) l e in
+            (suc (r .0), r .1, r .2, sym (ap (λ (n : ℕ). p n (r .1)) (on-by-one i (r .0))) ∙ r .3)
+      ]
+
+  any-at : (p : ℕ → A → Bool) (l : List A) → anyFrom p 0 l ≡ true → (k : ℕ) × (x : A) × (getElem? l k ≡ some x) × (p k x ≡ true)
+  any-at p l h =
+      let r = any-from p 0 l h in
+      (r .0, r .1, r .2, sym (ap (λ (n : ℕ). p n (r .1)) (zero-add (r .0))) ∙ r .3)
+
+-- one step leads on
+from-is : (i : ℕ) (o : Source) → isFrom i o ≡ true → o ≡ sentBy i
+unfolding isFrom
+from-is i (sentBy k) h = ap sentBy (sym (eqb-true i k h))
+from-is i stale h = absurd (clash h refl)
+
+later-leads : (past : List Done) (i j : ℕ) (b : Done) → getElem? past j ≡ some b → laterThan j b i (getElem? past i) ≡ true → Leads past i j
+later-leads past i j b is h = go (getElem? past i) refl h
+  where
+    go : (o : Option Done) → getElem? past i ≡ o → laterThan j b i o ≡ true → Leads past i j
+    go none at t = absurd (clash t refl)
+    go (some a) at t =
+        later (ltb-true i j (and-left (ltb i j) (eqb (a .node) (b .node)) t)) at is
+        (eqb-true (a .node) (b .node) (and-right (ltb i j) (eqb (a .node) (b .node)) t))
+
+takes-leads : (past : List Done) (i j : ℕ) (b : Done) → getElem? past j ≡ some b → takesFrom b i ≡ true → Leads past i j
+takes-leads past i j b is h = go (any-at takesAt (b .call .sources) (and-right (isAccepted (b .output)) (anyFrom takesAt 0 (b .call .sources)) h))
+  where
+    takesAt : ℕ → Source → Bool
+    takesAt e o = isFrom i o && eqb (getD (b .output .verdicts) e 0) 0
+
+    go : (e : ℕ) × (o : Source) × (getElem? (b .call .sources) e ≡ some o) × (takesAt e o ≡ true) → Leads past i j
+    go (e, o, at, t) =
+        takes e is (and-left (isAccepted (b .output)) (anyFrom takesAt 0 (b .call .sources)) h)
+        (at ∙ ap some (from-is i o (and-left (isFrom i o) (eqb (getD (b .output .verdicts) e 0) 0) t)))
+        (eqb-true (getD (b .output .verdicts) e 0) 0 (and-right (isFrom i o) (eqb (getD (b .output .verdicts) e 0) 0) t))
+
+step-leads : (past : List Done) (i j : ℕ) (b : Done) → getElem? past j ≡ some b → stepTo past j b i ≡ true → Leads past i j
+step-leads past i j b is h =
+    elim (or-cases (laterThan j b i (getElem? past i)) (takesFrom b i) h) [
+      | inl t ↦ later-leads past i j b is t
+      | inr t ↦ takes-leads past i j b is t
+    ]
+
+-- Demand 3: the promises make their tests true
+module _ (s : Setup) (x : ℕ) (past : List Done) (p : Promised s x past) where
+  pub sending-true : sendingTest s x past ≡ true
+  unfolding sendingTest
+  sending-true =
+      every-of-mem (sendsRight s x) past (λ d m.
+      let at = mem-getElem? m in
+      implies-intro (covered s x d) _ (λ c.
+      let right = p .sending (at .0) d (at .1) c in
+      and-intro (same (right .0)) (and-intro (same (right .1)) (sameList-eq (right .2)))))
+
+  entry-true :
+      (j : ℕ) (d : Done) → getElem? past j ≡ some d → isAccepted (d .output) ≡ true → (e : ℕ) (o : Source) → getElem? (d .call .sources) e ≡ some o
+      → entryRight s x past j d e o ≡ true
+  entry-true j d at a e (sentBy k) is = go (getElem? past k) refl
+    where
+      go : (m : Option Done) → getElem? past k ≡ m → verdictRight s x past j d e k m ≡ true
+      go none from = refl
+      go (some m) from = implies-intro (covered s x m) _ (λ c. same (p .hearing j d at a e k m is from c))
+  entry-true j d at a e stale is = refl
+
+  pub hearing-true : hearingTest s x past ≡ true
+  unfolding hearingTest
+  hearing-true =
+      every-at _ past (λ j d at.
+      implies-intro (isAccepted (d .output)) _ (λ a. every-at (entryRight s x past j d) (d .call .sources) (entry-true j d at a)))
+
+  pub delivering-true : deliveringTest s x past ≡ true
+  unfolding deliveringTest
+  delivering-true =
+      every-at (deliversRight s x past) past (λ j d at.
+      implies-intro (isAccepted (d .output)) _ (λ a. sameFrames-eq (p .delivering j d at a)))
+
+  -- a call and the positions that it leads to so far
+  causes-true :
+      (i : ℕ) (a : Done) → getElem? past i ≡ some a → covered s x a ≡ true
+      → (led : List ℕ) → ((k : ℕ) → List·Memᴰ k led → (k ≡ i) ⊎ Leads past i k)
+      → (j : ℕ) (bs : List Done) → ((l : ℕ) (b : Done) → getElem? bs l ≡ some b → getElem? past (j + l) ≡ some b)
+      → causesRight s x past a led j bs ≡ true
+  unfolding causesRight
+  causes-true i a at c led leads j [] h = refl
+  causes-true i a at c led leads j (b ∷ bs) h =
+      elim (true-or-false (any (stepTo past j b) led)) [
+        | inl e ↦
+            let led-here = lead e in
+            cond-true _ _ e ∙ and-intro (implies-intro (covered s x b) _ (λ c′. p .causality i j a b led-here at here c c′))
+            (causes-true i a at c (j ∷ led) (λ k m. elim (List·Memᴰ·cases-cons m) [
+              | inl q ↦ inr (subst (Leads past i) (sym q) led-here)
+              | inr q ↦ leads k q
+            ]) (suc j) bs rest)
+        | inr e ↦ cond-false _ _ e ∙ causes-true i a at c led leads (suc j) bs rest
+      ]
+    where
+      rest : (l : ℕ) (b′ : Done) → getElem? bs l ≡ some b′ → getElem? past (suc j + l) ≡ some b′
+      rest l b′ q = ap (getElem? past) (on-by-one j l) ∙ h (suc l) b′ q
+
+      here : getElem? past j ≡ some b
+      here = sym (ap (getElem? past) (add-zero j)) ∙ h 0 b refl
+
+      lead : any (stepTo past j b) led ≡ true → Leads past i j
+      lead e = go (any-mem (stepTo past j b) led e)
+        where
+          go : (k : ℕ) × List·Memᴰ k led × (stepTo past j b k ≡ true) → Leads past i j
+          go (k, m, t) =
+              elim (leads k m) [
+                | inl q ↦ subst (λ (n : ℕ). Leads past n j) q (step-leads past k j b here t)
+                | inr q ↦ on q (step-leads past k j b here t)
+              ]
+
+  pub causality-true : causalityTest s x past ≡ true
+  unfolding causalityTest
+  causality-true =
+      every-at _ past (λ i a at.
+      implies-intro (covered s x a) _ (λ c.
+      causes-true i a at c (i ∷ []) (λ k m. elim (List·Memᴰ·cases-cons m) [
+        | inl q ↦ inl q
+        | inr q ↦ absurd (List·Memᴰ·not-nil q)
+      ]) 0 past (λ l b q. ap (getElem? past) (zero-add l) ∙ q)))
+
+-- a test of the list that the promises make true and that is false refutes demand 3
+pub refute-promised :
+    (test : Setup → ℕ → List Done → Bool) → ((s : Setup) (x : ℕ) (past : List Done) → Promised s x past → test s x past ≡ true)
+    → (s : Setup) (nodes : List Node) (calls : List Call) → goodStart s nodes ≡ true
+    → keeps s (largestClock nodes) (atStart nodes) calls ≡ true
+    → test s (largestClock nodes) (runFrom (atStart nodes) calls .past) ≡ false → Demand3 → ⊥
+refute-promised test right s nodes calls good kept wrong demand =
+    clash (right s (largestClock nodes) (runFrom (atStart nodes) calls .past) (demand s nodes calls good kept)) wrong
+
+-- Demand 2 from any state: the promises make their tests true
+module _ (i : Input) (p : AnyState i) where
+  pub verdict-true : verdictTest i ≡ true
+  unfolding verdictTest
+  verdict-true = every-at _ _ (λ k entry e. same (p .verdict k entry e))
+
+  pub taken-true : takenTest i ≡ true
+  unfolding takenTest
+  taken-true = same (p .taken)
+
+  pub delivered-true : deliveredTest i ≡ true
+  unfolding deliveredTest
+  delivered-true = same (p .delivered)
+
+  pub delivery-true : deliveryTest i ≡ true
+  unfolding deliveryTest
+  delivery-true = sameFrames-eq (p .delivery)
+
+  pub sent-true : sentTest i ≡ true
+  unfolding sentTest
+  sent-true = same (p .sent)
+
+  pub outgoing-true : outgoingTest i ≡ true
+  unfolding outgoingTest
+  outgoing-true = sameList-eq (p .outgoing)
+
+  pub repair-true : repairTest i ≡ true
+  unfolding repairTest
+  repair-true = same (p .repair)
+
+  pub bounded-true : boundedTest i ≡ true
+  unfolding boundedTest
+  bounded-true = p .bounded
+
+  pub boundedQueue-true : boundedQueueTest i ≡ true
+  unfolding boundedQueueTest
+  boundedQueue-true = p .boundedQueue
+
+pub refute-any :
+    (test : Input → Bool) → ((i : Input) → AnyState i → test i ≡ true) → (i : Input) → tick i .answer .number ≡ 0
+    → test i ≡ false → Demand2Any → ⊥
+refute-any test right i accepted wrong demand = clash (right i (demand i accepted)) wrong
+
+-- Demand 2 from fresh stations: the promises make their tests true
+sameTimestamp-eq : {t u : Timestamp} → t ≡ u → sameTimestamp t u ≡ true
+unfolding sameTimestamp
+sameTimestamp-eq {t} {u} e =
+    and-intro (same (ap (λ (a : Timestamp). a .r) e))
+    (and-intro (same (ap (λ (a : Timestamp). a .c) e)) (sameList-eq (ap (λ (a : Timestamp). a .kn) e)))
+
+module _ (s : Setup) (o : Outcome) (d : Done) (p : SameAs s o d) where
+  pub tables-same : sameTables s o d ≡ true
+  unfolding sameTables
+  tables-same = sameTimestamp-eq (p .tables)
+
+  pub repair-same : sameRepair s o d ≡ true
+  unfolding sameRepair
+  repair-same = same (p .repair)
+
+  pub taken-same : sameTaken s o d ≡ true
+  unfolding sameTaken
+  taken-same = same (p .taken)
+
+  pub verdicts-same : sameVerdicts s o d ≡ true
+  unfolding sameVerdicts
+  verdicts-same = sameList-eq (p .verdicts)
+
+  pub holdback-same : sameHoldback s o d ≡ true
+  unfolding sameHoldback
+  holdback-same = sameList-eq (p .holdback)
+
+  pub outgoing-same : sameOutgoing s o d ≡ true
+  unfolding sameOutgoing
+  outgoing-same = sameList-eq (p .outgoing)
+
+  pub sent-same : sameSent s o d ≡ true
+  unfolding sameSent
+  sent-same = same (p .sent)
+
+  pub delivery-same : sameDelivery s o d ≡ true
+  unfolding sameDelivery
+  delivery-same = sameList-eq (p .delivery)
+
+  pub delivered-same : sameDelivered s o d ≡ true
+  unfolding sameDelivered
+  delivered-same = same (p .delivered)
+
+module _ (test : FreshTest) (right : (s : Setup) (o : Outcome) (d : Done) → SameAs s o d → test s o d ≡ true) (s : Setup) where
+  matched-true : (w : Published) (d : Done) → Matched s w d → matchedBy test s w d (getElem? (w .processes) (d .node)) ≡ true
+  matched-true w d (p, is, m) =
+      ap (matchedBy test s w d) is ∙ right s (outcomeOf s (w .sent) p (d .clock) (d .call)) d m
+
+  fresh-true :
+      (w : Published) (past : List Done)
+      → ((j : ℕ) (d : Done) → getElem? past j ≡ some d → isAccepted (d .output) ≡ true → Matched s (publishAll s w (take j past)) d)
+      → freshTest test s w past ≡ true
+  unfolding freshTest publishAll
+  fresh-true w [] h = refl
+  fresh-true w (d ∷ ds) h =
+      and-intro (implies-intro (isAccepted (d .output)) _ (λ a. matched-true w d (h 0 d refl a)))
+      (fresh-true (publish s w d) ds (λ j d′ at a. h (suc j) d′ at a))
+
+  pub refute-fresh :
+      (nodes : List Node) (calls : List Call) → goodStart s nodes ≡ true → allFresh s nodes ≡ true
+      → keeps s (largestClock nodes) (atStart nodes) calls ≡ true → noneStale (runFrom (atStart nodes) calls .past) ≡ true
+      → freshTest test s (publishedStart s nodes) (runFrom (atStart nodes) calls .past) ≡ false → Demand2Fresh → ⊥
+  refute-fresh nodes calls good fresh kept sent wrong demand =
+      clash (fresh-true (publishedStart s nodes) (runFrom (atStart nodes) calls .past) (demand s nodes calls good fresh kept sent)) wrong

@@ -1,0 +1,86 @@
+-- Without an edit no story breaks a promise: either it keeps the premises and every test is true, or the premises rule it out.
+-- Assumes nothing.
+use Prim.Native.Nat.{ℕ}
+use mathlib.Core.Path.{_≡_, refl}
+use mathlib.Core.Bool.{Bool, true, false, _&&_}
+use mathlib.Core.List.{List, [], _∷_}
+use lib.ListN.{replicate}
+use Rattle.laws.specs.Lists.{every}
+use Rattle.model.specs.Codec.{read, write}
+use Rattle.model.specs.Tick.{tick}
+use Rattle.model.specs.Run.{Done, runFrom, atStart}
+use Rattle.theory.specs.Premises.{goodStart, largestClock, keeps, allFresh, noneStale}
+use Rattle.theory.specs.Demand2.{publishedStart}
+use Rattle.violations.specs.Tests.{sendingTest, hearingTest, deliveringTest, causalityTest, anyStateTest, sameAll, freshTest}
+use Rattle.violations.specs.Stories.{group, Scene, freshTables, freshNodes, callsOf, pastOf, causeAndEffect, heardTooLate, driftedApart, hauntedAt10, hauntedAt8, staleHeard, holdingNodes, holdingCalls, inputsOf, unsoundTables, unsoundQueue}
+use Rattle.violations.proofs.Telling.{telling}
+
+-- the premises of demand 3
+abbrev kept : List Scene → Bool
+kept scenes = goodStart group freshNodes && keeps group (largestClock freshNodes) (atStart freshNodes) (callsOf scenes)
+
+-- its promises
+abbrev promised : List Done → Bool
+promised past =
+    sendingTest group (largestClock freshNodes) past && (hearingTest group (largestClock freshNodes) past
+    && (deliveringTest group (largestClock freshNodes) past && causalityTest group (largestClock freshNodes) past))
+
+pub story-kept : kept causeAndEffect ≡ true
+unfolding telling
+story-kept = refl
+
+pub story-fresh : (allFresh group freshNodes && noneStale (pastOf causeAndEffect)) ≡ true
+unfolding telling
+story-fresh = refl
+
+pub story-promised : promised (pastOf causeAndEffect) ≡ true
+unfolding telling
+story-promised = refl
+
+pub story-matched : freshTest sameAll group (publishedStart group freshNodes) (pastOf causeAndEffect) ≡ true
+unfolding telling
+story-matched = refl
+
+pub story-figures : every anyStateTest (inputsOf causeAndEffect) ≡ true
+unfolding telling
+story-figures = refl
+
+-- an older frame as late as it may be heard disturbs no covered message
+pub haunted-kept : kept hauntedAt8 ≡ true
+unfolding telling
+haunted-kept = refl
+
+pub haunted-promised : promised (pastOf hauntedAt8) ≡ true
+unfolding telling
+haunted-promised = refl
+
+-- damage is mended
+pub mended : (tick unsoundTables .answer .repair ∷ tick unsoundQueue .answer .repair ∷ []) ≡ 1 ∷ 2 ∷ []
+unfolding telling
+mended = refl
+
+pub mended-figures : every anyStateTest (unsoundTables ∷ unsoundQueue ∷ []) ≡ true
+unfolding telling
+mended-figures = refl
+
+-- the premises rule the others out
+pub not-kept : (kept heardTooLate ∷ kept driftedApart ∷ kept hauntedAt10 ∷ []) ≡ false ∷ false ∷ false ∷ []
+unfolding telling
+not-kept = refl
+
+pub stale-not-sent : (kept staleHeard ∷ noneStale (pastOf staleHeard) ∷ []) ≡ true ∷ false ∷ []
+unfolding telling
+stale-not-sent = refl
+
+pub holding-not-fresh : (goodStart group holdingNodes ∷ allFresh group holdingNodes ∷ []) ≡ true ∷ false ∷ []
+unfolding telling
+holding-not-fresh = refl
+
+-- the codec: places past the 2ε counts come back 0, and a frame of ten bytes in a longer buffer has the length ten
+pub read-back : read group 0 (write group 0 0 (freshTables 5) [] (replicate 9 0) .buffer) .stamp .kn ≡ 0 ∷ 1 ∷ replicate 30 0
+unfolding telling
+read-back = refl
+
+pub written-length : write group 0 1 (freshTables 6) (9 ∷ []) (replicate 11 0) .size ≡ 10
+unfolding telling
+written-length = refl

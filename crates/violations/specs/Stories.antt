@@ -1,0 +1,202 @@
+-- Stories: short lists of calls, told so that they are the same under any definition of the tick. A scene names its node and what it sends and
+-- hears; its clock is the node's next one, and a message is heard by the bytes that its call sent.
+use Prim.Native.Nat.{ℕ, suc, _+_, _-_, _%_}
+use mathlib.Core.Bool.{Bool, true, false}
+use mathlib.Core.List.{List, [], _∷_, _++_, map}
+use mathlib.Core.Option.{Option, none, some}
+use lib.ListN.{length, replicate, getD, getElem?}
+use Rattle.laws.specs.Lists.{joined}
+use Rattle.model.specs.Setup.{Setup}
+use Rattle.model.specs.Timestamp.{Timestamp}
+use Rattle.model.specs.Frame.{encode}
+use Rattle.model.specs.Tick.{Input, holdbackSize}
+use Rattle.model.specs.Run.{Node, Source, sentBy, stale, Call, Done, World, inputOf, act, atStart, runFrom, messageBytes}
+use Rattle.theory.specs.Premises.{clockAt}
+
+-- n 2, ε 1, δ 1 and the least B
+abbrev pub group : Setup
+group = record { n = 2; epsilon = 1; delta = 1; modulus = 8 }
+
+-- an entry of a batch: the message of the call at a position, or an older frame
+pub data StoryEntry : Type 0 where
+  message : ℕ → StoryEntry
+  staleFrame : List ℕ → StoryEntry
+
+-- one call of a story
+pub record Scene : Type 0 where
+  pub node : ℕ
+  pub send : Bool
+  pub payload : List ℕ
+  pub hears : List StoryEntry
+
+abbrev pub sentBytesOf : Option Done → List ℕ
+sentBytesOf none = []
+sentBytesOf (some d) = messageBytes d
+
+abbrev pub entryBytes : List Done → StoryEntry → List ℕ
+entryBytes past (message k) = sentBytesOf (getElem? past k)
+entryBytes past (staleFrame bytes) = bytes
+
+abbrev pub entrySource : StoryEntry → Source
+entrySource (message k) = sentBy k
+entrySource (staleFrame bytes) = stale
+
+abbrev pub batchWith : List (List ℕ) → List ℕ
+batchWith entries = length entries ∷ joined (λ bytes. length bytes ∷ bytes) entries
+
+-- a call for a clock
+abbrev pub calling : ℕ → ℕ → Bool → List ℕ → List (List ℕ) → List Source → Call
+calling node clock send payload entries sources =
+    record {
+      node = node;
+      setup = group;
+      own = node;
+      clock = clock % 8;
+      batch = batchWith entries;
+      sources = sources;
+      send = send;
+      payload = payload;
+      outgoing = replicate 71 3;
+      verdicts = replicate 255 3;
+      delivery = replicate (holdbackSize group) 3;
+    }
+
+-- the call that a scene makes
+abbrev pub callWith : World → Scene → Call
+callWith w scene =
+    calling (scene .node) (suc (clockAt (getElem? (w .nodes) (scene .node)))) (scene .send) (scene .payload)
+    (map (entryBytes (w .past)) (scene .hears)) (map entrySource (scene .hears))
+
+-- the calls of a story
+unfoldable pub callsFrom : World → List Scene → List Call
+callsFrom w [] = []
+callsFrom w (scene ∷ scenes) = callWith w scene ∷ callsFrom (act w (callWith w scene)) scenes
+
+abbrev pub quiet : ℕ → Scene
+quiet node = record { node = node; send = false; payload = []; hears = [] }
+
+abbrev pub hearing : ℕ → List StoryEntry → Scene
+hearing node entries = record { node = node; send = false; payload = []; hears = entries }
+
+-- a call that sends one byte and hears these
+abbrev pub sending : ℕ → ℕ → List StoryEntry → Scene
+sending node byte entries = record { node = node; send = true; payload = byte ∷ []; hears = entries }
+
+-- a frame's bytes
+abbrev pub bytesOf : ℕ → ℕ → ℕ → List ℕ → List ℕ → List ℕ
+bytesOf station r c kn payload =
+    encode (record { station = station; stamp = record { r = r; c = c; kn = kn }; payload = payload })
+
+-- fresh tables, with nonsense past the 2ε counts
+abbrev pub freshTables : ℕ → Timestamp
+freshTables clock = record { r = clock; c = 0; kn = 0 ∷ 1 ∷ replicate 30 255 }
+
+-- a node, fresh at its clock, with nonsense behind the count of the shelf
+abbrev pub freshNode : ℕ → ℕ → Node
+freshNode own clock =
+    record {
+      own = own;
+      clock = clock;
+      tables = freshTables clock;
+      holdback = 0 ∷ 0 ∷ replicate (holdbackSize group - 2) 170;
+    }
+
+-- every story but one starts from these: X is 6, older frames may be heard up to 8, messages are covered from 10 on
+abbrev pub freshNodes : List Node
+freshNodes = freshNode 0 5 ∷ freshNode 1 6 ∷ []
+
+abbrev pub callsOf : List Scene → List Call
+callsOf scenes = callsFrom (atStart freshNodes) scenes
+
+abbrev pub pastOf : List Scene → List Done
+pastOf scenes = runFrom (atStart freshNodes) (callsOf scenes) .past
+
+-- both nodes come to clock 9
+abbrev pub quietUntil9 : List Scene
+quietUntil9 = quiet 0 ∷ quiet 0 ∷ quiet 1 ∷ quiet 1 ∷ quiet 0 ∷ quiet 0 ∷ quiet 1 ∷ []
+
+-- The story that most of them break. Node 1 sends at 10, and node 0 at 10 because of it; both hear both, some again, and deliver them at 12,
+-- the cause first. Then node 1 hears a message of node 0 as late as it can be heard, in the call for its due clock
+abbrev pub causeAndEffect : List Scene
+causeAndEffect =
+    quietUntil9
+    ++ (sending 1 66 [] ∷ sending 0 65 (message 7 ∷ []) ∷ hearing 0 (message 7 ∷ message 8 ∷ [])
+    ∷ hearing 1 (message 8 ∷ message 7 ∷ message 8 ∷ [])
+    ∷ sending 0 67 [] ∷ quiet 1 ∷ quiet 0 ∷ quiet 1 ∷ hearing 1 (message 11 ∷ []) ∷ [])
+
+-- a message of node 1 at 10 is heard at 13, its sender being 2 past it
+abbrev pub heardTooLate : List Scene
+heardTooLate =
+    quietUntil9
+    ++ (sending 1 66 [] ∷ quiet 0 ∷ quiet 1 ∷ quiet 0 ∷ quiet 1 ∷ quiet 0 ∷ hearing 0 (message 7 ∷ []) ∷ [])
+
+-- node 1 sends at 11, two clocks ahead of node 0, which hears it at 10
+abbrev pub driftedApart : List Scene
+driftedApart = quietUntil9 ++ (quiet 1 ∷ sending 1 66 [] ∷ hearing 0 (message 8 ∷ []) ∷ [])
+
+-- an older frame that claims two events at 9 and one at 10 is heard at 10 by node 0, whose message then counts two events at 10, before
+-- node 1 has come there
+abbrev pub hauntedAt10 : List Scene
+hauntedAt10 =
+    quietUntil9 ++ (sending 0 65 (staleFrame (bytesOf 1 2 0 (2 ∷ 1 ∷ []) (9 ∷ [])) ∷ []) ∷ hearing 1 (message 7 ∷ []) ∷ [])
+
+-- the same at 8, the last clock at which older frames may be heard, by node 1
+abbrev pub hauntedAt8 : List Scene
+hauntedAt8 =
+    quiet 0 ∷ quiet 1 ∷ quiet 0 ∷ sending 1 65 (staleFrame (bytesOf 0 0 0 (2 ∷ 1 ∷ []) (9 ∷ [])) ∷ []) ∷ hearing 0 (message 3 ∷ []) ∷ []
+
+-- an older frame of node 1, heard at 6
+abbrev pub staleHeard : List Scene
+staleHeard = hearing 0 (staleFrame (bytesOf 1 6 0 (0 ∷ 1 ∷ []) (9 ∷ [])) ∷ []) ∷ []
+
+-- node 0 starts with a frame on its shelf that it delivers at 6
+abbrev pub heldFrame : List ℕ
+heldFrame = bytesOf 1 4 0 (0 ∷ 1 ∷ []) (9 ∷ [])
+
+abbrev pub holdingNodes : List Node
+holdingNodes =
+    record {
+      own = 0;
+      clock = 5;
+      tables = record { r = 5; c = 0; kn = 0 ∷ 1 ∷ replicate 30 0 };
+      holdback = 1 ∷ 0 ∷ (heldFrame ++ replicate (holdbackSize group - (2 + length heldFrame)) 0);
+    }
+    ∷ freshNode 1 6 ∷ []
+
+abbrev pub holdingCalls : List Call
+holdingCalls = callsFrom (atStart holdingNodes) (quiet 0 ∷ [])
+
+-- the inputs of the calls of a list
+abbrev pub inputTo : Option Node → Call → List Input
+inputTo none call = []
+inputTo (some node) call = inputOf node call ∷ []
+
+unfoldable pub inputsFrom : World → List Call → List Input
+inputsFrom w [] = []
+inputsFrom w (call ∷ calls) = inputTo (getElem? (w .nodes) (call .node)) call ++ inputsFrom (act w call) calls
+
+-- those of a story
+abbrev pub inputsOf : List Scene → List Input
+inputsOf scenes = inputsFrom (atStart freshNodes) (callsOf scenes)
+
+-- a quiet call for clock 7 of a node with these tables and this shelf
+abbrev pub damagedInput : Timestamp → List ℕ → Input
+damagedInput tables holdback =
+    inputOf (record { own = 0; clock = 6; tables = tables; holdback = holdback }) (calling 0 7 false [] [] [])
+
+-- tables of nonsense
+abbrev pub unsoundTables : Input
+unsoundTables = damagedInput (record { r = 6; c = 9; kn = replicate 32 77 }) (replicate (holdbackSize group) 0)
+
+-- a shelf with a frame twice
+abbrev pub unsoundQueue : Input
+unsoundQueue =
+    damagedInput (record { r = 6; c = 0; kn = 0 ∷ 1 ∷ replicate 30 0 })
+    (2 ∷ 0 ∷ (twice ++ (twice ++ replicate (holdbackSize group - (2 + (length twice + length twice))) 0)))
+  where
+    twice : List ℕ
+    twice = bytesOf 1 6 0 (0 ∷ 1 ∷ []) (9 ∷ [])
+
+-- the input of one call of the story that most of them break
+abbrev pub inputAt : ℕ → Input
+inputAt k = getD (inputsOf causeAndEffect) k unsoundTables

@@ -1,0 +1,201 @@
+-- The promises as tests: what demands 2 and 3 say of a concrete list of calls, or of one call, tried by computation. A test for each clause;
+-- proofs/Refuting shows that a promise makes its tests true, so that a test that computes to false refutes the promise.
+use Prim.Native.Nat.{ℕ, suc, _+_, _%_}
+use mathlib.Core.Bool.{Bool, true, false, _&&_, _||_, cond}
+use mathlib.Core.List.{List, [], _∷_, _++_, map}
+use mathlib.Core.Option.{Option, none, some}
+use lib.Dec.{ltb, eqb}
+use lib.ListN.{length, take, getD, getElem?}
+use Rattle.laws.specs.Lists.{every, any, select, sortBy, overlay, sameList}
+use Rattle.model.specs.Setup.{Setup}
+use Rattle.model.specs.Timestamp.{trimmed, widened, soundTables}
+use Rattle.model.specs.Frame.{encode}
+use Rattle.model.specs.Batch.{batchEntries}
+use Rattle.model.specs.Holdback.{heldBytes, soundHoldback, encodeFrames, encodeHoldback}
+use Rattle.model.specs.Question.{firstNo}
+use Rattle.model.specs.Judge.{judgeQuestions}
+use Rattle.model.specs.Published.{Process, inOrder}
+use Rattle.model.specs.Tick.{Input, holdbackSize, sentBytes, deliveredOf, takenCount, tick}
+use Rattle.model.specs.Run.{Source, sentBy, stale, Done, isAccepted, messageBytes}
+use Rattle.theory.specs.Premises.{sameTimestamp}
+use Rattle.theory.specs.Demand2.{Published, Outcome, outcomeOf, publish, heardBefore, reduced, reducedFrame}
+use Rattle.theory.specs.Demand3.{covered, isFrom, heardIn, earlier, dueHere, coveredFrame, written}
+
+module _ {A : Type 0} where
+  -- the test holds of every element at its position, counted from i
+  unfoldable pub everyFrom : (ℕ → A → Bool) → ℕ → List A → Bool
+  everyFrom p i [] = true
+  everyFrom p i (x ∷ xs) = p i x && everyFrom p (suc i) xs
+
+  -- the test holds of some element at its position, counted from i
+  unfoldable pub anyFrom : (ℕ → A → Bool) → ℕ → List A → Bool
+  anyFrom p i [] = false
+  anyFrom p i (x ∷ xs) = p i x || anyFrom p (suc i) xs
+
+-- where the first holds, the second does
+abbrev pub implies : Bool → Bool → Bool
+implies a b = cond a b true
+
+-- the two lists of frames' bytes are the same
+unfoldable pub sameFrames : List (List ℕ) → List (List ℕ) → Bool
+sameFrames [] [] = true
+sameFrames [] (y ∷ ys) = false
+sameFrames (x ∷ xs) [] = false
+sameFrames (x ∷ xs) (y ∷ ys) = sameList x y && sameFrames xs ys
+
+-- Demand 3, `sending`: of one call
+abbrev pub sendsRight : Setup → ℕ → Done → Bool
+sendsRight s x d =
+    implies (covered s x d) (eqb (written s d .number) 0 && (eqb (d .output .answer .sent) (written s d .size)
+    && sameList (d .output .outgoing) (written s d .buffer)))
+
+-- of the list
+unfoldable pub sendingTest : Setup → ℕ → List Done → Bool
+sendingTest s x past = every (λ d. sendsRight s x d) past
+
+-- Demand 3, `hearing`: of entry e of the call at j, which comes from the call at k
+abbrev pub verdictRight : Setup → ℕ → List Done → ℕ → Done → ℕ → ℕ → Option Done → Bool
+verdictRight s x past j d e k none = true
+verdictRight s x past j d e k (some m) =
+    implies (covered s x m) (eqb (getD (d .output .verdicts) e 0)
+    (cond (any (heardIn (d .node) k) (take j past) || any (isFrom k) (take e (d .call .sources))) 16 0))
+
+-- by the entry's source
+abbrev pub entryRight : Setup → ℕ → List Done → ℕ → Done → ℕ → Source → Bool
+entryRight s x past j d e (sentBy k) = verdictRight s x past j d e k (getElem? past k)
+entryRight s x past j d e stale = true
+
+-- of the list
+unfoldable pub hearingTest : Setup → ℕ → List Done → Bool
+hearingTest s x past =
+    everyFrom (λ j d. implies (isAccepted (d .output)) (everyFrom (entryRight s x past j d) 0 (d .call .sources))) 0 past
+
+-- Demand 3, `delivering`: of the call at j
+abbrev pub deliversRight : Setup → ℕ → List Done → ℕ → Done → Bool
+deliversRight s x past j d =
+    implies (isAccepted (d .output)) (sameFrames (select (coveredFrame s x (d .clock)) (heldBytes (s .epsilon) (d .output .delivery)))
+    (map messageBytes (sortBy (earlier s) (dueHere s x (take (j + 1) past) (d .node) (d .clock)))))
+
+-- of the list
+unfoldable pub deliveringTest : Setup → ℕ → List Done → Bool
+deliveringTest s x past = everyFrom (deliversRight s x past) 0 past
+
+-- Demand 3, `Leads`, one step: the call at j is a later one of the station of the call at i
+abbrev pub laterThan : ℕ → Done → ℕ → Option Done → Bool
+laterThan j b i none = false
+laterThan j b i (some a) = ltb i j && eqb (a .node) (b .node)
+
+-- or takes the message that the call at i sent
+abbrev pub takesFrom : Done → ℕ → Bool
+takesFrom b i =
+    isAccepted (b .output) && anyFrom (λ e o. isFrom i o && eqb (getD (b .output .verdicts) e 0) 0) 0 (b .call .sources)
+
+abbrev pub stepTo : List Done → ℕ → Done → ℕ → Bool
+stepTo past j b i = laterThan j b i (getElem? past i) || takesFrom b i
+
+-- Demand 3, `causality`: of the call a and every call from j on that it leads to, through the positions led to so far. One walk along the
+-- list finds them all, since a step leads on in the list
+unfoldable pub causesRight : Setup → ℕ → List Done → Done → List ℕ → ℕ → List Done → Bool
+causesRight s x past a led j [] = true
+causesRight s x past a led j (b ∷ bs) =
+    cond (any (stepTo past j b) led)
+    (implies (covered s x b) (earlier s a b) && causesRight s x past a (j ∷ led) (suc j) bs)
+    (causesRight s x past a led (suc j) bs)
+
+-- of the list
+unfoldable pub causalityTest : Setup → ℕ → List Done → Bool
+causalityTest s x past = everyFrom (λ i a. implies (covered s x a) (causesRight s x past a (i ∷ []) 0 past)) 0 past
+
+-- Demand 2 from any state, of an accepted call: a test for each clause
+unfoldable pub verdictTest : Input → Bool
+verdictTest i =
+    everyFrom (λ k entry. eqb (getD (tick i .verdicts) k 0)
+    (firstNo (judgeQuestions (i .setup) (i .clock) (heardBefore i k .queue) entry))) 0 (batchEntries (i .batch))
+
+unfoldable pub takenTest : Input → Bool
+takenTest i = eqb (tick i .answer .taken) (takenCount (take (length (batchEntries (i .batch))) (tick i .verdicts)))
+
+unfoldable pub deliveredTest : Input → Bool
+deliveredTest i = eqb (tick i .answer .delivered) (length (deliveredOf i))
+
+unfoldable pub deliveryTest : Input → Bool
+deliveryTest i = sameFrames (heldBytes (i .setup .epsilon) (tick i .delivery)) (map encode (deliveredOf i))
+
+unfoldable pub sentTest : Input → Bool
+sentTest i = eqb (tick i .answer .sent) (length (sentBytes i))
+
+unfoldable pub outgoingTest : Input → Bool
+outgoingTest i = sameList (take (tick i .answer .sent) (tick i .outgoing)) (sentBytes i)
+
+unfoldable pub boundedTest : Input → Bool
+boundedTest i =
+    soundTables (i .setup .n) (i .setup .epsilon) (i .setup .modulus) ((i .clock + 1) % i .setup .modulus)
+    (trimmed (i .setup .epsilon) (tick i .answer .tables))
+
+unfoldable pub boundedQueueTest : Input → Bool
+boundedQueueTest i = soundHoldback (i .setup) ((i .clock + 1) % i .setup .modulus) (tick i .holdback)
+
+unfoldable pub repairTest : Input → Bool
+repairTest i =
+    eqb (tick i .answer .repair)
+    (cond (soundTables (i .setup .n) (i .setup .epsilon) (i .setup .modulus) (i .clock) (trimmed (i .setup .epsilon) (i .tables))) 0 1
+    + cond (soundHoldback (i .setup) (i .clock) (i .holdback)) 0 2)
+
+unfoldable pub anyStateTest : Input → Bool
+anyStateTest i =
+    verdictTest i && (takenTest i && (deliveredTest i && (deliveryTest i && (sentTest i && (outgoingTest i && (repairTest i
+    && (boundedTest i && boundedQueueTest i)))))))
+
+-- Demand 2 from fresh stations, of an accepted call and its outcome in the published program
+abbrev pub FreshTest : Type 0
+FreshTest = Setup → Outcome → Done → Bool
+
+unfoldable pub sameTables : FreshTest
+sameTables s o d = sameTimestamp (d .output .answer .tables) (widened (reduced (s .modulus) (o .last)))
+
+unfoldable pub sameRepair : FreshTest
+sameRepair s o d = eqb (d .output .answer .repair) 0
+
+unfoldable pub sameTaken : FreshTest
+sameTaken s o d = eqb (d .output .answer .taken) (length (o .newMessages))
+
+unfoldable pub sameVerdicts : FreshTest
+sameVerdicts s o d = sameList (d .output .verdicts) (overlay (o .verdicts) (d .call .verdicts))
+
+unfoldable pub sameHoldback : FreshTest
+sameHoldback s o d =
+    sameList (d .output .holdback)
+    (encodeHoldback (holdbackSize s) (map (reducedFrame (s .modulus)) (inOrder (s .epsilon) (o .buffer))))
+
+unfoldable pub sameOutgoing : FreshTest
+sameOutgoing s o d =
+    sameList (d .output .outgoing)
+    (overlay (cond (d .call .send) (encode (reducedFrame (s .modulus) (o .message))) []) (d .call .outgoing))
+
+unfoldable pub sameSent : FreshTest
+sameSent s o d =
+    eqb (d .output .answer .sent) (length (cond (d .call .send) (encode (reducedFrame (s .modulus) (o .message))) []))
+
+unfoldable pub sameDelivery : FreshTest
+sameDelivery s o d =
+    sameList (d .output .delivery) (overlay (encodeFrames (map (reducedFrame (s .modulus)) (o .delivered))) (d .call .delivery))
+
+unfoldable pub sameDelivered : FreshTest
+sameDelivered s o d = eqb (d .output .answer .delivered) (length (o .delivered))
+
+unfoldable pub sameAll : FreshTest
+sameAll s o d =
+    sameTables s o d && (sameRepair s o d && (sameTaken s o d && (sameVerdicts s o d && (sameHoldback s o d && (sameOutgoing s o d
+    && (sameSent s o d && (sameDelivery s o d && sameDelivered s o d)))))))
+
+-- the test of a call, where its station has a process
+abbrev pub matchedBy : FreshTest → Setup → Published → Done → Option Process → Bool
+matchedBy test s w d none = false
+matchedBy test s w d (some p) = test s (outcomeOf s (w .sent) p (d .clock) (d .call)) d
+
+-- of every accepted call of a list, the published program being at w before it
+unfoldable pub freshTest : FreshTest → Setup → Published → List Done → Bool
+freshTest test s w [] = true
+freshTest test s w (d ∷ ds) =
+    implies (isAccepted (d .output)) (matchedBy test s w d (getElem? (w .processes) (d .node)))
+    && freshTest test s (publish s w d) ds
