@@ -1,7 +1,8 @@
 /* A yard of several stations in one process, over the library: each station has a clock within the drift limit, the air loses,
  * delays and repeats frames and carries junk, and in the middle a power dip fills one station's memory with random bytes.
- * It prints each board's hand-outs, then checks of the messages sent after recovery that every board shows each one that it took and
- * that was due, none of them twice, and causes before effects, and that any two boards show those that both show in one order.
+ * It prints each board's hand-outs, and of one station the words of what it hears. Then it checks of the messages sent after recovery
+ * that every board shows each one that it took and that was due, none of them twice, and causes before effects, and that any two
+ * boards show those that both show in one order.
  * Usage: host [SEED]. Exit status 0 where all holds. */
 #include <stdio.h>
 #include <stdlib.h>
@@ -10,7 +11,7 @@
 #include "yarngravel.h"
 
 enum { N = 4, EPSILON = 2, DELTA = 6, MODULUS = 61, TICKS = 400, DIP = 150, MESSAGES = 1024, GIVEN = 4096 };
-enum { FRAME = YARNGRAVEL_FRAME(EPSILON), SHELF = YARNGRAVEL_SHELF(N, EPSILON, DELTA), JUNK = -1 };
+enum { FRAME = YARNGRAVEL_FRAME(EPSILON), SHELF = YARNGRAVEL_SHELF(N, EPSILON, DELTA), JUNK = -1, TOLD = 0 };
 
 /* a set of messages, a bit for each */
 struct set {
@@ -167,6 +168,15 @@ static void show(int who, const uint8_t *frame, unsigned count) {
     }
 }
 
+/* the words of what the station has just heard, a line for each frame */
+static void tell(int who, const struct bundle *b, const uint8_t *verdicts) {
+    static uint8_t text[255 * YARNGRAVEL_LINE];
+    uint64_t told = yarngravel_words(N, EPSILON, DELTA, MODULUS, (uint32_t)who, b->bytes, b->len, verdicts, YARNGRAVEL_VERDICTS,
+                                     text, sizeof text);
+    if (yarngravel_number(told) != 0) fail("the words were refused");
+    printf("board %d clock %d hears\n%.*s", who, stations[who].clock, (int)yarngravel_text_len(told), (const char *)text);
+}
+
 static void tick(int who, bool junk) {
     static struct bundle heard;
     static uint8_t outgoing[FRAME], verdicts[YARNGRAVEL_VERDICTS], handout[SHELF];
@@ -180,6 +190,7 @@ static void tick(int who, bool junk) {
     if (yarngravel_number(answer) != 0) fail("a tick was refused");
     s->clock++;
     if (yarngravel_mend(answer) != 0) printf("board %d clock %d mend %u\n", who, s->clock, yarngravel_mend(answer));
+    if (who == TOLD) tell(who, &heard, verdicts);
     learn(s, &heard, verdicts);
     if (send) keep(who, outgoing, yarngravel_sent(answer));
     show(who, handout + 2, yarngravel_gave(answer));

@@ -1,4 +1,5 @@
-/* The smallest host: two stations that hear each other, and themselves, without loss. Each board shows both tickets in one order. */
+/* The smallest host: two stations that hear each other, and themselves, without loss. Each board shows both tickets in one order;
+ * of station 0 it also prints what became of each frame. */
 #include <stdio.h>
 #include <stdlib.h>
 #include <string.h>
@@ -43,6 +44,15 @@ static void show(unsigned board, const uint8_t *frames, unsigned count) {
     }
 }
 
+/* What the station made of the frames that it heard, a line for each. */
+static void tell(unsigned own, const struct station *s, const uint8_t *verdicts) {
+    uint8_t text[N * YARNGRAVEL_LINE];
+    uint64_t told = yarngravel_words(N, EPSILON, DELTA, B, own, s->bundle, s->bundle_len, verdicts, YARNGRAVEL_VERDICTS, text,
+                                     sizeof text);
+    expect_accepted("words", told);
+    printf("%.*s", (int)yarngravel_text_len(told), (const char *)text);
+}
+
 int main(void) {
     static const char *const tickets[N] = {"bale 7", "dry"};
     static struct station yard[N];
@@ -59,6 +69,7 @@ int main(void) {
                                 clock == 1, (const uint8_t *)tickets[own], strlen(tickets[own]), outgoing, FRAME, verdicts,
                                 YARNGRAVEL_VERDICTS, handout, SHELF);
             expect_accepted("tick", answer);
+            if (own == 0) tell(own, s, verdicts);
             show(own, handout + 2, yarngravel_gave(answer));
             s->bundle[0] = 0;
             s->bundle_len = 1;

@@ -39,6 +39,7 @@ extern "C" {
 /* A shelf has exactly this, the hand-out buffer at least this. A constant where its arguments are; epsilon is evaluated twice. */
 #define YARNGRAVEL_SHELF(n, epsilon, delta) \
     (2u + YARNGRAVEL_FRAME(epsilon) * (n) * ((delta) + 3u * (epsilon)))
+#define YARNGRAVEL_LINE 29u                                /* the longest line of words */
 
 /* Numbers in an answer. 0: accepted. Of a call: */
 #define YARNGRAVEL_BAD_SETUP 1u    /* the setup is not in its limits */
@@ -46,7 +47,8 @@ extern "C" {
 #define YARNGRAVEL_BAD_SHELF 3u    /* the shelf has not its exact length */
 #define YARNGRAVEL_BAD_TICKET 4u   /* the ticket is longer than 32 bytes (asked even if nothing is to be sent) */
 #define YARNGRAVEL_BAD_BUNDLE 5u   /* the bundle does not end exactly after its last entry */
-#define YARNGRAVEL_BAD_BUFFERS 6u  /* the outgoing, verdict or hand-out buffer is too short */
+#define YARNGRAVEL_BAD_BUFFERS 6u  /* the outgoing, verdict, hand-out or text buffer is too short; of the words also: a verdict
+                                      that no judgement gives */
 /* Of a frame, in the verdict buffer (and 10 to 12 from the reader, 11 and 12 from the writer): */
 #define YARNGRAVEL_BAD_FORM 10u    /* a section's count is wrong, or something is left over */
 #define YARNGRAVEL_BAD_RANGE 11u   /* the station is not below n, or r not below B */
@@ -76,6 +78,9 @@ static inline unsigned yarngravel_ticket_len(uint64_t answer) { return (unsigned
 
 /* The length of the frame that the writer wrote. */
 static inline unsigned yarngravel_written(uint64_t answer) { return (unsigned)(answer >> 8 & 0xffffu); }
+
+/* The length of the text of the words. */
+static inline unsigned yarngravel_text_len(uint64_t answer) { return (unsigned)(answer >> 8); }
 
 /* One tick at the clock (modulo B): judges the frames of the bundle, sends if asked to, and hands out what is due.
  *   clock     the station's clock modulo B; each accepted call is for the clock after the last one
@@ -108,6 +113,30 @@ uint64_t yarngravel_read(uint32_t n, uint32_t epsilon, uint32_t delta, uint32_t 
 uint64_t yarngravel_write(uint32_t n, uint32_t epsilon, uint32_t delta, uint32_t modulus, uint32_t own,
                           uint32_t station, const uint8_t tables[YARNGRAVEL_TABLES], const uint8_t *ticket,
                           size_t ticket_len, uint8_t *out, size_t out_len);
+
+/* Writes a line of words for each frame of a bundle, by the verdicts of the tick that heard it. A line is the frame's place in the
+ * bundle from 0, its station, its r, a word, and the limits that the word is about, with one space between and a newline last; it
+ * has at most YARNGRAVEL_LINE bytes. No two different judgements have the same line.
+ *   0   taken
+ *   10  form                   with a dash for the station and one for r
+ *   11  range n B              the station is not below n, or r not below B
+ *   12  stamp n epsilon-1      a count is above n, c is above epsilon - 1, or the counts do not fit c
+ *   13  late delta+epsilon     r is further behind the clock than this, or epsilon or more ahead of it
+ *   14  early epsilon-1        the sum is further past the clock than this
+ *   15  count n-1              a count for the clock or later is above this
+ *   16  repeat                 that station and r is on the shelf already
+ *   17  full n(delta+3epsilon) so many frames are on the shelf already
+ * The limits are written as numbers, as in `4 1 2 late 3`.
+ *   bundle    as given to the tick
+ *   verdicts  as the tick left them; at least a byte for each frame
+ *   text      gets the lines, with no byte 0 after them; at least YARNGRAVEL_LINE bytes for each frame. Bytes beyond the text stay
+ *             as they were
+ * Refusals: 1, 5, and 6 for a short buffer or for a verdict of one of these frames that is neither 0 nor 10 to 17. With verdicts
+ * that are not these frames' own, the station and r are the bytes in their places, 0 for one that is missing.
+ */
+uint64_t yarngravel_words(uint32_t n, uint32_t epsilon, uint32_t delta, uint32_t modulus, uint32_t own,
+                          const uint8_t *bundle, size_t bundle_len, const uint8_t *verdicts, size_t verdicts_len,
+                          uint8_t *text, size_t text_len);
 
 #ifdef __cplusplus
 }

@@ -37,6 +37,8 @@ const READ_PAYLOAD_LEN: Field = Field::new(32, 16);
 
 const WRITE_LEN: Field = Field::new(8, 16);
 
+const WORDS_LEN: Field = Field::new(8, 56);
+
 /// The number in any answer.
 pub fn number(word: u64) -> u8 {
     NUMBER.get(word) as u8
@@ -72,7 +74,12 @@ pub fn pack_write(length: u64) -> u64 {
     WRITE_LEN.put(length)
 }
 
-/// The answer of a refused reader or writer.
+/// The answer of the words: the text's length.
+pub fn pack_words(length: u64) -> u64 {
+    WORDS_LEN.put(length)
+}
+
+/// The answer of a refused reader or writer, and of refused words.
 pub fn pack_refusal(number: u8) -> u64 {
     NUMBER.put(number.into())
 }
@@ -81,7 +88,7 @@ pub fn pack_refusal(number: u8) -> u64 {
 pub mod library {
     //! The calls themselves.
 
-    use crate::generate::{ReadCase, TickCase, WriteCase};
+    use crate::generate::{ReadCase, TickCase, WordsCase, WriteCase};
     use crate::{ClockState, Setup};
 
     #[link(name = "abi", kind = "static")]
@@ -132,6 +139,20 @@ pub mod library {
             payload_len: usize,
             out: *mut u8,
             out_len: usize,
+        ) -> u64;
+
+        fn yarngravel_words(
+            n: u32,
+            epsilon: u32,
+            delta: u32,
+            modulus: u32,
+            own: u32,
+            batch: *const u8,
+            batch_len: usize,
+            verdicts: *const u8,
+            verdicts_len: usize,
+            text: *mut u8,
+            text_len: usize,
         ) -> u64;
     }
 
@@ -202,6 +223,27 @@ pub mod library {
                 case.payload.len(),
                 case.out.as_mut_ptr(),
                 case.out.len(),
+            )
+        }
+    }
+
+    /// The words.
+    pub fn words(case: &mut WordsCase) -> u64 {
+        let [n, epsilon, delta, modulus, own] = numbers(&case.setup);
+        // SAFETY: as in `tick`.
+        unsafe {
+            yarngravel_words(
+                n,
+                epsilon,
+                delta,
+                modulus,
+                own,
+                case.batch.as_ptr(),
+                case.batch.len(),
+                case.verdicts.as_ptr(),
+                case.verdicts.len(),
+                case.text.as_mut_ptr(),
+                case.text.len(),
             )
         }
     }

@@ -1,4 +1,4 @@
-//! Eleven small faults that can be planted in the oracle, to show that a comparison finds them.
+//! Twelve small faults that can be planted in the oracle, to show that a comparison finds them.
 //! Without the feature `plant` nothing of this is left in the code.
 //!
 //!  1. the writer alone refuses a buffer of exactly the frame's length
@@ -12,9 +12,10 @@
 //!  9. the byte after the last shelved frame is not cleared
 //! 10. replay lets an overlong trace pass
 //! 11. a frame's payload is read from one byte too early
+//! 12. the words say one tick more for check 13
 
 /// How many faults there are.
-pub const COUNT: u8 = 11;
+pub const COUNT: u8 = 12;
 
 #[cfg(feature = "plant")]
 mod switch {

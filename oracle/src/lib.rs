@@ -1,5 +1,5 @@
 //! A second program for the group's nodes, written from the paper "Word between the stations"
-//! (01) and the decided readings of it. It shares no code with the proved crates, so that the
+//! (01), the change requests to it (02) and the decided readings of both. It shares no code with the proved crates, so that the
 //! two can be compared. Numbers are signed here, and every reading of a clock is relative to
 //! the tick's clock v: 0 is v, 1 is one ahead, −1 one behind.
 
@@ -15,12 +15,14 @@ pub mod setup;
 pub mod streaming;
 pub mod timestamp;
 pub mod trace;
+pub mod words;
 
 pub use frame::{read, write, Frame};
 pub use node::{tick, Answer, Buffers, Call};
 pub use replay::replay;
 pub use setup::Setup;
 pub use timestamp::{ClockState, Timestamp};
+pub use words::words;
 
 /// One of 01's questions: a no gives its number.
 pub(crate) fn ask(yes: bool, number: u8) -> Result<(), u8> {

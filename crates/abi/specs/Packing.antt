@@ -10,6 +10,7 @@ use Rattle.model.specs.Timestamp.{Timestamp}
 use Rattle.model.specs.Frame.{twoBytes, twoAt, payloadCountAt}
 use Rattle.model.specs.Codec.{ReadAnswer, WriteAnswer}
 use Rattle.model.specs.Tick.{Input, Answer, Output}
+use Rattle.words.specs.Words.{WordsAnswer}
 
 -- how many bytes the tables have
 abbrev pub tablesLength : ℕ
@@ -80,3 +81,7 @@ readTables a tables = cond (eqb (a .number) 0) (tablesBytes (a .stamp)) tables
 -- the number in bits 0 to 7, the frame's length in 8 to 23
 unfoldable pub writeWord : WriteAnswer → ℕ
 writeWord a = a .number + 256 * a .size
+
+-- the number in bits 0 to 7, the text's length from bit 8 on
+unfoldable pub wordsWord : WordsAnswer → ℕ
+wordsWord a = a .number + 256 * a .size

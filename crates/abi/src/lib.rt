@@ -1,4 +1,4 @@
-// The boundary to C: the tick, the reader and the writer over numbers and byte slices. A slice is a pointer and a length;
+// The boundary to C: the tick, the reader, the writer and the words over numbers and byte slices. A slice is a pointer and a length;
 // the tables are a pointer to 35 bytes (r low, r high, c, 32 counts); the answer is one number. Any arguments get an answer.
 mod packing;
 
@@ -9,10 +9,12 @@ use packing::pack_written;
 use packing::put_tables;
 use packing::tables_of;
 use setup::Setup;
+use words::write_words;
 ghost use mathlib.Core.Path.{_≡_};
 ghost use Rattle.model.specs.Codec as codec;
 ghost use Rattle.model.specs.Tick as model;
-ghost use Rattle.abi.specs.Packing.{setupBy, inputBy, tablesIn, returned, packed, readWord, readTables, writeWord};
+ghost use Rattle.words.specs.Words.{words};
+ghost use Rattle.abi.specs.Packing.{setupBy, inputBy, tablesIn, returned, packed, readWord, readTables, writeWord, wordsWord};
 
 // One tick. The number in bits 0 to 7, 01's mend in 8 to 15, frames taken in 16 to 23, the outgoing length in 24 to 31,
 // frames handed out in 32 to 47. A refusal is the number alone, and changes nothing.
@@ -125,4 +127,31 @@ pub extern "C" fn yarngravel_write(
     let stamp = tables_of(tables);
     let written = frame::write(setup, own, station as usize, stamp, payload, out);
     pack_written(written.number, written.size)
+}
+
+// 02, 2.1: the words. The number in bits 0 to 7, the text's length from bit 8 on. A refusal is the number alone, and writes nothing.
+#[no_mangle]
+pub extern "C" fn yarngravel_words(
+    n: u32,
+    epsilon: u32,
+    delta: u32,
+    modulus: u32,
+    own: u32,
+    batch: &[u8],
+    verdicts: &[u8],
+    text: &mut [u8],
+) -> u64
+    ensures { λ r. ⌜ r ≡ wordsWord (words (setupBy n epsilon delta modulus) own (now (batch .entry)) (now (verdicts .entry))
+        (now (text .entry))) ⌝ }
+    ensures { λ _. ⌜ now (text .exit) ≡ words (setupBy n epsilon delta modulus) own (now (batch .entry)) (now (verdicts .entry))
+        (now (text .entry)) .text ⌝ }
+{
+    let setup = Setup {
+        n,
+        epsilon,
+        delta,
+        modulus,
+    };
+    let told = write_words(setup, own, batch, verdicts, text);
+    pack_written(told.number, told.size)
 }

@@ -52,7 +52,7 @@ pub fn pack_reading(station: usize, at: usize, size: usize) -> u64
     256 * (station as u64 + 256 * (at as u64 + 65536 * (size as u64)))
 }
 
-// What the writer answers as one number.
+// What the writer answers, and the words, as one number.
 pub fn pack_written(number: u8, size: usize) -> u64
     requires { ⌜ size < 65536 ⌝ }
     ensures { λ r. ⌜ r ≡ number + 256 * size ⌝ }

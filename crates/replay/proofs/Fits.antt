@@ -18,7 +18,7 @@ use Rattle.lemmas.proofs.RoundTrip.{held-frames}
 use Rattle.lemmas.proofs.Queue.{queue-room}
 use Rattle.lemmas.proofs.OneTick.{Accepted, accepted-call, hearing-end, delivery-is, delivered-frames, delivered-most}
 use Rattle.trace.specs.Text.{payloadText, giveLine, giveLines, tickLine, tickLines, linesOf}
-use Rattle.trace.proofs.Numerals.{digitCount-le, digitCount-most}
+use Rattle.text.proofs.Numerals.{digitCount-le, digitCount-most}
 use Rattle.trace.proofs.Putting.{length-tick, length-give, length-hex, payload-empty, payload-hex}
 use Rattle.trace.specs.Trace.{largestHoldback}
 use Rattle.replay.specs.Playing.{textRoom}

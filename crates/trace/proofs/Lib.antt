@@ -1,5 +1,4 @@
--- `Numerals` is about numbers as text, `Putting` about writing one text after another, `Giving` about the frames of a delivery, `Ticks` about a tick's bytes, `Whole` about reading them as they come; `Samples` is the sample of 01.
-pub mod Numerals
+-- `Putting` is about the parts of a line, `Giving` about the frames of a delivery, `Ticks` about a tick's bytes, `Whole` about reading them as they come; `Samples` is the sample of 01.
 pub mod Putting
 pub mod Giving
 pub mod Ticks

@@ -3,26 +3,8 @@ use Prim.Native.Nat.{ℕ, _+_}
 use mathlib.Core.Path.{_≡_, refl}
 use mathlib.Core.List.{List, [], _∷_, _++_}
 use Rattle.model.proofs.Computing.{computing}
-use Rattle.trace.specs.Text.{
-  glyph,
-  digits,
-  countBy,
-  digitCount,
-  decimal,
-  hexByte,
-  field,
-  fields,
-  flag,
-  tickLine,
-  payloadText,
-  payloadTail,
-  giveText,
-  giveLine,
-  giveLines,
-  tickLines,
-  linesOf,
-  refusedLine,
-}
+use Rattle.text.specs.Text.{glyph, digits, countBy, digitCount, decimal, field}
+use Rattle.trace.specs.Text.{hexByte, fields, flag, tickLine, payloadText, payloadTail, giveText, giveLine, giveLines, tickLines, linesOf, refusedLine}
 use Rattle.trace.specs.Trace.{
   traceSetup,
   setupNumber,

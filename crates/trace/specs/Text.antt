@@ -1,43 +1,21 @@
 -- 01, "The replay program": what it writes, as bytes. A name in quotes is the text of which a list has the ASCII codes.
-use Prim.Native.Nat.{ℕ, zero, suc, _+_, _/_, _%_}
-use mathlib.Core.Path.{_≡_}
+use Prim.Native.Nat.{ℕ, _+_}
 use mathlib.Core.Bool.{cond}
 use mathlib.Core.List.{List, [], _∷_, _++_}
-use lib.Dec.{leb, ltb, eqb}
+use lib.Dec.{leb, eqb}
 use lib.ListN.{length, take, drop}
 use Rattle.laws.specs.Lists.{joined}
 use Rattle.splice.specs.Bytes.{pasted}
+use Rattle.text.specs.Text.{digits, space, newline, field}
 use Rattle.model.specs.Frame.{Frame, frameEnd, decode}
 use Rattle.model.specs.Holdback.{held}
 use Rattle.model.specs.Tick.{Input, Output}
-
--- a digit below 16: "0" to "9", then "a" to "f"
-unfoldable pub glyph : ℕ → ℕ
-glyph d = cond (ltb d 10) (48 + d) (87 + d)
-
--- the last `k` digits of `x` in a base, the most significant first
-unfoldable pub digits : ℕ → ℕ → ℕ → List ℕ
-digits base zero x = []
-digits base (suc k) x = digits base k (x / base) ++ (glyph (x % base) ∷ [])
-
--- how many digits `x` has in decimal, counted up to `steps + 1`
-unfoldable pub countBy : ℕ → ℕ → ℕ
-countBy zero x = 1
-countBy (suc steps) x = cond (ltb x 10) 1 (suc (countBy steps (x / 10)))
-
--- all of them, since `x` has at most `x + 1`
-unfoldable pub digitCount : ℕ → ℕ
-digitCount x = countBy x x
-
--- 01: "Numbers print in decimal"; no zeros in front
-unfoldable pub decimal : ℕ → List ℕ
-decimal x = digits 10 (digitCount x) x
 
 -- 01: "in hexadecimal, two lower-case digits a byte"
 unfoldable pub hexByte : ℕ → List ℕ
 hexByte x = digits 16 2 x
 
--- the words of the lines: "tick ", " mend ", " c ", " took ", " sent ", " gave ", "give ", " ", "refused ", and the end of a line
+-- the words of the lines: "tick ", " mend ", " c ", " took ", " sent ", " gave ", "give ", "refused "
 abbrev pub tickWord : List ℕ
 tickWord = 116 ∷ 105 ∷ 99 ∷ 107 ∷ 32 ∷ []
 
@@ -59,18 +37,8 @@ gaveWord = 32 ∷ 103 ∷ 97 ∷ 118 ∷ 101 ∷ 32 ∷ []
 abbrev pub giveWord : List ℕ
 giveWord = 103 ∷ 105 ∷ 118 ∷ 101 ∷ 32 ∷ []
 
-abbrev pub space : List ℕ
-space = 32 ∷ []
-
 abbrev pub refusedWord : List ℕ
 refusedWord = 114 ∷ 101 ∷ 102 ∷ 117 ∷ 115 ∷ 101 ∷ 100 ∷ 32 ∷ []
-
-abbrev pub newline : List ℕ
-newline = 10 ∷ []
-
--- a word, and a number after it
-unfoldable pub field : List ℕ → ℕ → List ℕ
-field word x = word ++ decimal x
 
 -- 01: "sent (1 or 0)", of the length of the outgoing frame
 unfoldable pub flag : ℕ → ℕ
@@ -134,8 +102,3 @@ textWritten buffer at text = cond (leb (at + length text) (length buffer)) (past
 -- and where it ends; 0 where there is no room
 unfoldable pub textEnd : List ℕ → ℕ → List ℕ → ℕ
 textEnd buffer at text = cond (leb (at + length text) (length buffer)) (at + length text) 0
-
--- a text was put into a buffer at a position, and ends at `end`
-pub record Put (buffer : List ℕ) (at : ℕ) (text after : List ℕ) (end : ℕ) : Type 0 where
-  pub bytes : after ≡ pasted buffer at text
-  pub ends : end ≡ at + length text

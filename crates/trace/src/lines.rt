@@ -1,23 +1,24 @@
 // The lines of a tick and of a refusal.
-use crate::digits::digit_count;
-use crate::text::payload_size;
-use crate::text::put_field;
-use crate::text::put_fields;
-use crate::text::put_give;
-use crate::text::put_word;
+use crate::parts::payload_size;
+use crate::parts::put_fields;
+use crate::parts::put_give;
 use frame::frame_end;
 use frame::payload_part;
 use frame::r_of;
 use frame::station_of;
 use splice::part;
 use splice::two_at;
+use text::digit_count;
+use text::put_field;
+use text::put_word;
 ghost use mathlib.Core.Path.{_≡_};
 ghost use mathlib.Core.List.{[]};
 ghost use Prim.Native.Nat.{_+_, _≤_, _<_, _^_};
 ghost use lib.Dec.{leb};
 ghost use lib.ListN.{length, drop};
 ghost use Rattle.model.specs.Frame.{frameEnd};
-ghost use Rattle.trace.specs.Text.{flag, tickLine, giveLine, giveLines, frameBytes, frameFrom, tickLines, refusedLine, textWritten, textEnd, Put};
+ghost use Rattle.text.specs.Text.{Put};
+ghost use Rattle.trace.specs.Text.{flag, tickLine, giveLine, giveLines, frameBytes, frameFrom, tickLines, refusedLine, textWritten, textEnd};
 ghost use Rattle.trace.specs.Replay.{stopped};
 
 // What a tick line says: 01's clock, mend, c, taken, outgoing length (0 if none), handed out.

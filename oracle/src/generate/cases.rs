@@ -1,10 +1,14 @@
 //! One call with all its arguments and buffers.
 
 use super::Prng;
+use crate::words::LINE;
 use crate::{Answer, Buffers, Call, ClockState, Setup};
 
 /// How much too large a number or a length can be and look right, cut to one byte or two.
 const FAR: [i64; 2] = [256, 65_536];
+
+/// The numbers that a judgement gives.
+const NUMBERS: [u8; 9] = [0, 10, 11, 12, 13, 14, 15, 16, 17];
 
 /// A call of the tick.
 #[derive(Clone, Debug, PartialEq, Eq)]
@@ -117,6 +121,48 @@ impl WriteCase {
             super::spoil::spoil_setup(rng, &mut setup);
         }
         WriteCase { setup, node, state, payload, out: rng.bytes(length as usize) }
+    }
+}
+
+/// A call of the words.
+#[derive(Clone, Debug, PartialEq, Eq)]
+pub struct WordsCase {
+    pub setup: Setup,
+    pub batch: Vec<u8>,
+    pub verdicts: Vec<u8>,
+    pub text: Vec<u8>,
+}
+
+impl WordsCase {
+    /// What an accepted tick heard and judged, with a text buffer that is long enough, often not
+    /// longer.
+    pub fn judged(rng: &mut Prng, case: &TickCase) -> Self {
+        let more = if rng.one_in(32) { FAR[0] } else { rng.range(-2, 2).max(0) };
+        let length = LINE * usize::from(case.batch[0]) + more as usize;
+        WordsCase {
+            setup: case.setup,
+            batch: case.batch.clone(),
+            verdicts: case.verdicts.clone(),
+            text: rng.bytes(length),
+        }
+    }
+
+    /// The same with one argument changed: verdicts that are not these frames', or one that is
+    /// no verdict; a setup, a batch or a buffer that mostly is wrong.
+    pub fn spoil(mut self, rng: &mut Prng) -> Self {
+        let count = usize::from(self.batch[0]);
+        match rng.below(8) {
+            0 => super::spoil::spoil_setup(rng, &mut self.setup),
+            1 => super::spoil::spoil_batch(rng, &mut self.batch),
+            2 => super::spoil::shorten(rng, &mut self.verdicts, count),
+            3 => super::spoil::shorten(rng, &mut self.text, LINE * count),
+            4 => {
+                let at = rng.place(count.min(self.verdicts.len() - 1) + 1);
+                self.verdicts[at] = rng.pick(&[1, 9, 18, 255]);
+            }
+            _ => self.verdicts.iter_mut().for_each(|number| *number = rng.pick(&NUMBERS)),
+        }
+        self
     }
 }
 

@@ -8,7 +8,7 @@ pub mod prng;
 pub mod spoil;
 pub mod traces;
 
-pub use cases::{ReadCase, TickCase, WriteCase};
+pub use cases::{ReadCase, TickCase, WordsCase, WriteCase};
 pub use group::{Group, Habits};
 pub use prng::Prng;
 

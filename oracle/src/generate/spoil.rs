@@ -66,13 +66,13 @@ fn spoil_length(rng: &mut Prng, buffer: &mut Vec<u8>) {
 }
 
 /// Makes a buffer shorter than its least length, by one or by all.
-fn shorten(rng: &mut Prng, buffer: &mut Vec<u8>, least: usize) {
+pub fn shorten(rng: &mut Prng, buffer: &mut Vec<u8>, least: usize) {
     let length = rng.pick(&[0, least.saturating_sub(1)]);
     buffer.truncate(length);
 }
 
 /// A batch that mostly does not end after its last entry.
-fn spoil_batch(rng: &mut Prng, batch: &mut Vec<u8>) {
+pub fn spoil_batch(rng: &mut Prng, batch: &mut Vec<u8>) {
     match rng.below(5) {
         0 => batch.clear(),
         1 => batch.push(rng.bits() as u8),

@@ -9,3 +9,4 @@ mod programs;
 mod replaying;
 mod round_trips;
 mod samples;
+mod words;

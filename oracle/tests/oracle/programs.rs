@@ -67,5 +67,5 @@ fn compare_meets_every_number_and_finds_every_fault() {
     let output = output.unwrap();
     let text = String::from_utf8(output.stdout).unwrap();
     assert!(output.status.success(), "{text}");
-    assert_eq!(text.lines().filter(|line| line.starts_with("fault ")).count(), 11);
+    assert_eq!(text.lines().filter(|line| line.starts_with("fault ")).count(), 12);
 }

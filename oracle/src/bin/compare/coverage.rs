@@ -11,15 +11,18 @@ const LEAST: u64 = 100;
 /// In a run of few traces one in so many is enough for what only traces meet.
 const TRACES: u64 = 40;
 
-/// Of calls. 17 is not among the numbers of frames: no queue ever gets full. For `sent` and
+/// Of calls. 17 is not among the numbers of frames: no queue ever gets full; it is
+/// among those of lines, where verdicts that are not the frames' own are given too. For `sent` and
 /// `gave` (was a frame sent, was one handed out) 1 is yes.
-const OF_CALLS: [Row; 7] = [
+const OF_CALLS: [Row; 9] = [
     ("call", &[0, 1, 2, 3, 4, 5, 6]),
     ("frame", &[0, 10, 11, 12, 13, 14, 15, 16]),
     ("gave", &[0, 1]),
+    ("line", &[0, 10, 11, 12, 13, 14, 15, 16, 17]),
     ("mend", &[0, 1, 2, 3]),
     ("reader", &[0, 1, 10, 11, 12]),
     ("sent", &[0, 1]),
+    ("words", &[0, 1, 5, 6]),
     ("writer", &[0, 1, 4, 6, 11, 12]),
 ];
 /// Of traces. 3 and 6 are not among them: the program's own buffers are right.

@@ -3,7 +3,8 @@
 use crate::coverage::Coverage;
 use crate::subject::Subject;
 use oracle::abi;
-use oracle::generate::{self, spoil, Group, Habits, Prng, ReadCase, TickCase, WriteCase};
+use oracle::generate::{self, spoil, Group, Habits, Prng};
+use oracle::generate::{ReadCase, TickCase, WordsCase, WriteCase};
 use oracle::replay::hex;
 use oracle::Answer;
 
@@ -69,6 +70,20 @@ impl Case for WriteCase {
     }
 }
 
+impl Case for WordsCase {
+    fn call(&mut self, subject: &mut dyn Subject) -> u64 {
+        subject.words(self)
+    }
+
+    fn numbers(&self) -> String {
+        format!("words: {:?}", self.setup)
+    }
+
+    fn buffers(&self) -> Vec<(&'static str, &[u8])> {
+        vec![("bundle", &self.batch), ("verdicts", &self.verdicts), ("text", &self.text)]
+    }
+}
+
 /// Two programs, and what was met so far. An error describes a difference.
 pub struct Comparison<'s> {
     pub left: &'s mut dyn Subject,
@@ -117,6 +132,11 @@ impl<'s> Comparison<'s> {
             self.coverage.meet("writer", abi::number(word));
         }
         let (case, answer) = self.tick(case)?;
+        if rng.one_in(2) {
+            let judged = WordsCase::judged(rng, &case);
+            self.words(judged.clone().spoil(rng))?;
+            self.words(judged)?;
+        }
         group.settle(node, case, &answer);
         Ok(())
     }
@@ -134,6 +154,17 @@ impl<'s> Comparison<'s> {
             }
         }
         Ok((case, answer))
+    }
+
+    fn words(&mut self, case: WordsCase) -> Result<(), String> {
+        let (case, word) = self.case(case)?;
+        self.coverage.meet("words", abi::number(word));
+        if abi::number(word) == 0 {
+            for &number in &case.verdicts[..case.batch[0].into()] {
+                self.coverage.meet("line", number);
+            }
+        }
+        Ok(())
     }
 
     /// Makes one call to both; what it left, and the answer.

@@ -1,7 +1,7 @@
 //! The programs that are compared.
 
 use oracle::abi;
-use oracle::generate::{ReadCase, TickCase, WriteCase};
+use oracle::generate::{ReadCase, TickCase, WordsCase, WriteCase};
 use oracle::{fault, replay};
 
 /// Something that makes the calls and replays traces. Answers are packed as the library's.
@@ -9,6 +9,7 @@ pub trait Subject {
     fn tick(&mut self, case: &mut TickCase) -> u64;
     fn read(&mut self, case: &mut ReadCase) -> u64;
     fn write(&mut self, case: &mut WriteCase) -> u64;
+    fn words(&mut self, case: &mut WordsCase) -> u64;
     fn replay(&mut self, trace: &[u8]) -> Result<String, String>;
 }
 
@@ -50,6 +51,14 @@ impl Subject for Oracle {
         }
     }
 
+    fn words(&mut self, case: &mut WordsCase) -> u64 {
+        let WordsCase { setup, batch, verdicts, text } = case;
+        match self.faulty(|| oracle::words(setup, batch, verdicts, text)) {
+            Ok(length) => abi::pack_words(length as u64),
+            Err(number) => abi::pack_refusal(number),
+        }
+    }
+
     fn replay(&mut self, trace: &[u8]) -> Result<String, String> {
         Ok(self.faulty(|| replay::replay_text(trace)))
     }
@@ -73,6 +82,10 @@ impl Subject for Proved {
 
     fn write(&mut self, case: &mut WriteCase) -> u64 {
         abi::library::write(case)
+    }
+
+    fn words(&mut self, case: &mut WordsCase) -> u64 {
+        abi::library::words(case)
     }
 
     fn replay(&mut self, trace: &[u8]) -> Result<String, String> {

@@ -1,7 +1,7 @@
 -- `trace::lines::put_give_at` meets its contract. Assumes nothing.
 use mathlib.Core.Path.{_≡_}
 use Rattle.trace.specs.Text.{giveText, giveLine, frameFrom}
-use Rattle.trace.proofs.Putting.{put-as, room-as}
+use Rattle.text.proofs.Putting.{put-as, room-as}
 use Rattle.trace.proofs.Giving.{give-at}
 use borrow.Author.Needs.{needs}
 use Rattle.trace.proofs.lines.put_give_at.Statement.{statement}

@@ -4,8 +4,9 @@ use Rattle.model.specs.Frame.{frameEnd}
 use Prim.Native.Nat.{suc, _+_, _-_, _*_, _≤_}
 use mathlib.Core.Path.{_≡_, refl, sym, ap, _∙_}
 use Prim.Native.Nat.{ℕ}
-use Rattle.trace.specs.Text.{giveLine, giveLines, frameFrom, Put}
-use Rattle.trace.proofs.Putting.{Ahead, ahead, ahead-first, ahead-next, ahead-as, put-nothing, put-length}
+use Rattle.text.specs.Text.{Put}
+use Rattle.trace.specs.Text.{giveLine, giveLines, frameFrom}
+use Rattle.text.proofs.Putting.{Ahead, ahead, ahead-first, ahead-next, ahead-as, put-nothing, put-length}
 use Rattle.trace.proofs.Giving.{giveLinesFrom, give-all, give-none, give-one}
 use Rattle.trace.proofs.Ticks.{two-small}
 use native.Mathlib.Omega.{arith}

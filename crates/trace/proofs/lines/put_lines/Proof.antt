@@ -4,7 +4,8 @@ use mathlib.Core.Path.{sym, _∙_}
 use lib.ListN.{length, length-append}
 use borrow.Author.Tests.{leb-true, leb-false, not-true, not-false}
 use Rattle.trace.specs.Text.{tickLine, giveLines, tickLines}
-use Rattle.trace.proofs.Putting.{ahead, ahead-first, ahead-next, none-end, none-written, put-end, put-written}
+use Rattle.text.proofs.Putting.{ahead, ahead-first, ahead-next}
+use Rattle.trace.proofs.Putting.{none-end, none-written, put-end, put-written}
 use borrow.Author.Needs.{needs}
 use native.Mathlib.Omega.{arith}
 use Rattle.trace.proofs.lines.put_lines.Statement.{statement}

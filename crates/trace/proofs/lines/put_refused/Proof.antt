@@ -1,8 +1,10 @@
 -- `trace::lines::put_refused` meets its contract. Assumes nothing.
 use Prim.Native.Nat.{_+_, _<_, _≤_}
 use lib.ListN.{length}
-use Rattle.trace.specs.Text.{refusedLine, field, refusedWord, newline}
-use Rattle.trace.proofs.Putting.{ahead, ahead-first, ahead-next, length-refused, none-end, none-written, put-end, put-written}
+use Rattle.text.specs.Text.{field, newline}
+use Rattle.trace.specs.Text.{refusedLine, refusedWord}
+use Rattle.text.proofs.Putting.{ahead, ahead-first, ahead-next}
+use Rattle.trace.proofs.Putting.{length-refused, none-end, none-written, put-end, put-written}
 use borrow.Author.Needs.{needs}
 use native.Mathlib.Omega.{arith}
 use Rattle.trace.proofs.lines.put_refused.Statement.{statement}

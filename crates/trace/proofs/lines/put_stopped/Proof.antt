@@ -1,13 +1,15 @@
 -- `trace::lines::put_stopped` meets its contract. Assumes nothing.
 use Prim.Native.Nat.{ℕ, zero, suc, _+_, _≤_}
 use native.Mathlib.Omega.{arith}
-use mathlib.Core.Path.{_≡_, refl, sym, ap, _∙_}
+use mathlib.Core.Path.{_≡_, refl, ap, _∙_}
 use mathlib.Core.List.{List, []}
 use lib.ListN.{length}
 use borrow.Author.Needs.{needs}
-use Rattle.trace.specs.Text.{refusedLine, textWritten, textEnd, Put}
+use Rattle.text.specs.Text.{Put}
+use Rattle.trace.specs.Text.{refusedLine, textWritten, textEnd}
 use Rattle.trace.specs.Replay.{stopped}
-use Rattle.trace.proofs.Putting.{put-nothing, put-end, put-written}
+use Rattle.text.proofs.Putting.{put-nothing}
+use Rattle.trace.proofs.Putting.{put-end, put-written}
 use Rattle.trace.proofs.lines.put_stopped.Statement.{statement}
 use Rattle.trace.proofs.lines.put_stopped.Tie as tie
 

@@ -2,8 +2,9 @@
 use Prim.Native.Nat.{ℕ}
 use mathlib.Core.Path.{_≡_, sym, ap}
 use mathlib.Core.List.{_++_}
-use Rattle.trace.specs.Text.{tickLine, fields, tickWord, mendWord, cWord, tookWord, sentWord, gaveWord, newline}
-use Rattle.trace.proofs.Putting.{ahead, ahead-as, ahead-first, ahead-next}
+use Rattle.text.specs.Text.{newline}
+use Rattle.trace.specs.Text.{tickLine, fields, tickWord, mendWord, cWord, tookWord, sentWord, gaveWord}
+use Rattle.text.proofs.Putting.{ahead, ahead-as, ahead-first, ahead-next}
 use borrow.Author.Needs.{needs}
 use Rattle.trace.proofs.lines.put_tick.Statement.{statement}
 use Rattle.trace.proofs.lines.put_tick.Tie as tie

@@ -1,0 +1,152 @@
+-- The parts of a line as the code writes them, and the loop over the entries, turn by turn. Assumes nothing.
+use Prim.Native.Nat.{ℕ, suc, _+_, _*_, _-_, _≤_, _<_}
+use mathlib.Core.Path.{_≡_, refl, sym, ap, _∙_}
+use mathlib.Core.Bool.{true}
+use mathlib.Core.List.{List, [], _∷_, _++_, map, append-nil}
+use native.Mathlib.Nat.{add-zero, zero-add}
+use native.Mathlib.Numerals.{add-one}
+use native.Mathlib.Omega.{arith}
+use lib.ListN.{length, take, drop, getD, length-take}
+use lib.Seq.{getD-take, getD-drop, drop-drop}
+use borrow.Author.Tests.{ne-eqb}
+use Rattle.laws.specs.Lists.{tab, joined, overlay}
+use Rattle.laws.proofs.Lists.{joined-append, tab-suc, every-index}
+use Rattle.model.specs.Setup.{Setup}
+use Rattle.model.specs.Frame.{Frame, decode, twoAt}
+use Rattle.model.specs.Batch.{batchEntries}
+use Rattle.splice.specs.Bytes.{pasted}
+use Rattle.batch.specs.Walk.{countOf, entryAt, nextAt}
+use Rattle.batch.proofs.Walk.{walked, batch-walked, batch-count}
+use Rattle.text.specs.Text.{Put, decimal, space}
+use Rattle.text.proofs.Putting.{put-nothing, put-then, put-as, put-length}
+use Rattle.words.specs.Words.{given, ruleWord, fullWord, wordOf, limitsOf, orDash, partsOf, spaced, lineOf, lineAt, wordLines, textOf, longestLine}
+use Rattle.words.specs.Answers.{Answered}
+
+-- ---- the parts
+
+-- the word of the last rule, where it is none of the others
+pub full-word : (number : ℕ) → (number ≡ 10 → ⊥) → (number ≡ 11 → ⊥) → (number ≡ 12 → ⊥) → (number ≡ 13 → ⊥) → (number ≡ 14 → ⊥) → (number ≡ 15 → ⊥)
+    → (number ≡ 16 → ⊥) → fullWord ≡ ruleWord number
+unfolding ruleWord
+full-word number a b c d e f g =
+    rw (ne-eqb number 10 a, ne-eqb number 11 b, ne-eqb number 12 c, ne-eqb number 13 d, ne-eqb number 14 e, ne-eqb number 15 f, ne-eqb number 16 g)
+
+pub rule-word : (number : ℕ) → (number ≡ 0 → ⊥) → ruleWord number ≡ wordOf number
+unfolding wordOf
+rule-word number h = rw (ne-eqb number 0 h)
+
+pub no-dash : (number x : ℕ) → (number ≡ 10 → ⊥) → decimal x ≡ orDash number x
+unfolding orDash
+no-dash number x h = rw (ne-eqb number 10 h)
+
+pub no-limits : (s : Setup) (number : ℕ) → (number ≡ 11 → ⊥) → (number ≡ 12 → ⊥) → (number ≡ 13 → ⊥) → (number ≡ 14 → ⊥) → (number ≡ 15 → ⊥) → (number ≡ 17 → ⊥)
+    → [] ≡ limitsOf s number
+unfolding limitsOf
+no-limits s number b c d e f h =
+    rw (ne-eqb number 11 b, ne-eqb number 12 c, ne-eqb number 13 d, ne-eqb number 14 e, ne-eqb number 15 f, ne-eqb number 17 h)
+
+-- a line of the parts that were written
+pub line-made :
+    (s : Setup) (position number : ℕ) (f : Frame) (station r : ℕ) (limits : List ℕ) → station ≡ f .station → r ≡ f .stamp .r → limits ≡ limitsOf s number
+    → lineOf s position number f
+    ≡ decimal position ++ ((space ++ orDash number station) ++ ((space ++ orDash number r) ++ ((space ++ wordOf number) ++ spaced (map decimal limits))))
+unfolding lineOf partsOf spaced
+line-made s position number f station r limits p q e = rw (p, q, e)
+
+-- r of any bytes is a number of two
+pub r-most : (epsilon : ℕ) (s : List ℕ) → getD s 2 0 < 256 → getD s 3 0 < 256 → decode epsilon s .stamp .r < 65536
+unfolding decode twoAt
+r-most epsilon s h k = omega arith
+
+-- ---- the loop: the lines of the first entries are written, and the walk goes on at the others
+
+module _ (s : Setup) (batch verdicts text : List ℕ) where
+  -- the lines of the first entries
+  pub linesUpTo : ℕ → List ℕ
+  linesUpTo position = joined (λ line. line) (tab position (lineAt s (batchEntries batch) verdicts))
+
+  pub record Lining (position at end : ℕ) (cur : List ℕ) : Type 0 where
+    pub left : ℕ
+    pub counted : countOf batch ≡ position + left
+    pub rest : walked left batch at ≡ drop position (batchEntries batch)
+    pub so-far : Put text 0 (linesUpTo position) cur end
+    pub as-long : length cur ≡ length text
+    pub near : end ≤ longestLine * position
+
+  pub lining-start : Answered s batch verdicts text → Lining 0 1 0 text
+  unfolding linesUpTo tab joined
+  lining-start ok =
+      record {
+        left = countOf batch;
+        counted = omega arith;
+        rest = batch-walked batch (ok .exact);
+        so-far = put-nothing text 0;
+        as-long = refl;
+        near = omega arith;
+      }
+
+  module _ (ok : Answered s batch verdicts text) {position at end : ℕ} {cur : List ℕ} (here : Lining position at end cur) where
+    -- at one more entry
+    module _ (more : position < countOf batch) where
+      front : entryAt batch at ∷ walked (here .left - 1) batch (nextAt batch at) ≡ drop position (batchEntries batch)
+      unfolding walked
+      front =
+          let e : here .left ≡ suc (here .left - 1) = omega (arith, here .counted) in
+          ap (λ (m : ℕ). walked m batch at) (sym e) ∙ here .rest
+
+      -- its line, of the bytes where the walk is
+      pub lining-line : (bytes : List ℕ) → bytes ≡ entryAt batch at
+          → lineOf s position (getD verdicts position 0) (decode (s .epsilon) bytes) ≡ lineAt s (batchEntries batch) verdicts position
+      unfolding lineAt
+      lining-line bytes e =
+          ap (λ (l : List ℕ). lineOf s position (getD verdicts position 0) (decode (s .epsilon) l))
+          (e
+          ∙ (ap (λ (l : List (List ℕ)). getD l 0 []) front
+          ∙ (getD-drop position (batchEntries batch) 0 [] ∙ ap (λ (m : ℕ). getD (batchEntries batch) m []) (add-zero position))))
+
+      -- a judgement gave its verdict
+      pub lining-given : given (getD verdicts position 0) ≡ true
+      lining-given =
+          let below : position < length (batchEntries batch) = omega (arith, batch-count batch (ok .exact)) in
+          let small : position < length (take (length (batchEntries batch)) verdicts)
+          = omega (arith, length-take (length (batchEntries batch)) verdicts, ok .enough) in
+          rw (← getD-take (length (batchEntries batch)) verdicts position 0 below)
+          (every-index given (take (length (batchEntries batch)) verdicts) 0 (ok .all-given) position small)
+
+      -- there is room for it
+      pub lining-room : end + longestLine ≤ length cur
+      lining-room = omega (arith, ok .room, batch-count batch (ok .exact), here .as-long, here .near)
+
+      pub lining-turn : {next : List ℕ} {at′ end′ : ℕ} (line : List ℕ) → line ≡ lineAt s (batchEntries batch) verdicts position
+          → at′ ≡ nextAt batch at → Put cur end line next end′ → end′ ≤ end + longestLine → Lining (position + 1) at′ end′ next
+      unfolding linesUpTo joined
+      lining-turn {next} {at′} {end′} line e step put short =
+          let lines : linesUpTo position ++ line ≡ linesUpTo (position + 1)
+          = rw (e, add-one position, tab-suc position (lineAt s (batchEntries batch) verdicts))
+          (sym (joined-append (λ l. l) (tab position (lineAt s (batchEntries batch) verdicts)) (lineAt s (batchEntries batch) verdicts position ∷ [])
+          ∙ ap (λ (l : List ℕ). linesUpTo position ++ l) (append-nil (lineAt s (batchEntries batch) verdicts position)))) in
+          record {
+            left = here .left - 1;
+            counted = omega (arith, here .counted);
+            rest =
+                ap (λ (m : ℕ). walked (here .left - 1) batch m) step
+                ∙ (ap (drop 1) front ∙ drop-drop 1 position (batchEntries batch));
+            so-far = put-as lines (put-then (omega arith) (here .so-far) put);
+            as-long = put-length (omega (arith, lining-room, put .ends)) put ∙ here .as-long;
+            near = omega (arith, here .near);
+          }
+
+  pub lining-end : {position at end : ℕ} {cur : List ℕ} → Answered s batch verdicts text → Lining position at end cur → countOf batch ≤ position
+      → Put text 0 (textOf s (batchEntries batch) verdicts) cur end
+  unfolding linesUpTo textOf wordLines
+  lining-end {position} ok here done =
+      let all : position ≡ length (batchEntries batch) = omega (arith, here .counted, batch-count batch (ok .exact)) in
+      put-as (ap linesUpTo all) (here .so-far)
+
+-- at the front of a buffer
+pub put-front : {l m : List ℕ} {a : List ℕ} {end : ℕ} → Put l 0 a m end → m ≡ overlay a l
+unfolding overlay pasted
+put-front {l} {m} {a} p = p .bytes ∙ ap (λ (k : ℕ). a ++ drop k l) (zero-add (length a))
+
+pub put-size : {l m : List ℕ} {a : List ℕ} {end : ℕ} → Put l 0 a m end → end ≡ length a
+put-size {l} {m} {a} p = p .ends ∙ zero-add (length a)

@@ -1,0 +1,116 @@
+-- `words::line::limits_of` meets its contract. Assumes nothing.
+use mathlib.Core.Path.{sym, ap, _∙_}
+use Prim.Native.Nat.{ℕ}
+use mathlib.Core.List.{[], _∷_}
+use borrow.Author.Needs.{needs}
+use native.Mathlib.Omega.{arith}
+use Rattle.lemmas.proofs.Bounds.{Limits}
+use Rattle.lemmas.proofs.Questions.{limits-from}
+use Rattle.setup.specs.Views.{setupOf}
+use Rattle.words.specs.Words.{limitsOf}
+use Rattle.words.proofs.Writing.{no-limits}
+use Rattle.words.proofs.line.limits_of.Statement.{statement}
+use Rattle.words.proofs.line.limits_of.Tie as tie
+
+-- the limits of the setup
+limited : (c : tie.Start) → Limits (setupOf (c .args .setup))
+limited c = limits-from (setupOf (c .args .setup)) (c .pre)
+
+cast-n : tie.Need-cast-n
+cast-n c = search needs
+
+cast-epsilon : tie.Need-cast-epsilon
+cast-epsilon c = search needs
+
+cast-delta : tie.Need-cast-delta
+cast-delta c = search needs
+
+cast-two : tie.Need-cast-two
+cast-two c = search needs
+
+two-requires : tie.Need-two-requires
+two-requires c κs = search needs
+
+returns : tie.Need-returns
+unfolding limitsOf
+returns c = c .two .ensures ∙ ap (limitsOf (setupOf (c .before .before .before .before .before .before .args .setup))) (sym (c .before .before .if1 .taken))
+
+sub-two : tie.Need-sub-two
+sub-two c = omega (arith, limited (c .before .before .before .before .before) .epsilon-pos)
+
+two-requires-2 : tie.Need-two-requires-2
+two-requires-2 c κs = search needs
+
+returns-2 : tie.Need-returns-2
+unfolding limitsOf
+returns-2 c = c .two2 .ensures ∙ ap (limitsOf (setupOf (c .before .before .before .before .before .before .args .setup))) (sym (c .before .if2 .taken))
+
+add-one : tie.Need-add-one
+add-one c = search needs
+
+one-requires : tie.Need-one-requires
+one-requires c κs = search needs
+
+returns-3 : tie.Need-returns-3
+unfolding limitsOf
+returns-3 c = c .one .ensures ∙ ap (limitsOf (setupOf (c .before .before .before .before .before .before .before .args .setup))) (sym (c .before .if3 .taken))
+
+sub-one : tie.Need-sub-one
+sub-one c = omega (arith, limited (c .before .before .before .before .before .before .before) .epsilon-pos)
+
+one-requires-2 : tie.Need-one-requires-2
+one-requires-2 c κs = search needs
+
+returns-4 : tie.Need-returns-4
+unfolding limitsOf
+returns-4 c = c .one2 .ensures ∙ ap (limitsOf (setupOf (c .before .before .before .before .before .before .before .before .args .setup))) (sym (c .before .if4 .taken))
+
+sub-one-2 : tie.Need-sub-one-2
+sub-one-2 c = omega (arith, limited (c .before .before .before .before .before .before .before .before) .n-pos)
+
+one-requires-3 : tie.Need-one-requires-3
+one-requires-3 c κs = search needs
+
+returns-5 : tie.Need-returns-5
+unfolding limitsOf
+returns-5 c = c .one3 .ensures ∙ ap (limitsOf (setupOf (c .before .before .before .before .before .before .before .before .before .args .setup))) (sym (c .before .if5 .taken))
+
+depth-requires : tie.Need-depth-requires
+depth-requires c κs = let l = limited (c .before .before .before .before .before .before .before .before .before) in (l .n-most, (l .epsilon-most, l .delta-most))
+
+one-requires-4 : tie.Need-one-requires-4
+one-requires-4 c κs = search needs
+
+returns-6 : tie.Need-returns-6
+unfolding limitsOf
+returns-6 c = c .one4 .ensures ∙ (ap (λ (x : ℕ). x ∷ []) (c .before .depth .ensures) ∙ ap (limitsOf (setupOf (c .before .before .before .before .before .before .before .before .before .before .before .args .setup))) (sym (c .before .before .if6 .taken)))
+
+returns-7 : tie.Need-returns-7
+returns-7 c = no-limits (setupOf (c .before .before .before .before .before .before .before .before .before .args .setup)) (c .before .before .before .before .before .before .before .before .before .args .number) (c .before .before .before .before .before .if1 .left) (c .before .before .before .before .if2 .left) (c .before .before .before .if3 .left) (c .before .before .if4 .left) (c .before .if5 .left) (c .if6 .left)
+
+pub limits-of-spec : {M : Type 1} → statement M
+limits-of-spec =
+    tie.close
+    (tie.spec
+    cast-n
+    cast-epsilon
+    cast-delta
+    cast-two
+    two-requires
+    returns
+    sub-two
+    two-requires-2
+    returns-2
+    add-one
+    one-requires
+    returns-3
+    sub-one
+    one-requires-2
+    returns-4
+    sub-one-2
+    one-requires-3
+    returns-5
+    depth-requires
+    one-requires-4
+    returns-6
+    returns-7)

@@ -1,0 +1,66 @@
+// What is asked before anything is written.
+use batch::count_of;
+use batch::exact;
+use setup::Setup;
+use setup::valid_for;
+ghost use mathlib.Core.Path.{_≡_};
+ghost use Prim.Native.Nat.{_≤_};
+ghost use lib.ListN.{length, take};
+ghost use Rattle.laws.specs.Lists.{every};
+ghost use Rattle.model.specs.Question.{firstNo};
+ghost use Rattle.setup.specs.Views.{setupOf};
+ghost use Rattle.words.specs.Words.{given, wordsQuestions};
+
+// 02: "A line is at most 29 bytes".
+const LONGEST_LINE: usize = 29;
+
+// Whether a judgement gives the number.
+fn is_given(number: u8) -> bool
+    ensures { λ r. ⌜ r ≡ given number ⌝ }
+{
+    if number == 0 {
+        return true;
+    }
+    if number < 10 {
+        return false;
+    }
+    number <= 17
+}
+
+// Whether a judgement gives each of the first `count` verdicts.
+fn all_given(verdicts: &[u8], count: usize) -> bool
+    requires { ⌜ count ≤ length (now verdicts) ⌝ }
+    ensures { λ r. ⌜ r ≡ every given (take count (now (verdicts .entry))) ⌝ }
+{
+    let mut i = 0;
+    while i < count {
+        if !is_given(verdicts[i]) {
+            return false;
+        }
+        i += 1;
+    }
+    true
+}
+
+// The number of the first no, or 0.
+pub fn check_words(setup: Setup, own: u32, batch: &[u8], verdicts: &[u8], text: &[u8]) -> u8
+    ensures { λ r. ⌜ r ≡ firstNo (wordsQuestions (setupOf setup) own (now (batch .entry)) (now (verdicts .entry)) (now (text .entry))) ⌝ }
+{
+    if !valid_for(setup, own) {
+        return 1;
+    }
+    if !exact(batch) {
+        return 5;
+    }
+    let count = count_of(batch);
+    if verdicts.len() < count {
+        return 6;
+    }
+    if text.len() < LONGEST_LINE * count {
+        return 6;
+    }
+    if !all_given(verdicts, count) {
+        return 6;
+    }
+    0
+}
