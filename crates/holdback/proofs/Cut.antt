@@ -21,17 +21,17 @@ use Rattle.holdback.proofs.Judging.{sound-few, sound-passes, sound-orde
 use Rattle.holdback.proofs.Changes.{length-held}
 use Rattle.holdback.proofs.Order.{due-prefix, due-rest}
 
-module _ (s : Setup) (v : ℕ) (b : List ℕ) (sound : soundHoldback s v b ≡ true) where
+module _ (s : Setup) (v least : ℕ) (b : List ℕ) (sound : soundHoldback s v least b ≡ true) where
   pub count-small : (count : ℕ) → Limits s → count ≡ twoAt b 0 → count ≤ 1792
   unfolding depth
   count-small count limits e =
-      omega (arith, sound-few s v b sound, depth-most (s .n) (s .epsilon) (s .delta) (limits .n-most) (limits .epsilon-most) (limits .delta-most))
+      omega (arith, sound-few s v least b sound, depth-most (s .n) (s .epsilon) (s .delta) (limits .n-most) (limits .epsilon-most) (limits .delta-most))
 
   pub sound-spans : (p : Frame → Bool) (count stop index at : ℕ) → 2 ≤ length b → count ≡ twoAt b 0 → stop ≡ frameStart (s .epsilon) b count
       → Stands (s .epsilon) b (leading p (held (s .epsilon) b)) index at → Spans (s .epsilon) b count stop index at
   sound-spans p count stop index at two count-is ends stands =
       record {
-        formed = every-mono (passes s) (wellFormed (s .epsilon)) (heldBytes (s .epsilon) b) (λ x h. passing s x h .well) (sound-passes s v b sound);
+        formed = every-mono (passes s) (wellFormed (s .epsilon)) (heldBytes (s .epsilon) b) (λ x h. passing s x h .well) (sound-passes s v least b sound);
         two = two;
         count-is = count-is;
         ends = ends;
@@ -39,18 +39,19 @@ module _ (s : Setup) (v : ℕ) (b : List ℕ) (sound : soundHoldback s v b ≡ t
         starts = stands .starts;
       }
 
-  module _ (index at : ℕ) (stands : Stands (s .epsilon) b (leading (dueNow s v) (held (s .epsilon) b)) index at) where
-    pub due-taken : take index (held (s .epsilon) b) ≡ select (dueNow s v) (held (s .epsilon) b)
-    due-taken =
-        ap (λ (n : ℕ). take n (held (s .epsilon) b)) (stands .frames)
-        ∙ sym (due-prefix s v (held (s .epsilon) b) (sound-ordered s v b sound) (sound-overdue s v b sound))
+module _ (s : Setup) (v : ℕ) (b : List ℕ) (sound : soundHoldback s v (s .modulus) b ≡ true)
+    (index at : ℕ) (stands : Stands (s .epsilon) b (leading (dueNow s v) (held (s .epsilon) b)) index at) where
+  pub due-taken : take index (held (s .epsilon) b) ≡ select (dueNow s v) (held (s .epsilon) b)
+  due-taken =
+      ap (λ (n : ℕ). take n (held (s .epsilon) b)) (stands .frames)
+      ∙ sym (due-prefix s v (held (s .epsilon) b) (sound-ordered s v (s .modulus) b sound) (sound-overdue s v (s .modulus) b sound))
 
-    pub due-left : drop index (held (s .epsilon) b) ≡ select (λ f. not (dueNow s v f)) (held (s .epsilon) b)
-    due-left =
-        ap (λ (n : ℕ). drop n (held (s .epsilon) b)) (stands .frames)
-        ∙ sym (due-rest s v (held (s .epsilon) b) (sound-ordered s v b sound) (sound-overdue s v b sound))
+  pub due-left : drop index (held (s .epsilon) b) ≡ select (λ f. not (dueNow s v f)) (held (s .epsilon) b)
+  due-left =
+      ap (λ (n : ℕ). drop n (held (s .epsilon) b)) (stands .frames)
+      ∙ sym (due-rest s v (held (s .epsilon) b) (sound-ordered s v (s .modulus) b sound) (sound-overdue s v (s .modulus) b sound))
 
-    pub due-number : index ≡ length (select (dueNow s v) (held (s .epsilon) b))
-    due-number =
-        let le : index ≤ length (held (s .epsilon) b) = omega (arith, stands .frames, leading-le (dueNow s v) (held (s .epsilon) b)) in
-        sym (length-take-le index (held (s .epsilon) b) le) ∙ ap length due-taken
+  pub due-number : index ≡ length (select (dueNow s v) (held (s .epsilon) b))
+  due-number =
+      let le : index ≤ length (held (s .epsilon) b) = omega (arith, stands .frames, leading-le (dueNow s v) (held (s .epsilon) b)) in
+      sym (length-take-le index (held (s .epsilon) b) le) ∙ ap length due-taken

@@ -43,7 +43,7 @@ due-before s v f g h =
     let l : a < b = omega arith in
     lt-isLess (lex-head-lt a b (tail s v f) (tail s v g) l)
 
-module _ (s : Setup) (v : ℕ) (queue : List Frame) (ordered : chained (before s v) queue ≡ true) (kept : every (notOverdue s v) queue ≡ true) where
+module _ (s : Setup) (v : ℕ) (queue : List Frame) (ordered : chained (before s v) queue ≡ true) (kept : every (notOverdue s v (s .modulus)) queue ≡ true) where
   sorted : Sorted (keyNear s v) queue
   unfolding before compareFrames
   sorted = sorted-of-chained (keyNear s v) queue ordered
@@ -53,7 +53,7 @@ module _ (s : Setup) (v : ℕ) (queue : List Frame) (ordered : chained (before s
   unfolding dueNow notOverdue
   due-down y z m n d l =
       let e : dueNear s v y ≡ s .modulus = eqb-true (dueNear s v y) (s .modulus) d in
-      let o : s .modulus ≤ dueNear s v z = leb-true (s .modulus) (dueNear s v z) (every-mem (notOverdue s v) kept n) in
+      let o : s .modulus ≤ dueNear s v z = leb-true (s .modulus) (dueNear s v z) (every-mem (notOverdue s v (s .modulus)) kept n) in
       let f = due-first s v z y l in
       eq-eqb (dueNear s v z) (s .modulus) (omega arith)
 

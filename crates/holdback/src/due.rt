@@ -19,7 +19,7 @@ ghost use Rattle.holdback.specs.Queue.{frameStart, Stands};
 // The frames at the front that are due at v.
 fn due_prefix(s: Setup, v: usize, buf: &[u8], count: usize) -> Place
     requires { ⌜ (inLimits (setupOf s) ≡ true) × (v < s .modulus) ⌝ }
-    requires { ⌜ (soundHoldback (setupOf s) v (now buf) ≡ true) × ((2 ≤ length (now buf)) × (count ≡ twoAt (now buf) 0)) ⌝ }
+    requires { ⌜ (soundHoldback (setupOf s) v (s .modulus) (now buf) ≡ true) × ((2 ≤ length (now buf)) × (count ≡ twoAt (now buf) 0)) ⌝ }
     ensures { λ p. ⌜ Stands (s .epsilon) (now (buf .entry)) (leading (dueNow (setupOf s) v) (held (s .epsilon) (now (buf .entry)))) (p .index) (p .at) ⌝ }
 {
     let epsilon = s.epsilon as usize;
@@ -46,7 +46,7 @@ pub fn cut_due(
     delivery: &mut [u8],
 ) -> usize
     requires { ⌜ (inLimits (setupOf s) ≡ true) × (v < s .modulus) ⌝ }
-    requires { ⌜ (soundHoldback (setupOf s) v (now buf) ≡ true) × ((2 ≤ length (now buf)) × (count ≡ twoAt (now buf) 0)) ⌝ }
+    requires { ⌜ (soundHoldback (setupOf s) v (s .modulus) (now buf) ≡ true) × ((2 ≤ length (now buf)) × (count ≡ twoAt (now buf) 0)) ⌝ }
     requires { ⌜ (end ≡ frameStart (s .epsilon) (now buf) count) × (length (now buf) ≤ length (now delivery)) ⌝ }
     ensures { λ r. ⌜ r ≡ length (select (dueNow (setupOf s) v) (held (s .epsilon) (now (buf .entry)))) ⌝ }
     ensures { λ _. ⌜ now (buf .exit)

@@ -29,8 +29,8 @@ write-prefix-requires c κs =
     let sound = start .pre .1 .0 .0 in
     let count-is = start .pre .1 .0 .1 .1 in
     let found = c .before .before .due-prefix in
-    let few = count-small s (start .args .v) b sound (start .args .count) limits count-is in
-    (sound-spans s (start .args .v) b sound (dueNow s (start .args .v)) (start .args .count) (start .args .end) (found .result .index) (found .result .at) (start .pre .1 .0 .1 .0) count-is (start .pre .1 .1 .0) (found .ensures), (start .pre .1 .1 .1, omega arith))
+    let few = count-small s (start .args .v) (s .modulus) b sound (start .args .count) limits count-is in
+    (sound-spans s (start .args .v) (s .modulus) b sound (dueNow s (start .args .v)) (start .args .count) (start .args .end) (found .result .index) (found .result .at) (start .pre .1 .0 .1 .0) count-is (start .pre .1 .1 .0) (found .ensures), (start .pre .1 .1 .1, omega arith))
 
 cut-prefix-requires : tie.Need-cut-prefix-requires
 cut-prefix-requires c κs =
@@ -41,8 +41,8 @@ cut-prefix-requires c κs =
     let sound = start .pre .1 .0 .0 in
     let count-is = start .pre .1 .0 .1 .1 in
     let found = c .before .before .before .before .before .before .due-prefix in
-    let few = count-small s (start .args .v) b sound (start .args .count) limits count-is in
-    (sound-spans s (start .args .v) b sound (dueNow s (start .args .v)) (start .args .count) (start .args .end) (found .result .index) (found .result .at) (start .pre .1 .0 .1 .0) count-is (start .pre .1 .1 .0) (found .ensures), omega arith)
+    let few = count-small s (start .args .v) (s .modulus) b sound (start .args .count) limits count-is in
+    (sound-spans s (start .args .v) (s .modulus) b sound (dueNow s (start .args .v)) (start .args .count) (start .args .end) (found .result .index) (found .result .at) (start .pre .1 .0 .1 .0) count-is (start .pre .1 .1 .0) (found .ensures), omega arith)
 
 same-length : tie.Need-same-length
 same-length c = search needs
