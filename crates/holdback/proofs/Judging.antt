@@ -162,7 +162,7 @@ module _ (s : Setup) (v least : ℕ) (b : List ℕ) where
         && (every (notEarly s v) (held (s .epsilon) b) && every (notOverdue s v least) (held (s .epsilon) b))) ≡ true
     rest-3 = and-right (chained (before s v) (held (s .epsilon) b)) _ rest-2
 
-    sound-single : apart sameOrigin (held (s .epsilon) b) ≡ true
+    pub sound-single : apart sameOrigin (held (s .epsilon) b) ≡ true
     sound-single = and-left _ _ rest-3
 
     rest-4 : (every (notEarly s v) (held (s .epsilon) b) && every (notOverdue s v least) (held (s .epsilon) b)) ≡ true

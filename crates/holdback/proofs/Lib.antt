@@ -16,3 +16,4 @@ pub mod Started
 pub mod Testing
 pub mod Walks
 pub mod Cut
+mod Releasing

@@ -48,7 +48,7 @@ module _ (epsilon : ℕ) (queue : List Frame) (rest : List ℕ) (wide : Wide eps
       ∙ ap (frameEnd epsilon) (drop-at (count ++ x) (encode f ++ (y ++ rest)) (frameStart epsilon bytes k) (length-append count x ∙ sym e))
       ∙ frame-end epsilon f (y ++ rest) (wide f (mem-getD queue k d h))
 
-  written-start : (k : ℕ) → k ≤ length queue → frameStart epsilon bytes k ≡ 2 + length (joined encode (take k queue))
+  pub written-start : (k : ℕ) → k ≤ length queue → frameStart epsilon bytes k ≡ 2 + length (joined encode (take k queue))
   unfolding joined
   written-start zero h = start-zero epsilon bytes
   written-start (suc k) h =

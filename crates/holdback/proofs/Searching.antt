@@ -71,6 +71,11 @@ module _ {p : Frame → Bool} {s : Setup} {v least : ℕ} {b : List ℕ} {count 
           let l : i < twoAt b 0 = omega (arith, led .count-is) in
           ap (passes s) part ∙ fitting s v least (bytesAt (s .epsilon) b i) (frame-fits s v least b i (sound-frames s v least b (led .sound) i l)) .passed
 
+      -- what its bytes hold
+      pub led-frame : decode (s .epsilon) (take (at + size - at) (drop at b)) ≡ frameAt (s .epsilon) b i
+      unfolding frameAt
+      led-frame = ap (decode (s .epsilon)) part
+
       -- a test of its bytes
       led-test : (q : Frame → Bool) {t : Bool} → t ≡ q (decode (s .epsilon) (take (at + size - at) (drop at b))) → t ≡ q (frameAt (s .epsilon) b i)
       unfolding frameAt

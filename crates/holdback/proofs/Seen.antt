@@ -65,7 +65,7 @@ module _ (s : Setup) (v : ℕ) (limits : Limits s) (below : v < s .modulus) wher
   same-near f g e = rw e
 
   -- one place, one origin
-  same-slot : (f g : Frame) → Placeable s v f → Placeable s v g → eqb (slotOf s v g) (slotOf s v f) ≡ sameOrigin f g
+  pub same-slot : (f g : Frame) → Placeable s v f → Placeable s v g → eqb (slotOf s v g) (slotOf s v f) ≡ sameOrigin f g
   unfolding slotOf sameOrigin
   same-slot f g w x =
       same-test (eqb (slotOf s v g) (slotOf s v f)) (sameOrigin f g)

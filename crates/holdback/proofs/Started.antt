@@ -35,7 +35,7 @@ module _ (f : ℕ → ℕ) (from : ℕ) (starts : List ℕ) where
   abbrev changedAt : ℕ → ℕ → ℕ
   changedAt to k = cond (ltb k from) (getD starts k 0) (cond (ltb k to) (f (getD starts k 0)) (getD starts k 0))
 
-  changed-at : (to : ℕ) {l : List ℕ} → l ≡ changed f from to starts → (k : ℕ) → k < startPlaces → getD l k 0 ≡ changedAt to k
+  pub changed-at : (to : ℕ) {l : List ℕ} → l ≡ changed f from to starts → (k : ℕ) → k < startPlaces → getD l k 0 ≡ changedAt to k
   unfolding changed
   changed-at to e k h = ap (λ (m : List ℕ). getD m k 0) e ∙ getD-tab startPlaces (changedAt to) k 0 h
 
@@ -221,7 +221,7 @@ module _ (s : Setup) (v least : ℕ) (queue : List ℕ) (limits : Limits s) (sou
 
 module _ {A : Type 0} where
   -- a property that another has too
-  leading-mono : (p q : A → Bool) (l : List A) → ((x : A) → p x ≡ true → q x ≡ true) → leading p l ≤ leading q l
+  pub leading-mono : (p q : A → Bool) (l : List A) → ((x : A) → p x ≡ true → q x ≡ true) → leading p l ≤ leading q l
   unfolding leading
   leading-mono p q [] f = zero-le
   leading-mono p q (x ∷ l) f =

@@ -2,7 +2,7 @@
 -- Assumes nothing.
 use Prim.Native.Nat.{ℕ, zero, suc, _+_, _*_, _-_, _%_, _≤_, _<_}
 use native.Mathlib.Omega.{arith}
-use native.Mathlib.Nat.{mod-eq-of-lt, mul-le-mul-left, mul-add, add-zero, zero-add}
+use native.Mathlib.Nat.{mod-eq-of-lt, add-zero, zero-add}
 use mathlib.Core.Path.{_≡_, refl, sym, ap, subst, _∙_}
 use mathlib.Core.Logic.{_⊎_, inl, inr}
 use mathlib.Core.Bool.{Bool, true, false, _&&_, not, cond}
@@ -30,7 +30,7 @@ use Rattle.lemmas.proofs.Questions.{first-yes, other-yes, setup-from}
 use Rattle.lemmas.proofs.Counts.{Left, tables-step, tables-left, left-tables, opened-step, opened-replaced, opened-absorb, own-left, trimmed-wide, trimmed-widened}
 use Rattle.lemmas.proofs.Reading.{step-true, near-high}
 use Rattle.lemmas.proofs.RoundTrip.{held-encode, held-holdback}
-use Rattle.lemmas.proofs.Queue.{Passed, judged-passed, opening-queue, queue-rest, queue-take, early-few, due-few, queue-sound, QueueLeft, queue-left, left-later, left-ok, left-room, depth-small}
+use Rattle.lemmas.proofs.Queue.{Passed, judged-passed, opening-queue, queue-rest, queue-take, early-few, due-few, both-few, queue-sound, QueueLeft, queue-left, left-later, left-ok, left-room, depth-small}
 
 -- the tick by the number of the first question that gets a no
 pub tick-by : (i : Input) (k : ℕ) → firstNo (callQuestions i) ≡ k → tick i ≡ tickBy k i
@@ -322,7 +322,7 @@ delivered-frames i a f m = go (List·Memᴰ·append-cases (select (dueBefore (i 
 
 -- n(3ε − 2) frames at most: a hand-out always has room
 pub delivered-few : (i : Input) → Accepted i → length (deliveredOf i) ≤ depth (i .setup .n) (i .setup .epsilon) (i .setup .delta)
-unfolding deliveredOf earlyOf depth
+unfolding deliveredOf earlyOf
 delivered-few i a =
     omega (
       arith,
@@ -330,12 +330,8 @@ delivered-few i a =
       early-few (i .setup) (i .clock) (leastDue (i .setup) (i .clock) (i .tables)) (openedQueue i) (a .limits) (a .clock-below)
           (least-bounds (i .setup) (i .clock) (i .tables) (a .limits) .1) (opened-ok i a),
       due-few (i .setup) (i .clock) (heardOf i .queue) (a .limits) (a .clock-below) (hearing-end i a),
-      mul-le-mul-left (i .setup .n) most,
-      mul-add (i .setup .n) (2 * i .setup .epsilon - 2) (i .setup .epsilon),
+      both-few (i .setup),
     )
-  where
-    most : 2 * i .setup .epsilon - 2 + i .setup .epsilon ≤ i .setup .delta + 3 * i .setup .epsilon
-    most = omega arith
 
 pub delivered-most : (i : Input) → Accepted i → length (deliveredOf i) < 65536
 delivered-most i a = omega (arith, delivered-few i a, depth-small (i .setup) (a .limits))

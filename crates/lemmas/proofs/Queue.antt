@@ -2,7 +2,7 @@
 -- Assumes nothing.
 use Prim.Native.Nat.{ℕ, suc, _+_, _-_, _*_, _%_, _≤_, _<_}
 use native.Mathlib.Omega.{arith}
-use native.Mathlib.Nat.{mul-le-mul-right, mul-suc}
+use native.Mathlib.Nat.{mul-le-mul-left, mul-le-mul-right, mul-suc, mul-add}
 use mathlib.Core.Path.{_≡_, refl, sym, ap, ap₂, _∙_}
 use mathlib.Core.Bool.{Bool, true, false, not, _&&_, cond}
 use mathlib.Core.Logic.{_⊎_, inl, inr}
@@ -309,6 +309,14 @@ due-few s v queue limits below ok =
     (queue-part s v (s .modulus) (s .modulus) (dueNow s v) queue ok (λ f m e. overdue-from s v (s .modulus) f (every-mem (notOverdue s v (s .modulus)) (ok .overdue) m)))
     (λ f m. omega (arith, queue-window s v (s .modulus) queue limits ok f (mem-of-select (dueNow s v) queue m .0) .low))
     (λ f m. omega (arith, due-now s v f (mem-of-select (dueNow s v) queue m .1), limits .modulus-least))
+
+-- so both have room in a delivery
+pub both-few : (s : Setup) → s .n * (2 * s .epsilon - 2) + s .n * s .epsilon ≤ depth (s .n) (s .epsilon) (s .delta)
+unfolding depth
+both-few s = omega (arith, mul-le-mul-left (s .n) most, mul-add (s .n) (2 * s .epsilon - 2) (s .epsilon))
+  where
+    most : 2 * s .epsilon - 2 + s .epsilon ≤ s .delta + 3 * s .epsilon
+    most = omega arith
 
 -- keys whose readings are both k less are in the same order
 pub key-lower : (s : Setup) (k a a′ b b′ : ℕ) (f g : Frame) → a′ + k ≡ a → b′ + k ≡ b → lexCompare (key s a f) (key s b g) ≡ lexCompare (key s a′ f) (key s b′ g)

@@ -43,13 +43,16 @@ walk-frames-requires : tie.Need-walk-frames-requires
 walk-frames-requires c κs =
     let start = c .before .before .before .before .before .before .before .before .before .before .before in (
       (start .pre .0 .0, start .pre .0 .1 .0),
-      (start .pre .0 .1 .1, record {
-        two = start .pre .1 .0;
-        count-is = c .before .before .before .before .before .before .before .two-at .ensures;
-        few = omega (arith, c .before .before .before .depth .ensures, c .before .before .if1 .left);
-        empty = start .pre .1 .1 .0 ∙ seen-none (setupOf (start .args .s)) (start .args .v);
-        all-front = start .pre .1 .1 .1;
-      }),
+      (
+        start .pre .0 .1 .1,
+        record {
+          two = start .pre .1 .0;
+          count-is = c .before .before .before .before .before .before .before .two-at .ensures;
+          few = omega (arith, c .before .before .before .depth .ensures, c .before .before .if1 .left);
+          empty = start .pre .1 .1 .0 ∙ seen-none (setupOf (start .args .s)) (start .args .v);
+          all-front = start .pre .1 .1 .1;
+        },
+      ),
     )
 
 same-length : tie.Need-same-length
