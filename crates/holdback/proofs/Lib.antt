@@ -16,4 +16,5 @@ pub mod Started
 pub mod Testing
 pub mod Walks
 pub mod Cut
-mod Releasing
+-- What is due before v, handed out.
+pub mod Releasing

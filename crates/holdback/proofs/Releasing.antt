@@ -20,11 +20,11 @@ use Rattle.model.specs.Setup.{Setup, depth}
 use Rattle.model.specs.Frame.{Frame, twoBytes, twoAt, encode, decode, frameEnd, wellFormed}
 use Rattle.model.specs.Order.{dueNear}
 use Rattle.model.specs.Holdback.{cutFrames, heldBytes, held, passes, sameOrigin, soundHoldback, encodeFrames, encodeHoldback}
-use Rattle.model.specs.Tick.{dueBefore}
+use Rattle.model.specs.Tick.{dueBefore, holdbackSize}
 use Rattle.timestamp.specs.declared.ordering.Rank.{Rank}
 use Rattle.splice.specs.Bytes.{pasted}
 use Rattle.lemmas.proofs.Bounds.{Limits, QueueOk}
-use Rattle.lemmas.proofs.RoundTrip.{two-at-encode, held-holdback}
+use Rattle.lemmas.proofs.RoundTrip.{two-at-encode, held-holdback, length-holdback}
 use Rattle.lemmas.proofs.Queue.{sound-queue, queue-rest, depth-small, bytes-sound, frames-sound}
 use Rattle.holdback.specs.Queue.{frameStart, bytesAt, frameAt, rankOf, Spans}
 use Rattle.holdback.specs.Sound.{Recent}
@@ -328,6 +328,21 @@ module _ {s : Setup} {v : ℕ} {b : List ℕ} {front at : ℕ} (sound : SoundBy 
         starts-is = left .starts-is;
         given = given;
       }
+
+-- the buffer keeps its length
+pub released-long : (s : Setup) (v : ℕ) (b : List ℕ) → Limits s → SoundBy s v b → length b ≡ holdbackSize s → length (releasedBuffer s v b) ≡ length b
+unfolding releasedBuffer
+released-long s v b limits sound size = go (eqb (length (earlyFrames s v b)) 0)
+  where
+    others-ok : QueueOk s v (s .modulus) (otherFrames s v b)
+    others-ok = queue-rest s v (sound .least) (held (s .epsilon) b) (sound-queue s v (sound .least) b limits (sound .sound))
+
+    few : length (otherFrames s v b) ≤ depth (s .n) (s .epsilon) (s .delta)
+    few = omega (arith, select-length-le (λ f. not (dueBefore s v f)) (held (s .epsilon) b), length-held (s .epsilon) b, sound-few s v (sound .least) b (sound .sound))
+
+    go : (t : Bool) → length (cond t b (encodeHoldback (length b) (otherFrames s v b))) ≡ length b
+    go true = refl
+    go false = ap (λ (n : ℕ). length (encodeHoldback n (otherFrames s v b))) size ∙ length-holdback s (otherFrames s v b) limits (others-ok .frames) few ∙ sym size
 
 -- ---- the delivery
 

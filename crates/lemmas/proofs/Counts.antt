@@ -11,7 +11,7 @@ use mathlib.Core.List.{List, _++_}
 use lib.ListN.{length, drop, getD, set, replicate, length-append, length-drop, length-set, length-replicate, List·getD-eq-default}
 use lib.Dec.{leb, ltb}
 use lib.Seq.{getD-drop, getD-set-same, getD-set-other}
-use borrow.Author.Tests.{le-leb, lt-leb, leb-true, lt-ltb}
+use borrow.Author.Tests.{le-leb, lt-leb, leb-true, lt-ltb, ltb-true}
 use Rattle.laws.specs.Lists.{within, tab, placedAt, padded}
 use Rattle.laws.proofs.Numbers.{lt-or-ge, eq-or-ne, and-intro, and-left, and-right}
 use Rattle.laws.proofs.Lists.{length-tab, getD-tab, getD-tab-out, tab-getD, tab-ext, every-index, every-of-index, getD-zeros, getD-append-zeros, getD-padded}
@@ -170,6 +170,9 @@ unfolding within
 tables-step n epsilon B v t h =
     let w = and-left (leb 1 (clockStep B (t .r) v) && leb (clockStep B (t .r) v) epsilon) _ (and-right (ltb (t .r) B) _ (tables-rest n epsilon B v t h)) in
     (leb-true 1 (clockStep B (t .r) v) (and-left _ _ w), leb-true (clockStep B (t .r) v) epsilon (and-right (leb 1 (clockStep B (t .r) v)) _ w))
+
+pub tables-below : (n epsilon B v : ℕ) (t : Timestamp) → soundTables n epsilon B v t ≡ true → t .r < B
+tables-below n epsilon B v t h = ltb-true (t .r) B (and-left (ltb (t .r) B) _ (tables-rest n epsilon B v t h))
 
 -- no count of sound tables past their clock is full
 pub tables-room : (n epsilon B v : ℕ) (t : Timestamp) → soundTables n epsilon B v t ≡ true → (i : ℕ) → epsilon < i → placedAt 0 (t .kn) i ≤ n - 1
