@@ -84,7 +84,7 @@ module _ (s : Setup) (w : World) (u : Published) (call : Call) (node : Node) (v 
       }
 
   abbrev world′ : World
-  world′ = record { nodes = set (w .nodes) (call .node) (nodeAfter node (outputOf node call)); past = w .past ++ (doneOf node call ∷ []) }
+  world′ = record { nodes = set (w .nodes) (call .node) (nodeAfter node (call .step) (outputOf node call)); past = w .past ++ (doneOf node call ∷ []) }
 
   abbrev published′ : Published
   published′ =
@@ -96,7 +96,7 @@ module _ (s : Setup) (w : World) (u : Published) (call : Call) (node : Node) (v 
   abbrev Paired-at : ℕ → Node → Type 0
   Paired-at j a = (q : Process) × (getElem? (published′ .processes) j ≡ some q) × Twin s (world′ .past) (published′ .sent) j a q
 
-  own-twin : Paired-at (call .node) (nodeAfter node (outputOf node call))
+  own-twin : Paired-at (call .node) (nodeAfter node (call .step) (outputOf node call))
   own-twin = (
     advanced (s .epsilon) (s .delta) v p (heardHere (u .sent) call),
     getElem?-set-same (u .processes) (call .node) (advanced (s .epsilon) (s .delta) v p (heardHere (u .sent) call))
@@ -121,10 +121,10 @@ module _ (s : Setup) (w : World) (u : Published) (call : Call) (node : Node) (v 
   all-twins j a at =
       elim (eq-or-ne (call .node) j) [
         | inl e ↦
-            let a-is : a ≡ nodeAfter node (outputOf node call) =
-            some-inj (sym at ∙ (ap (getElem? (world′ .nodes)) (sym e) ∙ getElem?-set-same (w .nodes) (call .node) (nodeAfter node (outputOf node call)) (getElem?-lt (w .nodes) (call .node) (legal .at)))) in
+            let a-is : a ≡ nodeAfter node (call .step) (outputOf node call) =
+            some-inj (sym at ∙ (ap (getElem? (world′ .nodes)) (sym e) ∙ getElem?-set-same (w .nodes) (call .node) (nodeAfter node (call .step) (outputOf node call)) (getElem?-lt (w .nodes) (call .node) (legal .at)))) in
             subst (λ (i : ℕ). Paired-at i a) e (subst (Paired-at (call .node)) (sym a-is) own-twin)
-        | inr e ↦ other-twin j a e (sym (getElem?-set-other (w .nodes) (call .node) j (nodeAfter node (outputOf node call)) e) ∙ at)
+        | inr e ↦ other-twin j a e (sym (getElem?-set-other (w .nodes) (call .node) j (nodeAfter node (call .step) (outputOf node call)) e) ∙ at)
       ]
 
   pub paired-accepted : Paired s (act w call) (publish s u (doneOf node call))
@@ -156,21 +156,21 @@ module _ (s : Setup) (w : World) (u : Published) (call : Call) (node : Node) (pa
   unfolding publish doneOf
   not-published = let (p, p-at, twin) = paired .twins (call .node) node at in rw (refused, p-at) refl
 
-  same-node : (j : ℕ) (a : Node) → getElem? (set (w .nodes) (call .node) (nodeAfter node (outputOf node call))) j ≡ some a → getElem? (w .nodes) j ≡ some a
+  same-node : (j : ℕ) (a : Node) → getElem? (set (w .nodes) (call .node) (nodeAfter node (call .step) (outputOf node call))) j ≡ some a → getElem? (w .nodes) j ≡ some a
   same-node j a a-at =
       elim (eq-or-ne (call .node) j) [
         | inl e ↦
-            let a-is : nodeAfter node (outputOf node call) ≡ a =
-            some-inj (sym (getElem?-set-same (w .nodes) (call .node) (nodeAfter node (outputOf node call)) (getElem?-lt (w .nodes) (call .node) at))
-            ∙ (ap (getElem? (set (w .nodes) (call .node) (nodeAfter node (outputOf node call)))) e ∙ a-at)) in
+            let a-is : nodeAfter node (call .step) (outputOf node call) ≡ a =
+            some-inj (sym (getElem?-set-same (w .nodes) (call .node) (nodeAfter node (call .step) (outputOf node call)) (getElem?-lt (w .nodes) (call .node) at))
+            ∙ (ap (getElem? (set (w .nodes) (call .node) (nodeAfter node (call .step) (outputOf node call)))) e ∙ a-at)) in
             ap (getElem? (w .nodes)) (sym e) ∙ (at ∙ ap some (sym (refused-node node call refused) ∙ a-is))
-        | inr e ↦ sym (getElem?-set-other (w .nodes) (call .node) j (nodeAfter node (outputOf node call)) e) ∙ a-at
+        | inr e ↦ sym (getElem?-set-other (w .nodes) (call .node) j (nodeAfter node (call .step) (outputOf node call)) e) ∙ a-at
       ]
 
   pub paired-refused : Paired s (act w call) (publish s u (doneOf node call))
   paired-refused =
       subst (λ (y : World). Paired s y (publish s u (doneOf node call))) (sym (act-is w call node at))
-      (subst (Paired s (record { nodes = set (w .nodes) (call .node) (nodeAfter node (outputOf node call)); past = w .past ++ (doneOf node call ∷ []) })) (sym not-published)
+      (subst (Paired s (record { nodes = set (w .nodes) (call .node) (nodeAfter node (call .step) (outputOf node call)); past = w .past ++ (doneOf node call ∷ []) })) (sym not-published)
       (record {
         good = subst (Good s 0 0) (act-is w call node at) (refused-good s 0 0 w call node (paired .good) at refused);
         sent-as =

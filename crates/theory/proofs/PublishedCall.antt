@@ -367,7 +367,7 @@ module _ (s : Setup) (w : World) (sent : List (Option Message)) (call : Call) (n
   -- the node and the process after the call
   pub twin-moves :
       (x : Option Message) → ((m : Message) → x ≡ some m → m .event ≡ new-event)
-      → Twin s (w .past ++ (doneOf node call ∷ [])) (sent ++ (x ∷ [])) (call .node) (nodeAfter node (outputOf node call))
+      → Twin s (w .past ++ (doneOf node call ∷ [])) (sent ++ (x ∷ [])) (call .node) (nodeAfter node (call .step) (outputOf node call))
       (advanced (s .epsilon) (s .delta) v p (heardHere sent call))
   unfolding advanced buffered
   twin-moves x x-is =
