@@ -14,7 +14,7 @@ use Rattle.laws.specs.Lists.{every}
 use Rattle.laws.proofs.Numbers.{eq-or-ne, clash, and-intro, and-left, and-right, or-cases, false-of-not}
 use Rattle.laws.proofs.Lists.{every-mem, every-append-left, every-append-right, getElem?-mem, getElem?-lt, getElem?-set-same, getElem?-set-other, getElem?-snoc-cases}
 use Rattle.model.specs.Setup.{Setup}
-use Rattle.model.specs.Published.{Message, Process, advanced, eventOf, nextEvent, messageOf}
+use Rattle.model.specs.Published.{Message, Process, deliverableBy, advanced, eventOf, nextEvent, messageOf}
 use Rattle.model.specs.Run.{Node, Source, sentBy, stale, Call, Done, World, isAccepted, outputOf, doneOf, nodeAfter, act, actOn, runFrom, atStart, sends}
 use Rattle.theory.specs.Premises.{largestClock, staleUntil, allowed, keeps, isSent, noneStale}
 use Rattle.theory.specs.Demand2.{Published, outcomeOf, publish, publishAll, publishedStart, Matched, Demand2Fresh}
@@ -41,9 +41,9 @@ module _ (s : Setup) (w : World) (u : Published) (call : Call) (node : Node) (v 
   moved = done-clock s node call (legal .called)
 
   published :
-      publish s u (doneOf node call)
+      publish deliverableBy s u (doneOf node call)
       ≡ record {
-        processes = set (u .processes) (call .node) (advanced (s .epsilon) (s .delta) v p (heardHere (u .sent) call));
+        processes = set (u .processes) (call .node) (advanced deliverableBy (s .epsilon) (s .delta) v p (heardHere (u .sent) call));
         sent = u .sent ++ (sentHere s (u .sent) call v p ∷ []);
       }
   unfolding publish outcomeOf doneOf
@@ -89,7 +89,7 @@ module _ (s : Setup) (w : World) (u : Published) (call : Call) (node : Node) (v 
   abbrev published′ : Published
   published′ =
       record {
-        processes = set (u .processes) (call .node) (advanced (s .epsilon) (s .delta) v p (heardHere (u .sent) call));
+        processes = set (u .processes) (call .node) (advanced deliverableBy (s .epsilon) (s .delta) v p (heardHere (u .sent) call));
         sent = u .sent ++ (sentHere s (u .sent) call v p ∷ []);
       }
 
@@ -98,8 +98,8 @@ module _ (s : Setup) (w : World) (u : Published) (call : Call) (node : Node) (v 
 
   own-twin : Paired-at (call .node) (nodeAfter node (call .step) (outputOf node call))
   own-twin = (
-    advanced (s .epsilon) (s .delta) v p (heardHere (u .sent) call),
-    getElem?-set-same (u .processes) (call .node) (advanced (s .epsilon) (s .delta) v p (heardHere (u .sent) call))
+    advanced deliverableBy (s .epsilon) (s .delta) v p (heardHere (u .sent) call),
+    getElem?-set-same (u .processes) (call .node) (advanced deliverableBy (s .epsilon) (s .delta) v p (heardHere (u .sent) call))
         (getElem?-lt (u .processes) (call .node) p-at),
     twin-moves s w (u .sent) call node v p (paired .good) legal (paired .sent-as) (paired .ranked) twin (sentHere s (u .sent) call v p) sent-event,
   )
@@ -112,7 +112,7 @@ module _ (s : Setup) (w : World) (u : Published) (call : Call) (node : Node) (v 
   other-twin j a ne at =
       let (q, q-at, t) = paired .twins j a at in (
         q,
-        getElem?-set-other (u .processes) (call .node) j (advanced (s .epsilon) (s .delta) v p (heardHere (u .sent) call)) ne ∙ q-at,
+        getElem?-set-other (u .processes) (call .node) j (advanced deliverableBy (s .epsilon) (s .delta) v p (heardHere (u .sent) call)) ne ∙ q-at,
         twin-stays s (w .past) (u .sent) j a q (doneOf node call) (sentHere s (u .sent) call v p) (paired .sent-as .same-length) (paired .good .heard-before j)
             (quiet j ne) (λ m e. unfold doneOf in ne) t,
       )
@@ -127,9 +127,9 @@ module _ (s : Setup) (w : World) (u : Published) (call : Call) (node : Node) (v 
         | inr e ↦ other-twin j a e (sym (getElem?-set-other (w .nodes) (call .node) j (nodeAfter node (call .step) (outputOf node call)) e) ∙ at)
       ]
 
-  pub paired-accepted : Paired s (act w call) (publish s u (doneOf node call))
+  pub paired-accepted : Paired s (act w call) (publish deliverableBy s u (doneOf node call))
   paired-accepted =
-      subst (λ (y : World). Paired s y (publish s u (doneOf node call))) (sym (act-is w call node (legal .at)))
+      subst (λ (y : World). Paired s y (publish deliverableBy s u (doneOf node call))) (sym (act-is w call node (legal .at)))
       (subst (Paired s world′) (sym published)
       (record {
         good = subst (Good s 0 0) (act-is w call node (legal .at)) (step-good s 0 0 w call node v (paired .good) legal (ends s 0 0 (settles-fresh s) w call node v (paired .good) legal));
@@ -142,7 +142,7 @@ module _ (s : Setup) (w : World) (u : Published) (call : Call) (node : Node) (v 
         twins = all-twins;
       }))
 
-  matched-here : Matched s u (doneOf node call)
+  matched-here : Matched deliverableBy s u (doneOf node call)
   unfolding doneOf
   matched-here = (p, p-at, same-as s w (u .sent) call node v p (paired .good) legal (paired .sent-as) (paired .ranked) twin)
 
@@ -152,7 +152,7 @@ module _ (s : Setup) (w : World) (u : Published) (call : Call) (node : Node) (pa
   none-sent : (m : Message) → _≡_ {A = Option Message} none (some m) → ⊥
   none-sent m e = let z : _≡_ {A = ℕ} 0 1 = cc in omega arith
 
-  not-published : publish s u (doneOf node call) ≡ record { processes = u .processes; sent = u .sent ++ (none ∷ []) }
+  not-published : publish deliverableBy s u (doneOf node call) ≡ record { processes = u .processes; sent = u .sent ++ (none ∷ []) }
   unfolding publish doneOf
   not-published = let (p, p-at, twin) = paired .twins (call .node) node at in rw (refused, p-at) refl
 
@@ -167,9 +167,9 @@ module _ (s : Setup) (w : World) (u : Published) (call : Call) (node : Node) (pa
         | inr e ↦ sym (getElem?-set-other (w .nodes) (call .node) j (nodeAfter node (call .step) (outputOf node call)) e) ∙ a-at
       ]
 
-  pub paired-refused : Paired s (act w call) (publish s u (doneOf node call))
+  pub paired-refused : Paired s (act w call) (publish deliverableBy s u (doneOf node call))
   paired-refused =
-      subst (λ (y : World). Paired s y (publish s u (doneOf node call))) (sym (act-is w call node at))
+      subst (λ (y : World). Paired s y (publish deliverableBy s u (doneOf node call))) (sym (act-is w call node at))
       (subst (Paired s (record { nodes = set (w .nodes) (call .node) (nodeAfter node (call .step) (outputOf node call)); past = w .past ++ (doneOf node call ∷ []) })) (sym not-published)
       (record {
         good = subst (Good s 0 0) (act-is w call node at) (refused-good s 0 0 w call node (paired .good) at refused);
@@ -211,25 +211,25 @@ legal-fresh s floor w call node v legal all-sent =
 -- the calls of a list, one after the other
 abbrev AllMatched : Setup → Published → List Done → Type 0
 AllMatched s start past =
-    (j : ℕ) (d : Done) → getElem? past j ≡ some d → isAccepted (d .output) ≡ true → Matched s (publishAll s start (take j past)) d
+    (j : ℕ) (d : Done) → getElem? past j ≡ some d → isAccepted (d .output) ≡ true → Matched deliverableBy s (publishAll deliverableBy s start (take j past)) d
 
-publish-snoc : (s : Setup) (past : List Done) (u : Published) (d : Done) → publishAll s u (past ++ (d ∷ [])) ≡ publish s (publishAll s u past) d
+publish-snoc : (s : Setup) (past : List Done) (u : Published) (d : Done) → publishAll deliverableBy s u (past ++ (d ∷ [])) ≡ publish deliverableBy s (publishAll deliverableBy s u past) d
 unfolding publishAll
 publish-snoc s [] u d = refl
-publish-snoc s (a ∷ past) u d = publish-snoc s past (publish s u a) d
+publish-snoc s (a ∷ past) u d = publish-snoc s past (publish deliverableBy s u a) d
 
 matched-snoc :
     (s : Setup) (start : Published) (past : List Done) (d : Done) → AllMatched s start past
-    → (isAccepted (d .output) ≡ true → Matched s (publishAll s start past) d) → AllMatched s start (past ++ (d ∷ []))
+    → (isAccepted (d .output) ≡ true → Matched deliverableBy s (publishAll deliverableBy s start past) d) → AllMatched s start (past ++ (d ∷ []))
 matched-snoc s start past d matched last j e at acc =
     elim (getElem?-snoc-cases past d j at) [
       | inl q ↦
           let h : j < length past = getElem?-lt past j q in
-          subst (λ (l : List Done). Matched s (publishAll s start l) e) (sym (take-append-le j past (d ∷ []) (omega arith))) (matched j e q acc)
+          subst (λ (l : List Done). Matched deliverableBy s (publishAll deliverableBy s start l) e) (sym (take-append-le j past (d ∷ []) (omega arith))) (matched j e q acc)
       | inr q ↦
-          subst (λ (n : ℕ). Matched s (publishAll s start (take n (past ++ (d ∷ [])))) e) (sym (q .0))
-          (subst (λ (l : List Done). Matched s (publishAll s start l) e) (sym (take-append-seam past (d ∷ [])))
-          (subst (λ (y : Done). Matched s (publishAll s start past) y) (sym (q .1)) (last (ap (λ (y : Done). isAccepted (y .output)) (sym (q .1)) ∙ acc))))
+          subst (λ (n : ℕ). Matched deliverableBy s (publishAll deliverableBy s start (take n (past ++ (d ∷ [])))) e) (sym (q .0))
+          (subst (λ (l : List Done). Matched deliverableBy s (publishAll deliverableBy s start l) e) (sym (take-append-seam past (d ∷ [])))
+          (subst (λ (y : Done). Matched deliverableBy s (publishAll deliverableBy s start past) y) (sym (q .1)) (last (ap (λ (y : Done). isAccepted (y .output)) (sym (q .1)) ∙ acc))))
     ]
 
 none-stale-before : (calls : List Call) (w : World) → noneStale (runFrom w calls .past) ≡ true → noneStale (w .past) ≡ true
@@ -260,28 +260,28 @@ last-sent w call node at acc h =
 
 -- one call more
 one-matched :
-    (s : Setup) (x : ℕ) (start : Published) (w : World) (call : Call) → Paired s w (publishAll s start (w .past)) → AllMatched s start (w .past)
+    (s : Setup) (x : ℕ) (start : Published) (w : World) (call : Call) → Paired s w (publishAll deliverableBy s start (w .past)) → AllMatched s start (w .past)
     → allowed s x w call ≡ true → noneStale (act w call .past) ≡ true
-    → Paired s (act w call) (publishAll s start (act w call .past)) × AllMatched s start (act w call .past)
+    → Paired s (act w call) (publishAll deliverableBy s start (act w call .past)) × AllMatched s start (act w call .past)
 one-matched s x start w call paired matched ok fresh = go (allowed-fact s x (staleUntil s x + s .epsilon) w call (λ v h. omega arith) ok)
   where
     u : Published
-    u = publishAll s start (w .past)
+    u = publishAll deliverableBy s start (w .past)
 
     grown :
-        (node : Node) → getElem? (w .nodes) (call .node) ≡ some node → Paired s (act w call) (publish s u (doneOf node call))
-        → (isAccepted (doneOf node call .output) ≡ true → Matched s u (doneOf node call))
-        → Paired s (act w call) (publishAll s start (act w call .past)) × AllMatched s start (act w call .past)
+        (node : Node) → getElem? (w .nodes) (call .node) ≡ some node → Paired s (act w call) (publish deliverableBy s u (doneOf node call))
+        → (isAccepted (doneOf node call .output) ≡ true → Matched deliverableBy s u (doneOf node call))
+        → Paired s (act w call) (publishAll deliverableBy s start (act w call .past)) × AllMatched s start (act w call .past)
     grown node at more last =
         let past-is : act w call .past ≡ w .past ++ (doneOf node call ∷ []) = ap (λ (y : World). y .past) (act-is w call node at) in (
-          subst (Paired s (act w call)) (sym (ap (publishAll s start) past-is ∙ publish-snoc s (w .past) start (doneOf node call))) more,
+          subst (Paired s (act w call)) (sym (ap (publishAll deliverableBy s start) past-is ∙ publish-snoc s (w .past) start (doneOf node call))) more,
           subst (AllMatched s start) (sym past-is) (matched-snoc s start (w .past) (doneOf node call) matched last),
         )
 
     go :
         (node : Node) × (getElem? (w .nodes) (call .node) ≡ some node)
         × ((isAccepted (outputOf node call) ≡ false) ⊎ Legal s (staleUntil s x + s .epsilon) w call node (doneOf node call .clock))
-        → Paired s (act w call) (publishAll s start (act w call .past)) × AllMatched s start (act w call .past)
+        → Paired s (act w call) (publishAll deliverableBy s start (act w call .past)) × AllMatched s start (act w call .past)
     go (node, at, inl refused) =
         grown node at (paired-refused s w u call node paired at refused) (λ acc. absurd (clash acc (unfold doneOf in refused)))
     go (node, at, inr legal) =
@@ -290,7 +290,7 @@ one-matched s x start w call paired matched ok fresh = go (allowed-fact s x (sta
         grown node at (paired-accepted s w u call node (doneOf node call .clock) paired here p p-at twin) (λ acc. matched-here s w u call node (doneOf node call .clock) paired here p p-at twin)
 
 all-matched :
-    (s : Setup) (x : ℕ) (start : Published) (calls : List Call) (w : World) → Paired s w (publishAll s start (w .past)) → AllMatched s start (w .past)
+    (s : Setup) (x : ℕ) (start : Published) (calls : List Call) (w : World) → Paired s w (publishAll deliverableBy s start (w .past)) → AllMatched s start (w .past)
     → keeps s x w calls ≡ true → noneStale (runFrom w calls .past) ≡ true → AllMatched s start (runFrom w calls .past)
 unfolding runFrom keeps
 all-matched s x start [] w paired matched kept fresh = matched
