@@ -122,6 +122,15 @@ module _ (s : Setup) (w : World) (sent : List (Option Message)) (call : Call) (n
   all-waits : (m : Message) → List·Memᴰ m all → Waits s v m
   all-waits m t = elim (List·Memᴰ·append-cases (p .buffer) t) [ inl q ↦ open-waits m q | inr q ↦ new-waits m q ]
 
+  -- after a step of one nothing that the process holds is due before v
+  pub none-overdue : call .step ≡ 1 → (m : Message) → List·Memᴰ m (buffered p (heardHere sent call)) → v ≤ messageDue s m
+  unfolding buffered
+  none-overdue one m t =
+      elim (List·Memᴰ·append-cases (p .buffer) t) [
+        | inl q ↦ omega (arith, twin .undue m q, legal .called .turn, one)
+        | inr q ↦ new-undue m q
+      ]
+
   all-reads : (m : Message) → List·Memᴰ m all → ReadsTrue (s .epsilon) (s .modulus) v (m .event .r)
   all-reads m t = waits-reads s v m limits (all-waits m t)
 
