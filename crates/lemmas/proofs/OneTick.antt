@@ -5,7 +5,7 @@ use native.Mathlib.Omega.{arith}
 use native.Mathlib.Nat.{mod-eq-of-lt, mul-le-mul-left, mul-add, add-zero, zero-add}
 use mathlib.Core.Path.{_≡_, refl, sym, ap, subst, _∙_}
 use mathlib.Core.Logic.{_⊎_, inl, inr}
-use mathlib.Core.Bool.{Bool, true, false, _&&_, not, cond}
+use mathlib.Core.Bool.{Bool, true, false, _&&_, cond}
 use mathlib.Core.List.{List, [], _∷_, _++_, map, List·Memᴰ, List·Memᴰ·append-cases, append-nil, append-assoc}
 use mathlib.Core.Option.{some}
 use lib.Dec.{leb, ltb, eqb}
@@ -24,8 +24,8 @@ use Rattle.model.specs.Batch.{batchEntries, exactBatch}
 use Rattle.model.specs.Holdback.{heldBytes, held, notEarly, soundHoldback, encodeFrames, encodeHoldback}
 use Rattle.model.specs.Question.{askSetup, firstNo}
 use Rattle.model.specs.Codec.{askPayload}
-use Rattle.model.specs.Judge.{Heard, taken, verdictBy, judge, hearBy, hear, hearOne, judgeQuestions, placeFor, absorbBy, absorbAll}
-use Rattle.model.specs.Tick.{Input, Output, holdbackSize, roomy, callQuestions, tablesSound, stepOf, leastDue, openingStamp, openedQueue, dueBefore, earlyOf, opening, heardOf, heardStamp, newStamp, sentBytes, takenCount, deliveredOf, keptOf, dueNow, repairOf, acceptance, refusal, tickBy, tick}
+use Rattle.model.specs.Judge.{Heard, verdictBy, judge, hearBy, hear, hearOne, judgeQuestions, placeFor, absorbBy, absorbAll}
+use Rattle.model.specs.Tick.{Input, Output, holdbackSize, roomy, callQuestions, tablesSound, stepOf, leastDue, openingStamp, openedQueue, dueBefore, earlyOf, opening, heardOf, heardStamp, newStamp, sentBytes, takenCount, deliveredOf, keptOf, dueNow, acceptance, refusal, tickBy, tick}
 use Rattle.lemmas.proofs.Bounds.{Limits, Sound, Opened, FrameOk, QueueOk}
 use Rattle.lemmas.proofs.Questions.{first-yes, other-yes, setup-from}
 use Rattle.lemmas.proofs.Counts.{Left, tables-step, tables-left, left-tables, opened-step, opened-replaced, opened-absorb, own-left, trimmed-wide, trimmed-widened}

@@ -14,7 +14,7 @@ use borrow.Author.Tests.{le-leb, lt-ltb, eq-eqb, leb-true, ltb-true, ltb-false, 
 use Rattle.laws.specs.Lists.{any, every, chained, apart, insertAt, select, padded}
 use Rattle.laws.specs.Lex.{lexCompare}
 use Rattle.laws.proofs.Numbers.{clash, and-intro, and-left, and-right, false-of-not, eqb-sym}
-use Rattle.laws.proofs.Lists.{length-tab, every-mem, every-of-mem, every-map, every-insertAt, any-false, mem-of-insertAt, mem-of-select}
+use Rattle.laws.proofs.Lists.{every-mem, every-of-mem, every-map, every-insertAt, any-false, mem-of-insertAt, mem-of-select}
 use Rattle.laws.proofs.Lex.{lt-isLess, lex-head-lt, lex-shift}
 use Rattle.laws.proofs.Sorted.{lessBy, Sorted, pairwise-append, sorted-of-chained, chained-of-sorted, sorted-select, sorted-insert, sorted-rekey, apart-select, apart-insertAt, pigeonhole-pairs}
 use Rattle.model.specs.Setup.{Setup, width, depth}

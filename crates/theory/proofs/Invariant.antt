@@ -9,24 +9,24 @@ use mathlib.Core.List.{List, [], _∷_, _++_, List·Memᴰ}
 use mathlib.Core.Option.{some}
 use lib.Dec.{eqb}
 use lib.ListN.{length, getElem?, length-set, length-append}
-use borrow.Author.Tests.{eqb-true, ne-eqb}
+use borrow.Author.Tests.{ne-eqb}
 use Rattle.laws.specs.Lists.{any, select}
-use Rattle.laws.proofs.Numbers.{eq-or-ne, clash, and-right, or-cases, not-of-false}
-use Rattle.laws.proofs.Lists.{any-append, any-mem, mem-getElem?, getElem?-lt, getElem?-append, getElem?-snoc-cases, mem-of-select, mem-select}
+use Rattle.laws.proofs.Numbers.{eq-or-ne, and-right, or-cases, not-of-false}
+use Rattle.laws.proofs.Lists.{any-append, getElem?-lt, getElem?-append, getElem?-snoc-cases, mem-of-select, mem-select}
 use Rattle.model.specs.Setup.{Setup}
 use Rattle.model.specs.Timestamp.{trimmed, Timestamp, sum}
 use Rattle.model.specs.Frame.{Frame}
 use Rattle.model.specs.Order.{readingOf, due, dueNear}
 use Rattle.model.specs.Holdback.{held}
 use Rattle.model.specs.Tick.{heardOf, heardStamp, dueNow, keptOf}
-use Rattle.model.specs.Run.{Node, Source, sentBy, stale, Call, Done, World, inputOf, isAccepted, outputOf, doneOf, nodeAfter, act}
+use Rattle.model.specs.Run.{Node, Call, Done, World, inputOf, isAccepted, outputOf, doneOf, nodeAfter, act}
 use Rattle.theory.specs.Demand3.{heardIn, isFrom}
 use Rattle.theory.proofs.Event.{setup-at, clock-at, done-clock, after-clock, event-stamp, event-made, leaves-tables, leaves-queue, memory-left, event-own}
 use Rattle.theory.proofs.Entries.{from-entry}
 use Rattle.theory.proofs.Reach.{reached-grows, reached-gains}
 use Rattle.theory.proofs.Stamps.{bounded-grows, own-bounded}
 use Rattle.theory.proofs.HearLoop.{some-inj, followed-sends}
-use Rattle.theory.proofs.World.{AllWaiting, LeftAt, eventFrame, reached, Bounded, followed, heardAt, Explained, AllExplained, Maker, Settled, Passed-on, NodeOk, Group, Good, Legal, act-is, sends-accepted, nodesAfter, after-at, after-other, after-together}
+use Rattle.theory.proofs.World.{AllWaiting, LeftAt, eventFrame, reached, Bounded, followed, heardAt, Explained, AllExplained, Maker, Settled, Passed-on, NodeOk, Group, Good, Legal, act-is, nodesAfter, after-at, after-other, after-together}
 use Rattle.theory.proofs.Promises.{Ends, waiting-reads}
 
 module _ (s : Setup) (floor from : ℕ) (w : World) (call : Call) (node : Node) (v : ℕ) (good : Good s floor from w) (legal : Legal s floor w call node v) (ends : Ends s floor from w call node v) where

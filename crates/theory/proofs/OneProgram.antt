@@ -1,6 +1,6 @@
 -- Demand 2 where all steps are one: Equation 4.11's program and the one that delivers at the first event at or past a due clock do the same.
 -- Assumes nothing.
-use Prim.Native.Nat.{ℕ, zero, suc, _+_, _≤_}
+use Prim.Native.Nat.{ℕ, zero, suc, _≤_}
 use native.Mathlib.Omega.{arith}
 use mathlib.Core.Path.{_≡_, refl, sym, ap, subst, _∙_}
 use mathlib.Core.Logic.{inl, inr}
@@ -10,12 +10,11 @@ use mathlib.Core.Option.{Option, none, some}
 use lib.Dec.{eqb}
 use lib.ListN.{take, set, getElem?}
 use borrow.Author.Tests.{le-leb, lt-leb, eq-eqb, ne-eqb, eqb-true}
-use Rattle.laws.specs.Lists.{select}
 use Rattle.laws.proofs.Numbers.{eq-or-ne, clash, or-cases, false-of-not}
 use Rattle.laws.proofs.Lists.{select-ext, every-mem, getElem?-mem}
 use Rattle.model.specs.Setup.{Setup}
-use Rattle.model.specs.Published.{Message, Process, Condition, deliverable, deliverableBy, inOrder, buffered, deliveredAt, advanced}
-use Rattle.model.specs.Run.{Node, Call, Done, isAccepted, runFrom, atStart}
+use Rattle.model.specs.Published.{Message, Process, deliverable, deliverableBy, inOrder, buffered, deliveredAt, advanced}
+use Rattle.model.specs.Run.{Call, Done, isAccepted, runFrom, atStart}
 use Rattle.theory.specs.Premises.{stepsOfOne}
 use Rattle.theory.specs.Demand2.{messagesHeard, Published, Outcome, outcomeOf, publishOn, publish, publishAll, publishedStart, SameAs, Matched, OneProgram, Demand2Ones}
 use Rattle.theory.proofs.PublishedQueue.{messageDue}

@@ -11,10 +11,10 @@ use lib.Dec.{leb, ltb, eqb}
 use lib.ListN.{length, getD, length-append}
 use lib.Seq.{getD-append-seam}
 use borrow.Author.Tests.{leb-true, leb-false, le-leb, lt-leb, ltb-true, ltb-false, lt-ltb, le-ltb, eqb-true, eqb-false, eq-eqb, ne-eqb}
-use Rattle.laws.specs.Lists.{tab, select, sortBy, apart, placedAt}
+use Rattle.laws.specs.Lists.{tab, select, sortBy, apart}
 use Rattle.laws.specs.Lex.{lexCompare}
 use Rattle.laws.proofs.Numbers.{lt-or-ge, eq-or-ne, not-of-false, false-of-not}
-use Rattle.laws.proofs.Lists.{tab-ext, length-tab, mem-select, mem-of-select, mem-map, mem-of-map}
+use Rattle.laws.proofs.Lists.{length-tab, mem-select, mem-of-select, mem-map, mem-of-map}
 use Rattle.laws.proofs.Lex.{isLess-lt, lt-isLess, lex-head-lt, lex-head-eq, lex-lt-cases, lex-append}
 use Rattle.laws.proofs.Sorted.{pairwise-mono, lessBy, Sorted, sorted-map, sorted-unique, apart-select}
 use Rattle.laws.proofs.InsertionSort.{mem-sortBy, mem-of-sortBy, sorted-sortBy}
