@@ -79,7 +79,7 @@ AllPresent s from past heard v queue =
     (k : ℕ) (m : Done) → getElem? past k ≡ some m → followed from m ≡ true → heard k ≡ true
     → v ≤ due s (m .clock) (eventFrame s m .stamp .c) → List·Memᴰ (eventFrame s m) queue
 
--- and each that is due after v: such lie there once those due at v are delivered
+-- and each that is due after v: such lie there once those due by v are delivered
 abbrev pub AllWaiting : Setup → ℕ → List Done → (ℕ → Bool) → ℕ → List Frame → Type 0
 AllWaiting s from past heard v queue =
     (k : ℕ) (m : Done) → getElem? past k ≡ some m → followed from m ≡ true → heard k ≡ true
@@ -136,6 +136,7 @@ restAt s v node = select (λ f. not (dueBefore s (v % s .modulus) f)) (openedAt 
 pub record Opens (s : Setup) (floor from : ℕ) (w : World) (i last v : ℕ) (t : Timestamp) (queue : List Frame) : Type 0 where
   pub bounded : Bounded s floor (w .nodes) v (t .kn)
   pub members : AllExplained s from (w .past) (heardAt (w .past) i) v queue
+  -- a frame there that is followed is due past `last`
   pub later : (f : Frame) → List·Memᴰ f queue → s .modulus + from ≤ readingOf s (v % s .modulus) f + v → s .modulus + last < dueNear s (v % s .modulus) f + v
   pub waiting : AllWaiting s from (w .past) (heardAt (w .past) i) last queue
   pub passed-on : (k : ℕ) (d : Done) → getElem? (w .past) k ≡ some d → isAccepted (d .output) ≡ true → d .node ≡ i → Passed-on s d v t

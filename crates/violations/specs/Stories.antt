@@ -118,7 +118,7 @@ nodeWith s tables own clock =
 abbrev pub freshNode : ℕ → ℕ → Node
 freshNode own clock = nodeWith group freshTables own clock
 
--- every story but three starts from these: X is 6, older frames may be heard up to 8, messages are covered from 10 on
+-- every story but two starts from these: X is 6, older frames may be heard up to 8, messages are covered from 10 on
 abbrev pub freshNodes : List Node
 freshNodes = freshNode 0 5 ∷ freshNode 1 6 ∷ []
 
