@@ -5,7 +5,7 @@ use native.Mathlib.Omega.{arith}
 use native.Mathlib.Nat.{mod-eq-of-lt, add-zero, zero-add}
 use mathlib.Core.Path.{_≡_, refl, sym, ap, subst, _∙_}
 use mathlib.Core.Logic.{_⊎_, inl, inr}
-use mathlib.Core.Bool.{Bool, true, false, _&&_, not, cond}
+use mathlib.Core.Bool.{Bool, true, false, _&&_, cond}
 use mathlib.Core.List.{List, [], _∷_, _++_, map, List·Memᴰ, List·Memᴰ·append-cases, append-nil, append-assoc}
 use mathlib.Core.Option.{some}
 use lib.Dec.{leb, ltb, eqb}
@@ -15,22 +15,23 @@ use borrow.Author.Tests.{leb-true, ltb-true}
 use Rattle.laws.specs.Lists.{select, overlay}
 use Rattle.laws.proofs.Numbers.{and-left}
 use Rattle.laws.proofs.Lists.{mem-of-select, take-overlay, select-append, getElem?-lt}
+use Rattle.laws.proofs.Sorted.{Sorted}
 use Rattle.model.specs.Setup.{Setup, width, longestFrame, inLimits, isMember, depth}
 use Rattle.model.specs.Timestamp.{Timestamp, sum, trimmed, step, widened, replaced, absorb, countOwn, clockStep, soundTables}
-use Rattle.model.specs.Order.{readingOf}
+use Rattle.model.specs.Order.{readingOf, keyNear}
 use Rattle.model.specs.Frame.{Frame, encode, decode}
 use Rattle.model.specs.Batch.{batchEntries, exactBatch}
 use Rattle.model.specs.Holdback.{heldBytes, held, notEarly, soundHoldback, encodeFrames, encodeHoldback}
 use Rattle.model.specs.Question.{askSetup, firstNo}
 use Rattle.model.specs.Codec.{askPayload}
-use Rattle.model.specs.Judge.{Heard, taken, verdictBy, judge, hearBy, hear, hearOne, judgeQuestions, placeFor, absorbBy, absorbAll}
-use Rattle.model.specs.Tick.{Input, Output, holdbackSize, roomy, callQuestions, tablesSound, stepOf, leastDue, openingStamp, openedQueue, dueBefore, earlyOf, opening, heardOf, heardStamp, newStamp, sentBytes, takenCount, deliveredOf, keptOf, dueNow, repairOf, acceptance, refusal, tickBy, tick}
+use Rattle.model.specs.Judge.{Heard, verdictBy, judge, hearBy, hear, hearOne, judgeQuestions, placeFor, absorbBy, absorbAll}
+use Rattle.model.specs.Tick.{Input, Output, holdbackSize, roomy, callQuestions, tablesSound, stepOf, leastDue, openingStamp, openedQueue, dueBefore, earlyOf, opening, heardOf, heardStamp, newStamp, sentBytes, takenCount, deliveredOf, keptOf, dueNow, acceptance, refusal, tickBy, tick}
 use Rattle.lemmas.proofs.Bounds.{Limits, Sound, Opened, FrameOk, QueueOk}
 use Rattle.lemmas.proofs.Questions.{first-yes, other-yes, setup-from}
 use Rattle.lemmas.proofs.Counts.{Left, tables-step, tables-left, left-tables, opened-step, opened-replaced, opened-absorb, own-left, trimmed-wide, trimmed-widened}
 use Rattle.lemmas.proofs.Reading.{step-true, near-high}
 use Rattle.lemmas.proofs.RoundTrip.{held-encode, held-holdback}
-use Rattle.lemmas.proofs.Queue.{Passed, judged-passed, opening-queue, queue-rest, queue-take, early-few, due-few, both-few, queue-sound, QueueLeft, queue-left, left-later, left-ok, left-room, depth-small}
+use Rattle.lemmas.proofs.Queue.{Passed, judged-passed, opening-queue, queue-rest, queue-take, early-few, due-few, both-few, due-sorted, queue-sound, QueueLeft, queue-left, left-later, left-ok, left-room, depth-small}
 
 -- the tick by the number of the first question that gets a no
 pub tick-by : (i : Input) (k : ℕ) → firstNo (callQuestions i) ≡ k → tick i ≡ tickBy k i
@@ -319,6 +320,12 @@ delivered-frames i a f m = go (List·Memᴰ·append-cases (select (dueBefore (i 
         → FrameOk (i .setup) f
     go (inl e) = opened-ok i a .frames f (mem-of-select (dueBefore (i .setup) (i .clock)) (openedQueue i) e .0)
     go (inr e) = hearing-end i a .frames f (mem-of-select (dueNow (i .setup) (i .clock)) (heardOf i .queue) e .0)
+
+-- it is in order
+pub delivered-sorted : (i : Input) → Accepted i → Sorted (keyNear (i .setup) (i .clock)) (deliveredOf i)
+unfolding deliveredOf earlyOf
+delivered-sorted i a =
+    due-sorted (i .setup) (i .clock) (leastDue (i .setup) (i .clock) (i .tables)) (openedQueue i) (heardOf i .queue) (opened-ok i a) (hearing-end i a)
 
 -- n(3ε − 2) frames at most: a hand-out always has room
 pub delivered-few : (i : Input) → Accepted i → length (deliveredOf i) ≤ depth (i .setup .n) (i .setup .epsilon) (i .setup .delta)

@@ -14,9 +14,9 @@ use borrow.Author.Tests.{le-leb, lt-ltb, eq-eqb, leb-true, ltb-true, ltb-false, 
 use Rattle.laws.specs.Lists.{any, every, chained, apart, insertAt, select, padded}
 use Rattle.laws.specs.Lex.{lexCompare}
 use Rattle.laws.proofs.Numbers.{clash, and-intro, and-left, and-right, false-of-not, eqb-sym}
-use Rattle.laws.proofs.Lists.{length-tab, every-mem, every-of-mem, every-map, every-insertAt, any-false, mem-of-insertAt, mem-of-select}
-use Rattle.laws.proofs.Lex.{lex-shift}
-use Rattle.laws.proofs.Sorted.{Sorted, sorted-of-chained, chained-of-sorted, sorted-select, sorted-insert, sorted-rekey, apart-select, apart-insertAt, pigeonhole-pairs}
+use Rattle.laws.proofs.Lists.{every-mem, every-of-mem, every-map, every-insertAt, any-false, mem-of-insertAt, mem-of-select}
+use Rattle.laws.proofs.Lex.{lt-isLess, lex-head-lt, lex-shift}
+use Rattle.laws.proofs.Sorted.{lessBy, Sorted, pairwise-append, sorted-of-chained, chained-of-sorted, sorted-select, sorted-insert, sorted-rekey, apart-select, apart-insertAt, pigeonhole-pairs}
 use Rattle.model.specs.Setup.{Setup, width, depth}
 use Rattle.model.specs.Timestamp.{sum, countsFrom, atMost}
 use Rattle.model.specs.Frame.{Frame, encode, decode, twoAt}
@@ -317,6 +317,22 @@ both-few s = omega (arith, mul-le-mul-left (s .n) most, mul-add (s .n) (2 * s .e
   where
     most : 2 * s .epsilon - 2 + s .epsilon ≤ s .delta + 3 * s .epsilon
     most = omega arith
+
+-- what is due before v, and then what is due at v, is in order: the sums of the first are smaller
+pub due-sorted :
+    (s : Setup) (v least : ℕ) (opened queue : List Frame) → QueueOk s v least opened → QueueOk s v (s .modulus) queue
+    → Sorted (keyNear s v) (select (dueBefore s v) opened ++ select (dueNow s v) queue)
+unfolding keyNear key keyBy sum
+due-sorted s v least opened queue first ok =
+    pairwise-append (lessBy (keyNear s v)) (select (dueBefore s v) opened) (select (dueNow s v) queue)
+    (sorted-select (keyNear s v) (dueBefore s v) opened (ordered-sorted s v opened (first .ordered)))
+    (sorted-select (keyNear s v) (dueNow s v) queue (ordered-sorted s v queue (ok .ordered)))
+    (λ f g m h. smaller f g (due-before s v f (mem-of-select (dueBefore s v) opened m .1)) (due-now s v g (mem-of-select (dueNow s v) queue h .1)))
+  where
+    smaller :
+        (f g : Frame) → readingOf s v f + f .stamp .c + s .delta + s .epsilon < s .modulus → readingOf s v g + g .stamp .c + s .delta + s .epsilon ≡ s .modulus
+        → lessBy (keyNear s v) f g ≡ true
+    smaller f g p q = lt-isLess (lex-head-lt (readingOf s v f + f .stamp .c) (readingOf s v g + g .stamp .c) _ _ (omega arith))
 
 -- keys whose readings are both k less are in the same order
 pub key-lower : (s : Setup) (k a a′ b b′ : ℕ) (f g : Frame) → a′ + k ≡ a → b′ + k ≡ b → lexCompare (key s a f) (key s b g) ≡ lexCompare (key s a′ f) (key s b′ g)
