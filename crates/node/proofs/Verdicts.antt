@@ -145,18 +145,28 @@ refused-number s v queue bytes number e = verdict-refused (firstNo (judgeQuestio
 -- the tags of the code's verdict, by which a match tells them apart
 pub record Tags : Type 0 where
   pub tag : codes.Verdict → ℕ
-  pub at-taken : (place : Place) → tag (Taken place) ≡ 0
+  pub at-taken : (place : Place) (reading : ℕ) → tag (Taken place reading) ≡ 0
   pub at-refused : (number : ℕ) → tag (Refused number) ≡ 1
 
 pub is-refused : (tags : Tags) (r : codes.Verdict) → tags .tag r ≡ 1 → verdictOf r ≡ refused (verdictNumber (verdictOf r))
-is-refused tags (Taken place) e = absurd (omega (arith, tags .at-taken place))
+is-refused tags (Taken place reading) e = absurd (omega (arith, tags .at-taken place reading))
 is-refused tags (Refused number) e = refl
 
-pub refused-located : {epsilon : ℕ} {buffer : List ℕ} {number : ℕ} → Located epsilon buffer (Refused number)
-refused-located = record { stands = λ place e. absurd (let z : _≡_ {A = ℕ} 0 1 = cc in omega arith) }
+pub refused-located : {s : Setup} {v : ℕ} {buffer bytes : List ℕ} {number : ℕ} → Located s v buffer bytes (Refused number)
+refused-located =
+    record {
+      stands = λ place reading e. absurd (let z : _≡_ {A = ℕ} 0 1 = cc in omega arith);
+      reads = λ place reading e. absurd (let z : _≡_ {A = ℕ} 0 1 = cc in omega arith);
+    }
 
-pub taken-located : {epsilon : ℕ} {buffer : List ℕ} {place : Place} → place .at ≡ frameStart epsilon buffer (place .index) → Located epsilon buffer (Taken place)
-taken-located {place} h = record { stands = λ place′ e. let same : place ≡ place′ = cc in rw (← same) h }
+pub taken-located :
+    {s : Setup} {v : ℕ} {buffer bytes : List ℕ} {place : Place} {reading : ℕ} → place .at ≡ frameStart (s .epsilon) buffer (place .index)
+    → reading ≡ readingOf s v (decode (s .epsilon) bytes) → Located s v buffer bytes (Taken place reading)
+taken-located {place} {reading} h r =
+    record {
+      stands = λ place′ reading′ e. let same : place ≡ place′ = cc in rw (← same) h;
+      reads = λ place′ reading′ e. let same : reading ≡ reading′ = cc in rw (← same) r;
+    }
 
 -- ---- a frame that has passed 10 to 14 fits
 

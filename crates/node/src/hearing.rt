@@ -10,7 +10,6 @@ use holdback::Place;
 use holdback::START_UNIT;
 use holdback::mark;
 use holdback::put;
-use holdback::reading_of;
 use holdback::shift_starts;
 use holdback::sum_place;
 use setup::Setup;
@@ -18,13 +17,14 @@ use timestamp::Timestamp;
 ghost use mathlib.Core.Path.{_≡_};
 ghost use Rattle.model.specs.Timestamp.{trimmed, widened};
 ghost use Rattle.model.specs.Frame.{decode};
+ghost use Rattle.model.specs.Order.{readingOf};
 ghost use Rattle.model.specs.Judge.{absorbBy};
 ghost use Rattle.setup.specs.Views.{setupOf};
 ghost use Rattle.timestamp.specs.Views.{stampOf};
 ghost use Rattle.node.specs.States.{Timed, Readable, Queued, Extent, Taking, Enqueued, Listening, HeardQueue, HeardStamp};
 
 // "A taken frame goes on the shelf". Its origin is marked, and the starts of the larger sums move. The queue has `count` frames,
-// which end at `end`.
+// which end at `end`; the frame's r is read already.
 fn enqueue(
     setup: Setup,
     clock: usize,
@@ -32,31 +32,31 @@ fn enqueue(
     count: usize,
     end: usize,
     s: &[u8],
+    reading: usize,
     holdback: &mut [u8],
     seen: &mut [u8],
     starts: &mut [u32],
 )
     requires { ⌜ Taking (setupOf setup) clock (now holdback) (place .index) (place .at) (now s) ⌝ }
     requires { ⌜ Queued (setupOf setup) clock (now holdback) (now seen) (now starts) ⌝ }
-    requires { ⌜ Extent (setup .epsilon) (now holdback) count end ⌝ }
+    requires { ⌜ Extent (setup .epsilon) (now holdback) count end × (reading ≡ readingOf (setupOf setup) clock (decode (setup .epsilon) (now s))) ⌝ }
     ensures { λ _. ⌜ Enqueued (setupOf setup) clock (place .index) (now (s .entry)) (now (holdback .entry)) count end
         (now (holdback .exit)) (now (seen .exit)) (now (starts .exit)) ⌝ }
 {
     put(setup.epsilon as usize, holdback, count, end, place, s);
-    let k = sum_place(setup, clock, s);
+    let k = sum_place(setup, clock, s, reading);
     shift_starts(starts, k + 1, (START_UNIT + s.len()) as u32);
-    mark(setup, clock, s, seen);
+    mark(setup, clock, s, reading, seen);
 }
 
-// "c and each count become the larger of own and frame's, both placed relative to v".
-fn absorb_frame(setup: Setup, clock: usize, stamp: Timestamp, s: &[u8]) -> Timestamp
-    requires { ⌜ Readable (setupOf setup) clock (now s) ⌝ }
+// "c and each count become the larger of own and frame's, both placed relative to v": the frame's r is read already.
+fn absorb_frame(setup: Setup, clock: usize, stamp: Timestamp, s: &[u8], reading: usize) -> Timestamp
+    requires { ⌜ Readable (setupOf setup) clock (now s) × (reading ≡ readingOf (setupOf setup) clock (decode (setup .epsilon) (now s))) ⌝ }
     ensures { λ r. ⌜ stampOf r
         ≡ widened (absorbBy 0 (setupOf setup) clock (decode (setup .epsilon) (now (s .entry))) (trimmed (setup .epsilon) (stampOf stamp))) ⌝ }
 {
     let epsilon = setup.epsilon as usize;
     let modulus = setup.modulus as usize;
-    let reading = reading_of(setup, clock, s);
     let other = stamp_of(epsilon, s);
     stamp.absorb(epsilon, modulus, reading, other)
 }
@@ -107,13 +107,24 @@ pub fn hear(
         at = step.end;
         let s = &batch[start..at];
         let verdict = judge(setup, clock, holdback, held, seen, starts, s);
-        let Verdict::Taken(place) = verdict else {
+        let Verdict::Taken(place, reading) = verdict else {
             verdicts[i] = number_of(verdict);
             i += 1;
             continue;
         };
-        enqueue(setup, clock, place, held, stop, s, holdback, seen, starts);
-        absorbed = absorb_frame(setup, clock, absorbed, s);
+        enqueue(
+            setup,
+            clock,
+            place,
+            held,
+            stop,
+            s,
+            reading,
+            holdback,
+            seen,
+            starts,
+        );
+        absorbed = absorb_frame(setup, clock, absorbed, s, reading);
         held += 1;
         stop += s.len();
         verdicts[i] = 0;

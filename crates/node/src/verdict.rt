@@ -5,8 +5,8 @@ ghost use Rattle.model.specs.Judge.{verdictNumber};
 ghost use Rattle.node.specs.Views.{verdictOf};
 
 pub enum Verdict {
-    // its place in the queue (01: the shelf), and where that stands
-    Taken(Place),
+    // its place in the queue (01: the shelf), where that stands, and the reading of its r near v
+    Taken(Place, usize),
     // the number of the first no
     Refused(u8),
 }
@@ -16,7 +16,7 @@ pub fn number_of(verdict: Verdict) -> u8
     ensures { λ r. ⌜ r ≡ verdictNumber (verdictOf verdict) ⌝ }
 {
     match verdict {
-        Verdict::Taken(_) => 0,
+        Verdict::Taken(_, _) => 0,
         Verdict::Refused(number) => number,
     }
 }

@@ -27,11 +27,11 @@ cast-put c = search needs
 put-requires : tie.Need-put-requires
 put-requires c κs =
     let start = c .before .before .before .before .before .before in
-    let extent = start .pre .1 .1 in
+    let extent = start .pre .1 .1 .0 in
     (spans (start .pre .0) extent, (here start .form, (omega (arith, fits (start .pre .0), extent .ends), omega (arith, extent .count-is, here start .few))))
 
 sum-place-requires : tie.Need-sum-place-requires
-sum-place-requires c κs = let start = begin c in ((start .pre .0 .timed .limits, start .pre .0 .timed .below), here start .fit)
+sum-place-requires c κs = let start = begin c in ((start .pre .0 .timed .limits, start .pre .0 .timed .below), (here start .fit, start .pre .1 .1 .1))
 
 -- the sum has a place
 placed : (c : tie.After-sum-place) → c .sum-place .result < startPlaces
@@ -60,7 +60,7 @@ mark-requires : tie.Need-mark-requires
 mark-requires c κs =
     let start = c .before .before .before .before .before .before .before .before .before .before .before .before .before .before .before in (
       (start .pre .0 .timed .limits, start .pre .0 .timed .below),
-      (here start .placeable, ap length (start .pre .1 .0 .table-is) ∙ length-seen (setupOf (start .args .setup)) (start .args .clock) (held (start .args .setup .epsilon) (start .args .holdback .now))),
+      (here start .placeable, (ap length (start .pre .1 .0 .table-is) ∙ length-seen (setupOf (start .args .setup)) (start .args .clock) (held (start .args .setup .epsilon) (start .args .holdback .now)), start .pre .1 .1 .1)),
     )
 
 same-length : tie.Need-same-length
@@ -80,7 +80,7 @@ returns c =
     let bytes-clean : Bytes (start .args .s .now) = λ i. omega (arith, c .before .before .before .before .before .before .before .before .before .before .before .before .before .before .before .before .before .shared-slice-known .given i) in
     record {
       queued = more-queued (start .pre .0) put clean bytes-clean (start .pre .1 .0) (c .before .before .mark .ensures) (c .before .before .before .before .before .before .before .before .sum-place .ensures) (c .before .before .before .before .before .before .shift-starts .ensures);
-      extent = more-extent (start .pre .0) put clean bytes-clean (start .pre .1 .1);
+      extent = more-extent (start .pre .0) put clean bytes-clean (start .pre .1 .1 .0);
       buffer-is = put;
       queue = more-held (start .pre .0) put;
     }
