@@ -8,7 +8,7 @@ ghost use Rattle.holdback.specs.Starts.{startPlaces, filled, movedStarts
 // An entry is a number of frames times this, and where the next one starts, which is less.
 pub const START_UNIT: usize = 131072;
 
-// Places in the table of starts, one for each sum of a sound queue's frames.
+// Places in the table of starts, one for each sum of the frames that are not due before v.
 pub const START_PLACES: usize = 96;
 
 // The entry for the front: no frames, and the first one starts behind the count.

@@ -198,6 +198,23 @@ A′ = frame 2 0 (1 ∷ 2 ∷ 1 ∷ 0 ∷ [])
 abbrev L : Frame
 L = frame 3 0 (1 ∷ 1 ∷ 1 ∷ 0 ∷ [])
 
+-- a yard of one with wide drift: its shelf is for nine frames
+abbrev wide : Setup
+wide = record { n = 1; epsilon = 3; delta = 0; modulus = 19 }
+
+-- its frames, with one event known at r + c, and perhaps one at the clock before
+abbrev lone : ℕ → ℕ → List ℕ → Frame
+lone r c kn = record { station = 0; stamp = stamp r c kn; payload = [] }
+
+-- its tick at 10 with a step of 3, the shelf full, two frames due at 8 and 9 among the nine; it hears one more
+abbrev crowded : Output
+crowded =
+    tick (call wide 10 (widened (fresh 3 7)) (encodeHoldback (holdbackSize wide)
+    (lone 3 2 (0 ∷ 0 ∷ 0 ∷ 0 ∷ 0 ∷ 1 ∷ []) ∷ lone 4 2 (0 ∷ 0 ∷ 0 ∷ 0 ∷ 0 ∷ 1 ∷ []) ∷ lone 5 2 (0 ∷ 0 ∷ 0 ∷ 0 ∷ 0 ∷ 1 ∷ [])
+    ∷ lone 6 2 (0 ∷ 0 ∷ 0 ∷ 0 ∷ 0 ∷ 1 ∷ []) ∷ lone 7 2 (0 ∷ 0 ∷ 0 ∷ 0 ∷ 0 ∷ 1 ∷ []) ∷ lone 8 2 (0 ∷ 0 ∷ 0 ∷ 0 ∷ 0 ∷ 1 ∷ [])
+    ∷ lone 10 1 (0 ∷ 0 ∷ 0 ∷ 0 ∷ 1 ∷ 0 ∷ []) ∷ lone 11 1 (0 ∷ 0 ∷ 0 ∷ 0 ∷ 1 ∷ 0 ∷ []) ∷ lone 12 0 (0 ∷ 0 ∷ 1 ∷ 1 ∷ 0 ∷ 0 ∷ []) ∷ []))
+    false [] (one (encode (lone 9 0 (0 ∷ 0 ∷ 0 ∷ 1 ∷ 0 ∷ 0 ∷ [])))))
+
 -- the mend of such a tick, and the clauses of "It is sound if" that the shelf meets (1) or not (0): at most n(δ + 3ε) frames;
 -- 10 to 12; in order; no station and r twice; each sum not past v + ε − 1; each due clock past the clock of the tables
 abbrev judged : ℕ → ℕ → List Frame → List ℕ
@@ -217,7 +234,7 @@ mended o = outcome 4 o ++ (twoAt (o .holdback) 0 ∷ [])
 
 -- what a shelf must be: each shelf with mend 2 fails the clause that it is for, and no other, but for the one that holds the same
 -- frame twice; what each mend leaves; and when a frame is handed out.
--- (No shelf fails the first clause alone: the others leave room for n(δ + 3ε − 1) frames, `queue-bound` in lemmas.)
+-- (No shelf of this yard fails the first clause alone: the others leave room for n(δ + 4ε − 2) frames, which is n(δ + 3ε) where ε is 2.)
 pub queues : List Case
 queues =
     -- A before the frame sent at ★a's tick
@@ -243,6 +260,8 @@ queues =
     ∷ says (holding 4 6 (A ∷ L ∷ []) .answer .delivered ∷ map (λ f. f .stamp .r) (held 2 (holding 4 6 (A ∷ L ∷ []) .delivery))) (2 ∷ 2 ∷ 3 ∷ [])
     -- "When the tables themselves are replaced, no due clock before v is accepted"
     ∷ says (mended (holding 3 6 (A ∷ [])) ++ mended (holding 3 6 (L ∷ []))) (3 ∷ 0 ∷ 0 ∷ 0 ∷ 1 ∷ 0 ∷ 0 ∷ 1 ∷ 0 ∷ 0 ∷ 0 ∷ 1 ∷ 0 ∷ 0 ∷ [])
+    -- "Frames whose due clock lies before v go out before the bundle is judged": they leave room for one that is heard. Mend, taken, handed out
+    ∷ says (crowded .answer .repair ∷ crowded .answer .taken ∷ crowded .answer .delivered ∷ []) (0 ∷ 1 ∷ 3 ∷ [])
     -- mend 1: tables of another clock are replaced, and a sound shelf stays: A is still there. Mend, c, counts, the shelf's count
     ∷ says (mended (holding 3 1 (A ∷ []))) (1 ∷ 0 ∷ 0 ∷ 0 ∷ 1 ∷ 0 ∷ 1 ∷ [])
     -- mend 2: an unsound shelf is emptied, and sound tables keep their counts, one offset further down
