@@ -16,7 +16,7 @@ use Rattle.setup.specs.declared.limits.Setup.{Setup}
 use Rattle.timestamp.specs.Views.{stampOf}
 use Rattle.timestamp.specs.declared.stamp.Timestamp.{Timestamp}
 use Rattle.holdback.specs.Queue.{frameStart}
-use Rattle.holdback.specs.declared.change.Place.{Place}
+use Rattle.node.specs.declared.verdict.Placed.{Placed}
 use Rattle.node.specs.declared.verdict.Verdict.{Verdict}
 use Rattle.node.specs.declared.verdict.Verdict.the-variants.{Taken, Refused}
 
@@ -39,13 +39,13 @@ callInput setup own clock tables holdback batch send payload outgoing verdicts d
 
 -- 01: "A verdict is either taken, with its place on the shelf, or refused, with the number"
 abbrev pub verdictOf : Verdict → judging.Verdict
-verdictOf (Taken place reading) = taken (place .index)
+verdictOf (Taken placed) = taken (placed .place .index)
 verdictOf (Refused number) = refused number
 
 -- where the place of a taken frame stands, and the reading of its r near v
 pub record Located (s : setups.Setup) (v : ℕ) (buffer bytes : List ℕ) (r : Verdict) : Type 0 where
-  pub stands : (place : Place) (reading : ℕ) → r ≡ Taken place reading → place .at ≡ frameStart (s .epsilon) buffer (place .index)
-  pub reads : (place : Place) (reading : ℕ) → r ≡ Taken place reading → reading ≡ readingOf s v (decode (s .epsilon) bytes)
+  pub stands : (placed : Placed) → r ≡ Taken placed → placed .place .at ≡ frameStart (s .epsilon) buffer (placed .place .index)
+  pub reads : (placed : Placed) → r ≡ Taken placed → placed .reading ≡ readingOf s v (decode (s .epsilon) bytes)
 
 -- 01, 13 to 15: what is asked of a frame's clock and counts
 unfoldable pub timeQuestions : setups.Setup → ℕ → Frame → List Question

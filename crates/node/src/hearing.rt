@@ -1,12 +1,12 @@
 // 01, tick 3: "Each frame of the bundle is judged in turn". A taken frame goes on the queue, and its stamp into the own one: two
 // halves that know nothing of each other.
 use crate::questions::judge;
+use crate::verdict::Placed;
 use crate::verdict::Verdict;
 use crate::verdict::number_of;
 use batch::count_of;
 use batch::walker::walk_step;
 use frame::stamp_of;
-use holdback::Place;
 use holdback::START_UNIT;
 use holdback::mark;
 use holdback::put;
@@ -28,21 +28,22 @@ ghost use Rattle.node.specs.States.{Timed, Readable, Queued, Extent, Tak
 fn enqueue(
     setup: Setup,
     clock: usize,
-    place: Place,
+    placed: Placed,
     count: usize,
     end: usize,
     s: &[u8],
-    reading: usize,
     holdback: &mut [u8],
     seen: &mut [u8],
     starts: &mut [u32],
 )
-    requires { ⌜ Taking (setupOf setup) clock (now holdback) (place .index) (place .at) (now s) ⌝ }
+    requires { ⌜ Taking (setupOf setup) clock (now holdback) (placed .place .index) (placed .place .at) (now s) ⌝ }
     requires { ⌜ Queued (setupOf setup) clock (now holdback) (now seen) (now starts) ⌝ }
-    requires { ⌜ Extent (setup .epsilon) (now holdback) count end × (reading ≡ readingOf (setupOf setup) clock (decode (setup .epsilon) (now s))) ⌝ }
-    ensures { λ _. ⌜ Enqueued (setupOf setup) clock (place .index) (now (s .entry)) (now (holdback .entry)) count end
+    requires { ⌜ Extent (setup .epsilon) (now holdback) count end × (placed .reading ≡ readingOf (setupOf setup) clock (decode (setup .epsilon) (now s))) ⌝ }
+    ensures { λ _. ⌜ Enqueued (setupOf setup) clock (placed .place .index) (now (s .entry)) (now (holdback .entry)) count end
         (now (holdback .exit)) (now (seen .exit)) (now (starts .exit)) ⌝ }
 {
+    let place = placed.place;
+    let reading = placed.reading;
     put(setup.epsilon as usize, holdback, count, end, place, s);
     let k = sum_place(setup, clock, s, reading);
     shift_starts(starts, k + 1, (START_UNIT + s.len()) as u32);
@@ -107,24 +108,13 @@ pub fn hear(
         at = step.end;
         let s = &batch[start..at];
         let verdict = judge(setup, clock, holdback, held, seen, starts, s);
-        let Verdict::Taken(place, reading) = verdict else {
+        let Verdict::Taken(placed) = verdict else {
             verdicts[i] = number_of(verdict);
             i += 1;
             continue;
         };
-        enqueue(
-            setup,
-            clock,
-            place,
-            held,
-            stop,
-            s,
-            reading,
-            holdback,
-            seen,
-            starts,
-        );
-        absorbed = absorb_frame(setup, clock, absorbed, s, reading);
+        enqueue(setup, clock, placed, held, stop, s, holdback, seen, starts);
+        absorbed = absorb_frame(setup, clock, absorbed, s, placed.reading);
         held += 1;
         stop += s.len();
         verdicts[i] = 0;

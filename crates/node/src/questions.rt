@@ -1,4 +1,5 @@
 // 01, "Of each frame, in order": questions 10 to 17, and the verdict.
+use crate::verdict::Placed;
 use crate::verdict::Verdict;
 use frame::c_of;
 use frame::check;
@@ -80,5 +81,5 @@ pub fn judge(
         return Verdict::Refused(17);
     }
     let place = place_for(setup, clock, holdback, count, starts, s, reading);
-    Verdict::Taken(place, reading)
+    Verdict::Taken(Placed { place, reading })
 }

@@ -30,7 +30,7 @@ use Rattle.node.proofs.hearing.hear.Statement.{statement}
 use Rattle.node.proofs.hearing.hear.Tie as tie
 
 abbrev tags : Tags
-tags = record { tag = Declared.tagOf Rattle.node.proofs.verdict.Verdict.the-type; at-taken = λ place reading. refl; at-refused = λ number. refl }
+tags = record { tag = Declared.tagOf Rattle.node.proofs.verdict.Verdict.the-type; at-taken = λ placed. refl; at-refused = λ number. refl }
 
 -- the two halves: what goes on the queue, and what goes into the stamp
 abbrev Inv-loop : tie.InvT-loop
@@ -142,19 +142,19 @@ loop-again c =
 
 -- what taking it asks
 module _ (c : tie.After-known-told Inv-loop μ-loop) where
-  taking : Taking (setupOf (c .before .before .before .before .before .before .before .before .before .before .before .before .before .before .before .before .before .args .setup)) (c .before .before .before .before .before .before .before .before .before .before .before .before .before .before .before .before .before .args .clock) (c .before .before .before .before .before .before .before .before .before .before .loop .holdback) (c .before .verdict .given .0 .0 .index) (c .before .verdict .given .0 .0 .at) (bytes (c .before .before .before .before .before .before .before .before))
+  taking : Taking (setupOf (c .before .before .before .before .before .before .before .before .before .before .before .before .before .before .before .before .before .args .setup)) (c .before .before .before .before .before .before .before .before .before .before .before .before .before .before .before .before .before .args .clock) (c .before .before .before .before .before .before .before .before .before .before .loop .holdback) (c .before .verdict .given .0 .0 .place .index) (c .before .verdict .given .0 .0 .place .at) (bytes (c .before .before .before .before .before .before .before .before))
   taking =
       record {
         timed = c .before .before .before .before .before .before .before .before .before .before .before .before .before .before .before .before .before .pre .0;
         size = c .before .before .before .before .before .before .before .before .before .before .loop .inv .0 .queued .size;
         sound = c .before .before .before .before .before .before .before .before .before .before .loop .inv .0 .queued .sound;
         judged = sym (c .before .before .before .judge .ensures .0) ∙ ap verdictOf (c .before .verdict .given .1);
-        starts = c .before .before .before .judge .ensures .1 .stands (c .before .verdict .given .0 .0) (c .before .verdict .given .0 .1 .0) (c .before .verdict .given .1);
+        starts = c .before .before .before .judge .ensures .1 .stands (c .before .verdict .given .0 .0) (c .before .verdict .given .1);
       }
 
   -- its reading is handed on
-  read : c .before .verdict .given .0 .1 .0 ≡ readingOf (setupOf (c .before .before .before .before .before .before .before .before .before .before .before .before .before .before .before .before .before .args .setup)) (c .before .before .before .before .before .before .before .before .before .before .before .before .before .before .before .before .before .args .clock) (decode (c .before .before .before .before .before .before .before .before .before .before .before .before .before .before .before .before .before .args .setup .epsilon) (bytes (c .before .before .before .before .before .before .before .before)))
-  read = c .before .before .before .judge .ensures .1 .reads (c .before .verdict .given .0 .0) (c .before .verdict .given .0 .1 .0) (c .before .verdict .given .1)
+  read : c .before .verdict .given .0 .0 .reading ≡ readingOf (setupOf (c .before .before .before .before .before .before .before .before .before .before .before .before .before .before .before .before .before .args .setup)) (c .before .before .before .before .before .before .before .before .before .before .before .before .before .before .before .before .before .args .clock) (decode (c .before .before .before .before .before .before .before .before .before .before .before .before .before .before .before .before .before .args .setup .epsilon) (bytes (c .before .before .before .before .before .before .before .before)))
+  read = c .before .before .before .judge .ensures .1 .reads (c .before .verdict .given .0 .0) (c .before .verdict .given .1)
 
 enqueue-requires : tie.Need-enqueue-requires Inv-loop μ-loop
 enqueue-requires c κs = let queue = c .before .before .before .before .before .before .before .before .before .before .before .before .before .loop .inv .0 in (taking (c .before .before .before), (queue .queued, (queue .extent, read (c .before .before .before))))
@@ -163,7 +163,7 @@ absorb-frame-requires : tie.Need-absorb-frame-requires Inv-loop μ-loop
 absorb-frame-requires c κs =
     let start = c .before .before .before .before .before .before .before .before .before .before .before .before .before .before .before .before .before .before .before .before .before .before .before .before .before .before .before in
     let taken = taking (c .before .before .before .before .before .before .before .before .before .before) in
-    (taken-readable (setupOf (start .args .setup)) (start .args .clock) (held (start .args .setup .epsilon) (c .before .before .before .before .before .before .before .before .before .before .before .before .before .before .before .before .before .before .before .before .loop .holdback)) (bytes (c .before .before .before .before .before .before .before .before .before .before .before .before .before .before .before .before .before .before)) (c .before .before .before .before .before .before .before .before .before .before .before .verdict .given .0 .0 .index) (taken .timed) (taken .judged), read (c .before .before .before .before .before .before .before .before .before .before))
+    (taken-readable (setupOf (start .args .setup)) (start .args .clock) (held (start .args .setup .epsilon) (c .before .before .before .before .before .before .before .before .before .before .before .before .before .before .before .before .before .before .before .before .loop .holdback)) (bytes (c .before .before .before .before .before .before .before .before .before .before .before .before .before .before .before .before .before .before)) (c .before .before .before .before .before .before .before .before .before .before .before .verdict .given .0 .0 .place .index) (taken .timed) (taken .judged), read (c .before .before .before .before .before .before .before .before .before .before))
 
 add-held : tie.Need-add-held Inv-loop μ-loop
 add-held c = omega (arith, known (taking (c .before .before .before .before .before .before .before .before .before .before .before)) .few, c .before .before .before .before .before .before .before .before .before .before .before .before .before .before .before .before .before .before .before .before .before .loop .inv .0 .extent .count-is)
