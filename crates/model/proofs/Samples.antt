@@ -6,7 +6,7 @@ use Rattle.model.proofs.Computing.{computing}
 use mathlib.Core.Bool.{Bool, true, false}
 use mathlib.Core.List.{List, [], _∷_, _++_, map}
 use lib.Dec.{leb, ltb}
-use lib.ListN.{length, take, replicate}
+use lib.ListN.{length, take, set, replicate}
 use Rattle.laws.specs.Lists.{every, chained, apart}
 use Rattle.model.specs.Setup.{Setup, depth}
 use Rattle.model.specs.Timestamp.{Timestamp, sum, widened, near, fresh}
@@ -23,6 +23,10 @@ usual = record { n = 2; epsilon = 2; delta = 1; modulus = 14 }
 -- ★l: "n 1, ε 1, δ 0, B 7"
 abbrev single : Setup
 single = record { n = 1; epsilon = 1; delta = 0; modulus = 7 }
+
+-- n stations with ε 3, δ 0, B 19
+abbrev wide : ℕ → Setup
+wide n = record { n = n; epsilon = 3; delta = 0; modulus = 19 }
 
 abbrev stamp : ℕ → ℕ → List ℕ → Timestamp
 stamp r c kn = record { r = r; c = c; kn = kn }
@@ -127,6 +131,9 @@ stars =
     -- "c drops by the step": ★a's tables at clock 3, where c was 1
     ∷ says (outcome 4 (tick (call usual 3 (first .answer .tables) (replicate (holdbackSize usual) 0) false [] silent)))
     (0 ∷ 0 ∷ 2 ∷ 1 ∷ 1 ∷ 0 ∷ [])
+    -- the same with ε 3, where c was 2: it is 0 after a step of 2
+    ∷ says (outcome 6 (tick (call (wide 2) 5 (widened (stamp 3 2 (0 ∷ 0 ∷ 0 ∷ 1 ∷ 0 ∷ 1 ∷ []))) (replicate (holdbackSize (wide 2)) 0) false [] silent)))
+    (0 ∷ 0 ∷ 0 ∷ 1 ∷ 0 ∷ 2 ∷ 0 ∷ 0 ∷ [])
     -- a step of 0 "still replaces the tables"
     ∷ says (outcome 4 (tick (call usual 5 (widened (fresh 2 5)) (replicate (holdbackSize usual) 0) false [] silent)))
     (1 ∷ 0 ∷ 0 ∷ 0 ∷ 1 ∷ 0 ∷ [])
@@ -198,22 +205,25 @@ A′ = frame 2 0 (1 ∷ 2 ∷ 1 ∷ 0 ∷ [])
 abbrev L : Frame
 L = frame 3 0 (1 ∷ 1 ∷ 1 ∷ 0 ∷ [])
 
--- a yard of one with wide drift: its shelf is for nine frames
-abbrev wide : Setup
-wide = record { n = 1; epsilon = 3; delta = 0; modulus = 19 }
+-- an output's mend, how many are taken, and how many handed out
+abbrev tallies : Output → List ℕ
+tallies o = o .answer .repair ∷ o .answer .taken ∷ o .answer .delivered ∷ []
 
--- its frames, with one event known at r + c, and perhaps one at the clock before
-abbrev lone : ℕ → ℕ → List ℕ → Frame
-lone r c kn = record { station = 0; stamp = stamp r c kn; payload = [] }
+-- a frame of a group of one with ε 3, whose shelf is for nine frames; its one event is at r + c
+abbrev alone : ℕ → ℕ → Frame
+alone r c = record { station = 0; stamp = stamp r c (set (replicate 6 0) (3 + c) 1); payload = [] }
 
--- its tick at 10 with a step of 3, the shelf full, two frames due at 8 and 9 among the nine; it hears one more
-abbrev crowded : Output
-crowded =
-    tick (call wide 10 (widened (fresh 3 7)) (encodeHoldback (holdbackSize wide)
-    (lone 3 2 (0 ∷ 0 ∷ 0 ∷ 0 ∷ 0 ∷ 1 ∷ []) ∷ lone 4 2 (0 ∷ 0 ∷ 0 ∷ 0 ∷ 0 ∷ 1 ∷ []) ∷ lone 5 2 (0 ∷ 0 ∷ 0 ∷ 0 ∷ 0 ∷ 1 ∷ [])
-    ∷ lone 6 2 (0 ∷ 0 ∷ 0 ∷ 0 ∷ 0 ∷ 1 ∷ []) ∷ lone 7 2 (0 ∷ 0 ∷ 0 ∷ 0 ∷ 0 ∷ 1 ∷ []) ∷ lone 8 2 (0 ∷ 0 ∷ 0 ∷ 0 ∷ 0 ∷ 1 ∷ [])
-    ∷ lone 10 1 (0 ∷ 0 ∷ 0 ∷ 0 ∷ 1 ∷ 0 ∷ []) ∷ lone 11 1 (0 ∷ 0 ∷ 0 ∷ 0 ∷ 1 ∷ 0 ∷ []) ∷ lone 12 0 (0 ∷ 0 ∷ 1 ∷ 1 ∷ 0 ∷ 0 ∷ []) ∷ []))
-    false [] (one (encode (lone 9 0 (0 ∷ 0 ∷ 0 ∷ 1 ∷ 0 ∷ 0 ∷ [])))))
+-- frames of r 2 to 7, of which the first four are due before 9; and of r 9 to 11
+abbrev lower-six : List Frame
+lower-six = alone 2 2 ∷ alone 3 1 ∷ alone 4 0 ∷ alone 5 0 ∷ alone 6 0 ∷ alone 7 0 ∷ []
+
+abbrev upper-three : List Frame
+upper-three = alone 9 0 ∷ alone 10 0 ∷ alone 11 0 ∷ []
+
+-- its tick at 9 with a step of 3, with these frames on the shelf and this batch: the mend, how many are taken, how many handed out
+abbrev crowded : List Frame → List ℕ → List ℕ
+crowded queue batch =
+    tallies (tick (call (wide 1) 9 (widened (fresh 3 6)) (encodeHoldback (holdbackSize (wide 1)) queue) false [] batch))
 
 -- the mend of such a tick, and the clauses of "It is sound if" that the shelf meets (1) or not (0): at most n(δ + 3ε) frames;
 -- 10 to 12; in order; no station and r twice; each sum not past v + ε − 1; each due clock past the clock of the tables
@@ -234,7 +244,7 @@ mended o = outcome 4 o ++ (twoAt (o .holdback) 0 ∷ [])
 
 -- what a shelf must be: each shelf with mend 2 fails the clause that it is for, and no other, but for the one that holds the same
 -- frame twice; what each mend leaves; and when a frame is handed out.
--- (No shelf of this yard fails the first clause alone: the others leave room for n(δ + 4ε − 2) frames, which is n(δ + 3ε) where ε is 2.)
+-- (The others leave room for n(δ + 4ε − 2) frames, which is n(δ + 3ε) where ε is 2: the first clause has a group with ε 3.)
 pub queues : List Case
 queues =
     -- A before the frame sent at ★a's tick
@@ -260,8 +270,11 @@ queues =
     ∷ says (holding 4 6 (A ∷ L ∷ []) .answer .delivered ∷ map (λ f. f .stamp .r) (held 2 (holding 4 6 (A ∷ L ∷ []) .delivery))) (2 ∷ 2 ∷ 3 ∷ [])
     -- "When the tables themselves are replaced, no due clock before v is accepted"
     ∷ says (mended (holding 3 6 (A ∷ [])) ++ mended (holding 3 6 (L ∷ []))) (3 ∷ 0 ∷ 0 ∷ 0 ∷ 1 ∷ 0 ∷ 0 ∷ 1 ∷ 0 ∷ 0 ∷ 0 ∷ 1 ∷ 0 ∷ 0 ∷ [])
-    -- "Frames whose due clock lies before v go out before the bundle is judged": they leave room for one that is heard. Mend, taken, handed out
-    ∷ says (crowded .answer .repair ∷ crowded .answer .taken ∷ crowded .answer .delivered ∷ []) (0 ∷ 1 ∷ 3 ∷ [])
+    -- "Frames whose due clock lies before v go out before the bundle is judged": a shelf of nine
+    -- leaves room for one that is heard. (A repeat of one of them gets 13 before 16, so 17 alone shows this.)
+    ∷ says (crowded (lower-six ++ upper-three) (one (encode (alone 8 0)))) (0 ∷ 1 ∷ 5 ∷ [])
+    -- "at most n(δ + 3ε) frames": one more, in a shelf that meets every other clause
+    ∷ says (crowded (lower-six ++ (alone 8 0 ∷ upper-three)) silent) (2 ∷ 0 ∷ 0 ∷ [])
     -- mend 1: tables of another clock are replaced, and a sound shelf stays: A is still there. Mend, c, counts, the shelf's count
     ∷ says (mended (holding 3 1 (A ∷ []))) (1 ∷ 0 ∷ 0 ∷ 0 ∷ 1 ∷ 0 ∷ 1 ∷ [])
     -- mend 2: an unsound shelf is emptied, and sound tables keep their counts, one offset further down
