@@ -1,8 +1,9 @@
-/* A yard of several stations in one process, over the library: each station has a clock within the drift limit, the air loses,
- * delays and repeats frames and carries junk, and in the middle a power dip fills one station's memory with random bytes.
- * It prints each board's hand-outs, and of one station the words of what it hears. Then it checks of the messages sent after recovery
- * that every board shows each one that it took and that was due, none of them twice, and causes before effects, and that any two
- * boards show those that both show in one order.
+/* A yard of several stations in one process, over the library: each station has a clock within the drift limit, and a slow one is
+ * nudged forward by several ticks now and then; the air loses, delays and repeats frames and carries junk, and in the middle a
+ * power dip fills one station's memory with random bytes.
+ * It prints each board's hand-outs, and of one station the words of what it hears. Then it checks of the messages sent after
+ * recovery that every board shows each one that it took and that was due, in its first tick at or past the due clock, none of them
+ * twice, and causes before effects, and that any two boards show those that both show in one order.
  * Usage: host [SEED]. Exit status 0 where all holds. */
 #include <stdio.h>
 #include <stdlib.h>
@@ -10,7 +11,7 @@
 
 #include "yarngravel.h"
 
-enum { N = 4, EPSILON = 2, DELTA = 6, MODULUS = 61, TICKS = 400, DIP = 150, MESSAGES = 1024, GIVEN = 4096 };
+enum { N = 4, EPSILON = 3, DELTA = 6, MODULUS = 61, TICKS = 400, DIP = 150, MESSAGES = 1024, GIVEN = 4096 };
 enum { FRAME = YARNGRAVEL_FRAME(EPSILON), SHELF = YARNGRAVEL_SHELF(N, EPSILON, DELTA), JUNK = -1, TOLD = 0 };
 
 /* a set of messages, a bit for each */
@@ -27,6 +28,13 @@ struct message {
     struct set causes; /* what its sending could have known of */
 };
 
+/* a frame handed out */
+struct given {
+    int message; /* JUNK for a frame that nobody sent */
+    int last;    /* the station's true clock before the tick that handed it out */
+    int clock;   /* and in that tick */
+};
+
 struct station {
     int clock; /* the true clock */
     uint8_t tables[YARNGRAVEL_TABLES];
@@ -34,7 +42,7 @@ struct station {
     struct set taken; /* what the station took so far */
     struct set known; /* that, what it sent, and the causes of both */
     unsigned given_count;
-    int given[GIVEN]; /* the messages handed out, in order; JUNK for a frame that nobody sent */
+    struct given given[GIVEN]; /* what was handed out, in order */
 };
 
 /* what a station hears in a tick, and which message each entry is */
@@ -81,12 +89,16 @@ static void scramble(uint8_t *bytes, unsigned len) {
     for (unsigned i = 0; i < len; i++) bytes[i] = (uint8_t)draw(256);
 }
 
-/* a station may tick if no clock lags more than the drift limit behind its next one */
-static bool may_tick(int who) {
+/* how far a station may step so that no clock lags more than the drift limit behind it: never more than that limit */
+static int room(int who) {
+    int lowest = stations[who].clock;
     for (int k = 0; k < N; k++)
-        if (k != who && stations[who].clock + 1 - stations[k].clock > EPSILON) return false;
-    return true;
+        if (stations[k].clock < lowest) lowest = stations[k].clock;
+    return lowest + EPSILON - stations[who].clock;
 }
+
+/* The next step of a station that has some room: 1, or in one of four ticks, where there is room for it, a nudge of 2 or more. */
+static int step_in(int room) { return room > 1 && draw(4) == 0 ? 2 + (int)draw((uint32_t)room - 1) : 1; }
 
 static int largest_clock(void) {
     int largest = stations[0].clock;
@@ -106,12 +118,12 @@ static void put(struct bundle *b, int from, const uint8_t *bytes, unsigned len) 
 
 /* What the station hears at its next clock: of all messages that the delay limit still allows, its own too, about every second
  * one. So a message is heard again and again, three times as a rule, and by some stations never. */
-static void gather(int who, struct bundle *b, bool junk) {
+static void gather(int who, int next, struct bundle *b, bool junk) {
     b->bytes[0] = 0;
     b->len = 1;
     for (unsigned k = 0; k < message_count; k++) {
         const struct message *m = &messages[k];
-        int sender_clock = stations[m->sender].clock + (m->sender == who ? 1 : 0);
+        int sender_clock = m->sender == who ? next : stations[m->sender].clock;
         if (sender_clock <= m->sent_at + DELTA && draw(2) == 0) put(b, (int)k, m->bytes, m->len);
     }
     if (junk) {
@@ -153,7 +165,7 @@ static int message_of(const uint8_t *frame, unsigned len, const uint8_t *ticket,
 }
 
 /* the board shows the frames of a hand-out; message -1 is junk */
-static void show(int who, const uint8_t *frame, unsigned count) {
+static void show(int who, int last, const uint8_t *frame, unsigned count) {
     struct station *s = &stations[who];
     for (; count > 0; count--) {
         unsigned len = 7 + 2 * EPSILON + frame[6 + 2 * EPSILON];
@@ -163,7 +175,7 @@ static void show(int who, const uint8_t *frame, unsigned count) {
         if (s->given_count == GIVEN) fail("a board gave more than there is room for");
         int message = message_of(frame, len, frame + yarngravel_ticket_at(got), yarngravel_ticket_len(got));
         printf("board %d clock %d gives station %u message %d\n", who, s->clock, yarngravel_station(got), message);
-        s->given[s->given_count++] = message;
+        s->given[s->given_count++] = (struct given){message, last, s->clock};
         frame += len;
     }
 }
@@ -177,23 +189,25 @@ static void tell(int who, const struct bundle *b, const uint8_t *verdicts) {
     printf("board %d clock %d hears\n%.*s", who, stations[who].clock, (int)yarngravel_text_len(told), (const char *)text);
 }
 
-static void tick(int who, bool junk) {
+/* the station's clock steps to the next one */
+static void tick(int who, int next, bool junk) {
     static struct bundle heard;
     static uint8_t outgoing[FRAME], verdicts[YARNGRAVEL_VERDICTS], handout[SHELF];
     struct station *s = &stations[who];
-    gather(who, &heard, junk);
+    int last = s->clock;
+    gather(who, next, &heard, junk);
     bool send = draw(3) == 0 && message_count < MESSAGES;
     uint8_t ticket[2] = {(uint8_t)(message_count % 256), (uint8_t)(message_count / 256)};
-    uint64_t answer = yarngravel_tick(N, EPSILON, DELTA, MODULUS, (uint32_t)who, (uint32_t)((s->clock + 1) % MODULUS), s->tables,
+    uint64_t answer = yarngravel_tick(N, EPSILON, DELTA, MODULUS, (uint32_t)who, (uint32_t)(next % MODULUS), s->tables,
                                       s->shelf, SHELF, heard.bytes, heard.len, send, ticket, sizeof ticket, outgoing,
                                       sizeof outgoing, verdicts, sizeof verdicts, handout, sizeof handout);
     if (yarngravel_number(answer) != 0) fail("a tick was refused");
-    s->clock++;
+    s->clock = next;
     if (yarngravel_mend(answer) != 0) printf("board %d clock %d mend %u\n", who, s->clock, yarngravel_mend(answer));
     if (who == TOLD) tell(who, &heard, verdicts);
     learn(s, &heard, verdicts);
     if (send) keep(who, outgoing, yarngravel_sent(answer));
-    show(who, handout + 2, yarngravel_gave(answer));
+    show(who, last, handout + 2, yarngravel_gave(answer));
 }
 
 /* Lets the yard tick; the largest clock at the power dip. Junk is heard up to the last clock at which that is allowed. */
@@ -201,14 +215,15 @@ static int play(void) {
     int dip = -1;
     for (long step = 0; step < (long)TICKS * N * 4; step++) {
         int who = (int)draw(N);
-        if (stations[who].clock >= TICKS || !may_tick(who)) continue;
+        if (stations[who].clock >= TICKS || room(who) < 1) continue;
         if (dip < 0 && stations[who].clock >= DIP) {
             scramble(stations[who].tables, sizeof stations[who].tables);
             scramble(stations[who].shelf, sizeof stations[who].shelf);
             dip = largest_clock();
             printf("power dip at board %d, largest clock %d\n", who, dip);
         }
-        tick(who, dip < 0 || stations[who].clock + 1 <= dip + DELTA + EPSILON);
+        int next = stations[who].clock + step_in(room(who));
+        tick(who, next, dip < 0 || next <= dip + DELTA + EPSILON);
     }
     if (dip < 0) fail("there was no power dip");
     return dip;
@@ -218,7 +233,7 @@ static int play(void) {
 static void keep_covered(struct station *s, int from) {
     unsigned kept = 0;
     for (unsigned k = 0; k < s->given_count; k++)
-        if (s->given[k] != JUNK && messages[s->given[k]].sent_at >= from) s->given[kept++] = s->given[k];
+        if (s->given[k].message != JUNK && messages[s->given[k].message].sent_at >= from) s->given[kept++] = s->given[k];
     s->given_count = kept;
 }
 
@@ -228,7 +243,7 @@ static int due(const struct message *m) { return m->sent_at + m->bytes[5] + DELT
 /* the place of a message among those that a board gave before the place `end`, or -1 */
 static int place_of(const struct station *s, int message, unsigned end) {
     for (unsigned k = 0; k < end; k++)
-        if (s->given[k] == message) return (int)k;
+        if (s->given[k].message == message) return (int)k;
     return -1;
 }
 
@@ -236,10 +251,12 @@ static int place_of(const struct station *s, int message, unsigned end) {
 static unsigned check_board(const struct station *s) {
     unsigned pairs = 0;
     for (unsigned k = 0; k < s->given_count; k++) {
-        if (place_of(s, s->given[k], k) >= 0) fail("a covered message was handed out twice");
+        int message = s->given[k].message;
+        if (place_of(s, message, k) >= 0) fail("a covered message was handed out twice");
         for (unsigned j = 0; j < k; j++) {
-            if (has(&messages[s->given[j]].causes, s->given[k])) fail("an effect was handed out before its cause");
-            if (has(&messages[s->given[k]].causes, s->given[j])) pairs++;
+            int before = s->given[j].message;
+            if (has(&messages[before].causes, message)) fail("an effect was handed out before its cause");
+            if (has(&messages[message].causes, before)) pairs++;
         }
     }
     return pairs;
@@ -253,12 +270,24 @@ static void check_whole(const struct station *s, int from) {
             fail("a covered message was taken and not handed out");
 }
 
+/* How many messages a board shows past their due clock. Each comes in the first tick at or past it. */
+static unsigned check_times(const struct station *s) {
+    unsigned early = 0;
+    for (unsigned k = 0; k < s->given_count; k++) {
+        int at = due(&messages[s->given[k].message]);
+        if (at > s->given[k].clock) fail("a covered message was handed out before its due clock");
+        if (at <= s->given[k].last) fail("a covered message was not handed out at the first tick past its due clock");
+        if (at < s->given[k].clock) early++;
+    }
+    return early;
+}
+
 /* how many messages two boards both show; they come in one order */
 static unsigned check_two(const struct station *a, const struct station *b) {
     unsigned shared = 0;
     int last = -1;
     for (unsigned k = 0; k < a->given_count; k++) {
-        int there = place_of(b, a->given[k], b->given_count);
+        int there = place_of(b, a->given[k].message, b->given_count);
         if (there < 0) continue;
         if (there < last) fail("two boards disagree on the order");
         last = there;
@@ -268,7 +297,7 @@ static unsigned check_two(const struct station *a, const struct station *b) {
 }
 
 int main(int argc, char **argv) {
-    unsigned causes = 0, shared = 0;
+    unsigned causes = 0, shared = 0, early = 0;
     seed = argc > 1 ? strtoull(argv[1], NULL, 10) : 20261115;
     for (int k = 0; k < N; k++) start(&stations[k], (int)draw(EPSILON + 1));
     int from = play() + DELTA + 3 * EPSILON;
@@ -276,9 +305,11 @@ int main(int argc, char **argv) {
         keep_covered(&stations[a], from);
         check_whole(&stations[a], from);
         causes += check_board(&stations[a]);
+        early += check_times(&stations[a]);
         for (int b = 0; b < a; b++) shared += check_two(&stations[a], &stations[b]);
     }
-    if (shared < 100 || causes < 100) fail("too few covered messages to compare");
-    printf("boards agree: %u times two of them show one message, and %u times a cause before its effect\n", shared, causes);
+    if (shared < 100 || causes < 100 || early < 20) fail("too few covered messages to compare");
+    printf("boards agree: %u times two of them show one message, and %u times a cause before its effect; "
+           "%u times a message was due before the tick that shows it\n", shared, causes, early);
     return 0;
 }

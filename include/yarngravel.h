@@ -30,7 +30,7 @@ extern "C" {
  * Tables are r low, r high, c and 32 places for counts. The count at offset t, from -epsilon to epsilon - 1, is byte
  * 3 + epsilon + t; places past the 2 * epsilon counts are ignored, and come back 0 from an accepted tick and from the reader.
  * Fresh tables at a clock, for a station's start: r is that clock modulo B, byte 3 + epsilon is 1, all else 0.
- * A fresh shelf is zeros.
+ * After an accepted tick r is that tick's clock. A fresh shelf is zeros.
  */
 #define YARNGRAVEL_TABLES 35u
 #define YARNGRAVEL_TICKET 32u                              /* the longest ticket */
@@ -61,7 +61,8 @@ extern "C" {
 
 /* The fields of a tick's answer. A refusal is its number alone. */
 static inline unsigned yarngravel_number(uint64_t answer) { return (unsigned)(answer & 0xffu); }
-/* what had to be mended: 1 the tables, 2 the shelf, 3 both */
+/* what had to be mended: 1 the tables were not sound for this clock and were replaced, 2 the shelf was not sound and was emptied,
+   3 both */
 static inline unsigned yarngravel_mend(uint64_t answer) { return (unsigned)(answer >> 8 & 0xffu); }
 /* frames of the bundle that were taken */
 static inline unsigned yarngravel_taken(uint64_t answer) { return (unsigned)(answer >> 16 & 0xffu); }
@@ -82,10 +83,13 @@ static inline unsigned yarngravel_written(uint64_t answer) { return (unsigned)(a
 /* The length of the text of the words. */
 static inline unsigned yarngravel_text_len(uint64_t answer) { return (unsigned)(answer >> 8); }
 
-/* One tick at the clock (modulo B): judges the frames of the bundle, sends if asked to, and hands out what is due.
- *   clock     the station's clock modulo B; each accepted call is for the clock after the last one
- *   tables    in and out
- *   shelf     in and out, exactly YARNGRAVEL_SHELF bytes
+/* One tick at the clock (modulo B): judges the frames of the bundle, sends if asked to, and hands out what is due. A frame is due
+ * at its r + c + delta + epsilon; it is handed out in the station's first tick at or past that clock.
+ *   clock     the station's clock modulo B, 1 to epsilon past that of its last accepted call: 1, or more where the clock was moved
+ *             forward. A step of 0 or above epsilon replaces the tables
+ *   tables    in and out. Sound for this clock if their r lies 1 to epsilon before it and c and counts are possible; else replaced
+ *   shelf     in and out, exactly YARNGRAVEL_SHELF bytes. Sound only if every frame on it is due after r of the tables, or, where
+ *             these are replaced, at this clock or later; else emptied
  *   bundle    a one-byte count, then for each frame a one-byte length and its bytes; an empty bundle is one byte 0.
  *             No more than 255 frames fit: the others are lost, or go into the next tick's while the delay limit allows.
  *             Leave out what has more than 255 bytes: no frame has more than 71
@@ -94,7 +98,8 @@ static inline unsigned yarngravel_text_len(uint64_t answer) { return (unsigned)(
  *   outgoing  gets the frame to send; at least YARNGRAVEL_FRAME bytes
  *   verdicts  gets one byte for each frame of the bundle: 0 taken, or the number of the first check it fails; at least
  *             YARNGRAVEL_VERDICTS bytes, however many frames there are
- *   handout   gets a two-byte count (low byte first) and the frames, in delivery order; at least YARNGRAVEL_SHELF bytes
+ *   handout   gets a two-byte count (low byte first) and the frames, in delivery order: first those due before this clock, which
+ *             leave the shelf before the bundle is judged, then those due at it; at least YARNGRAVEL_SHELF bytes
  * Bytes beyond those written stay as they were.
  */
 uint64_t yarngravel_tick(uint32_t n, uint32_t epsilon, uint32_t delta, uint32_t modulus, uint32_t own, uint32_t clock,

@@ -30,7 +30,8 @@ SETTINGS = {**os.environ, "RT_JOBS": "1", "RT_CUT": "0"}
 FACT = (
     "as printed, the two types ", "as printed, the two sides ", "computed as far as they go, the two types ", "expected type `",
     "`omega`: the goal does not follow", "`omega`: the part `", "`search`: no proof of `", "give a proof of that as the last argument",
-    "`rw`: no occurrence of the path's left endpoint in the ", "list the missing equation",
+    "`rw`: no occurrence of the path's left endpoint in the ", "`rw`: no occurrence of the path's right endpoint in the ",
+    "list the missing equation",
 )
 # what says nothing of a fact: about what a proof rests on, and about names and fields that the changed code no longer has
 NO_FACT = ("` was not admitted", "` that can be named from here", "` has no field `", "` does not unfold here")

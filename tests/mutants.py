@@ -19,7 +19,7 @@ from edits import ROOT, Edit, controls_of, first_fact, run, summary, unknown_mes
 
 VIOLATIONS = ROOT / "tests" / "violations"
 # what a violation states; without an edit it has no proof, since the demands are proved
-STATED = re.compile(r"^violated : Demand(3|2Any|2Fresh|2Codec) → ⊥$", re.M)
+STATED = re.compile(r"^violated : Demand(3|2Any|2Fresh|2Ones|2Codec) → ⊥$", re.M)
 SAMPLES, UNEDITED = "model/proofs/Samples.antt", "violations/proofs/Unedited.antt"
 
 

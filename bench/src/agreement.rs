@@ -21,16 +21,18 @@ pub fn agree_on_random(count: usize) {
     let mut done = 0;
     while done < count {
         let setup = generate::setup(&mut rng);
-        let habits = Habits { noise: true, dips: rng.one_in(2), deafness: rng.range(1, 4) };
+        let (dips, nudges) = (rng.one_in(2), rng.one_in(2));
+        let habits = Habits { noise: true, dips, nudges, deafness: rng.range(1, 4) };
         let mut group = Group::fresh(&mut rng, setup, habits);
         for _ in 0..rng.range(1, 300) {
             let (node, case) = group.next_case(&mut rng);
             let mut wrong = case.clone();
             spoil::spoil(&mut rng, &mut wrong);
             agree(&wrong);
+            agree(&case.stepped(&mut rng));
             let (word, case) = agree(&case);
             group.settle(node, case, &abi::unpack_tick(word));
-            done += 2;
+            done += 3;
         }
     }
 }

@@ -17,8 +17,8 @@ const COUNTS: usize = 6;
 const WINDOW: usize = 39;
 const WIDEST: usize = 32;
 const MAX_PAYLOAD: usize = 32;
-/// Sums in the queue lie from δ + ε behind v to ε − 1 ahead: at most 96 of them, and one place for the end.
-const SUMS: usize = 97;
+/// Sums in the queue lie from δ + 2ε − 1 behind v to ε − 1 ahead: at most 111 of them, and one place for the end.
+const SUMS: usize = 112;
 
 /// 255, then 0, then 255, each 32 times: its parts are masks.
 static MASKS: [u8; 3 * WIDEST] = {
@@ -222,7 +222,7 @@ struct Group<F> {
 }
 
 /// What the order looks at: the sum, the ε counts from offset c down, here as one number and by the frame and c, the station and the
-/// reading. Sum and reading count from the least that a sound queue has.
+/// reading. Sum and reading count from the least that a sound queue can have at any step.
 #[derive(Clone, Copy)]
 pub struct Key<'a> {
     sum: usize,
@@ -255,13 +255,23 @@ struct Queue<F: Forms> {
     origins: F::Origins,
     /// Where the frames of each sum start; past the last sum, the end.
     starts: [u32; SUMS],
-    /// How many frames have the least sum: they are due.
+    /// How many frames are due before v, and how many at v.
+    early: usize,
     due: usize,
+    /// Where the delivery goes on behind the early frames.
+    delivered: usize,
 }
 
 impl<F: Forms> Queue<F> {
-    const EMPTY: Self =
-        Queue { count: 0, end: 2, origins: F::Origins::NONE, starts: [2; SUMS], due: 0 };
+    const EMPTY: Self = Queue {
+        count: 0,
+        end: 2,
+        origins: F::Origins::NONE,
+        starts: [2; SUMS],
+        early: 0,
+        due: 0,
+        delivered: 2,
+    };
 }
 
 /// The own timestamp while a tick is at work on it.
@@ -272,14 +282,17 @@ struct Local {
 
 fn accept<F: Forms>(call: &mut Call) -> u64 {
     let group = Group::<F>::of(call);
-    let (mut local, mut repair) = match group.is_sound_before(call.tables) {
-        true => (group.step(call.tables), 0),
-        false => (Local { c: 0, kn: [0; WIDEST] }, 1),
+    let (mut local, mut repair, least) = match group.sound_step(call.tables) {
+        Some(step) => (group.step(call.tables, step), 0, 1 - step as i32),
+        None => (Local { c: 0, kn: [0; WIDEST] }, 1, 0),
     };
     let mut queue = Queue::<F>::EMPTY;
-    if !group.walk(call.holdback, &mut queue) {
+    if !group.walk(call.holdback, least, &mut queue) {
         repair += 2;
         queue = Queue::EMPTY;
+    }
+    if queue.early > 0 {
+        group.release(call, &mut queue);
     }
     let taken = group.hear(call, &mut local, &mut queue);
     for i in 0..WIDEST {
@@ -288,7 +301,7 @@ fn accept<F: Forms>(call: &mut Call) -> u64 {
     put_tables(call, &local);
     let sent = if call.send { group.send(call) } else { 0 };
     group.deliver(call, &queue);
-    repair << 8 | taken << 16 | (sent as u64) << 24 | (queue.due as u64) << 32
+    repair << 8 | taken << 16 | (sent as u64) << 24 | ((queue.early + queue.due) as u64) << 32
 }
 
 fn put_tables(call: &mut Call, local: &Local) {
@@ -336,14 +349,16 @@ impl<F: Forms> Group<F> {
         counts[top] != 0 && self.within(counts, top + 1, self.n, 0)
     }
 
-    /// Are the tables sound for the new clock?
-    fn is_sound_before(&self, tables: &[u8; 35]) -> bool {
+    /// The step to the new clock, if the tables are sound for it.
+    fn sound_step(&self, tables: &[u8; 35]) -> Option<usize> {
         let r = i32::from(u16::from_le_bytes([tables[0], tables[1]]));
-        let next = if r + 1 == self.modulus { 0 } else { r + 1 };
-        r < self.modulus
-            && next == self.clock
+        let apart = self.clock - r;
+        let step = if apart < 0 { apart + self.modulus } else { apart };
+        let sound = r < self.modulus
+            && (1..=self.epsilon as i32).contains(&step)
             && self.is_sound(tables[2].into(), part(tables, 3))
-            && self.within(part(tables, 3), self.epsilon + 1, self.n, self.n - 1)
+            && self.within(part(tables, 3), self.epsilon + 1, self.n, self.n - 1);
+        sound.then_some(step as usize)
     }
 
     /// Is each count before a place at most one limit, and from there on at most another?
@@ -351,12 +366,12 @@ impl<F: Forms> Group<F> {
         F::Limits::hold(counts, self.width, place, before, after)
     }
 
-    fn step(&self, tables: &[u8; 35]) -> Local {
-        let mut kn = [0; WIDEST];
-        for i in 1..WIDEST {
-            kn[i - 1] = tables[3 + i] & !self.ignored[i];
+    fn step(&self, tables: &[u8; 35], step: usize) -> Local {
+        let mut placed = [0; 2 * WIDEST];
+        for i in 0..WIDEST {
+            placed[i] = tables[3 + i] & !self.ignored[i];
         }
-        Local { c: (i32::from(tables[2]) - 1).max(0), kn }
+        Local { c: (i32::from(tables[2]) - step as i32).max(0), kn: *part(&placed, step) }
     }
 
     /// Checks 10 to 12; 10 not of what is left over.
@@ -380,17 +395,23 @@ impl<F: Forms> Group<F> {
         7 + self.width + usize::from(w[COUNTS + self.width])
     }
 
-    /// The key of a sound frame that is not overdue.
+    /// The key of a sound frame that is due less than ε before v, or later: its sum is 0 where it is due ε − 1 before v.
     fn key<'w>(&self, w: &'w Window, ahead: i32) -> Key<'w> {
         let c = usize::from(w[5]);
-        let low = self.delta + 2 * self.epsilon;
+        let low = self.delta + 3 * self.epsilon - 2;
         let reading = (low as i32 + ahead) as usize;
+        let sum = reading + c + 1 - self.epsilon;
         let recent = u128::from_le_bytes(*part(w, COUNTS + c + 1)) << (128 - 8 * self.epsilon);
-        Key { sum: reading + c - self.epsilon, recent, window: w, c, station: w[1].into(), reading }
+        Key { sum, recent, window: w, c, station: w[1].into(), reading }
     }
 
-    /// Is the queue in the buffer sound? Its figures then.
-    fn walk(&self, buf: &[u8], queue: &mut Queue<F>) -> bool {
+    /// The sum in the key of a frame that is due at v.
+    fn due_now(&self) -> usize {
+        self.epsilon - 1
+    }
+
+    /// Is the queue in the buffer sound, with no due clock below the least? Its figures then.
+    fn walk(&self, buf: &[u8], least: i32, queue: &mut Queue<F>) -> bool {
         queue.count = usize::from(u16::from_le_bytes([buf[0], buf[1]]));
         if queue.count > self.depth() {
             return false;
@@ -398,12 +419,15 @@ impl<F: Forms> Group<F> {
         let (mut at, mut last, mut sums) = (2, FIRST, 0);
         for _ in 0..queue.count {
             let w = part(buf, at);
-            let Some(key) = self.next_key(w, &last, &mut queue.origins) else { return false };
+            let Some(key) = self.next_key(w, least, &last, &mut queue.origins) else {
+                return false;
+            };
             while sums <= key.sum {
                 queue.starts[sums] = at as u32;
                 sums += 1;
             }
-            queue.due += usize::from(key.sum == 0);
+            queue.early += usize::from(key.sum < self.due_now());
+            queue.due += usize::from(key.sum == self.due_now());
             at += self.frame_len(w);
             last = key;
         }
@@ -413,13 +437,19 @@ impl<F: Forms> Group<F> {
     }
 
     /// The key of the next frame of the walk, if the queue is sound so far; its origin is marked.
-    fn next_key<'w>(&self, w: &'w Window, last: &Key, origins: &mut F::Origins) -> Option<Key<'w>> {
+    fn next_key<'w>(
+        &self,
+        w: &'w Window,
+        least: i32,
+        last: &Key,
+        origins: &mut F::Origins,
+    ) -> Option<Key<'w>> {
         if self.check_frame(w) != 0 {
             return None;
         }
         let (ahead, c) = (self.near(r_of(w)), i32::from(w[5]));
         let due = ahead + c + (self.delta + self.epsilon) as i32;
-        if due < 0 || ahead + c >= self.epsilon as i32 {
+        if due < least || ahead + c >= self.epsilon as i32 {
             return None;
         }
         let key = self.key(w, ahead);
@@ -428,6 +458,20 @@ impl<F: Forms> Group<F> {
         }
         origins.mark(&key);
         Some(key)
+    }
+
+    /// Hands out the frames that are due before v; the others move to the front. The origins that leave stay marked: a frame of one
+    /// is too old to be heard.
+    fn release(&self, call: &mut Call, queue: &mut Queue<F>) {
+        let first = queue.starts[self.due_now()] as usize;
+        call.delivery[2..first].copy_from_slice(&call.holdback[2..first]);
+        call.holdback.copy_within(first..queue.end, 2);
+        for start in &mut queue.starts {
+            *start = (*start).max(first as u32) - (first as u32 - 2);
+        }
+        queue.delivered = first;
+        queue.end -= first - 2;
+        queue.count -= queue.early;
     }
 
     /// Judges the frames of the batch in turn; how many were taken.
@@ -511,7 +555,7 @@ impl<F: Forms> Group<F> {
         queue.origins.mark(key);
         queue.end += entry.len();
         queue.count += 1;
-        queue.due += usize::from(key.sum == 0);
+        queue.due += usize::from(key.sum == self.due_now());
     }
 
     /// c and each count become the larger of own and frame's.
@@ -542,12 +586,14 @@ impl<F: Forms> Group<F> {
         at + 1 + call.payload.len()
     }
 
-    /// Hands out the frames that are due; the others move to the front.
+    /// Hands out the frames that are due at v, behind the early ones; the others move to the front.
     fn deliver(&self, call: &mut Call, queue: &Queue<F>) {
-        let first = queue.starts[1] as usize;
-        call.delivery[..2].copy_from_slice(&(queue.due as u16).to_le_bytes());
+        let first = queue.starts[self.due_now() + 1] as usize;
+        let count = queue.early + queue.due;
+        call.delivery[..2].copy_from_slice(&(count as u16).to_le_bytes());
         if first > 2 {
-            call.delivery[2..first].copy_from_slice(&call.holdback[2..first]);
+            let at = queue.delivered;
+            call.delivery[at..at + first - 2].copy_from_slice(&call.holdback[2..first]);
             call.holdback.copy_within(first..queue.end, 2);
         }
         call.holdback[..2].copy_from_slice(&((queue.count - queue.due) as u16).to_le_bytes());

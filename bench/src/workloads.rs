@@ -4,12 +4,13 @@ use crate::yard::Yard;
 use oracle::generate::{frames, Prng, TickCase};
 use oracle::holdback::Holdback;
 use oracle::node::judge;
-use oracle::{batch, Setup};
+use oracle::{batch, Setup, Timestamp};
 
 /// Calls of each workload.
 const CALLS: i64 = 256;
 const LARGEST: Setup = Setup { n: 16, epsilon: 16, delta: 64, modulus: 65_535, own: 0 };
 const TYPICAL: Setup = Setup { n: 4, epsilon: 2, delta: 8, modulus: 65_535, own: 0 };
+const NUDGED: Setup = Setup { n: 6, epsilon: 4, delta: 12, modulus: 65_535, own: 0 };
 
 pub struct Workload {
     pub name: &'static str,
@@ -24,13 +25,30 @@ impl Workload {
     }
 }
 
-/// The five workloads of the table.
+/// The six workloads of the table.
 pub fn all() -> Vec<Workload> {
     let [empty, largest, flood] = on_shelf(true);
     let idle =
         Workload { name: "idle tick", cases: Yard::fresh(TYPICAL, 16).run(CALLS / TYPICAL.n, 0) };
     let typical = Workload { name: "typical yard", cases: steady(TYPICAL, 16, TYPICAL.n) };
-    vec![idle, typical, empty, largest, flood]
+    let nudged = Workload { name: "nudged yard", cases: nudged() };
+    vec![idle, typical, empty, largest, flood, nudged]
+}
+
+/// Calls of a yard whose clocks are nudged: each steps by 2 to ε and has frames to hand out that were due before its clock.
+fn nudged() -> Vec<TickCase> {
+    let mut yard = Yard::nudged(NUDGED, 16);
+    yard.run(2 * (NUDGED.delta + 4 * NUDGED.epsilon), NUDGED.n);
+    let cases = yard.run(CALLS, NUDGED.n).into_iter().filter(has_early);
+    cases.take(CALLS as usize).collect()
+}
+
+/// Has a call's shelf frames that are due before its clock?
+fn has_early(case: &TickCase) -> bool {
+    let tables = Timestamp::of_state(&case.setup, &case.state);
+    let step = tables.sound_step(&case.setup, case.clock).expect("sound tables");
+    let shelf = Holdback::decode(&case.setup, case.clock, 1 - step, &case.holdback);
+    !shelf.expect("a sound shelf").take_early(&case.setup).is_empty()
 }
 
 /// The largest yard, where all of it or only half has been sending: an empty tick, one that hears everybody, and a flood.
@@ -62,7 +80,8 @@ fn steady(setup: Setup, payload: usize, senders: i64) -> Vec<TickCase> {
 
 /// 255 frames that are all refused: random bytes, damaged frames, late, early and forged ones, repeats.
 fn junk(rng: &mut Prng, case: &TickCase) -> Vec<Vec<u8>> {
-    let shelf = Holdback::decode(&case.setup, case.clock, &case.holdback).expect("a sound shelf");
+    let shelf =
+        Holdback::decode(&case.setup, case.clock, 0, &case.holdback).expect("a sound shelf");
     let any = std::iter::repeat_with(|| frames::any(rng, &case.setup, case.clock));
     any.filter(|frame| judge(&case.setup, case.clock, &shelf, frame).is_err()).take(255).collect()
 }

@@ -1,5 +1,6 @@
 //! A yard in its steady state: its stations tick in turn, at clocks spread over the drift limit; every sender sends at each tick,
-//! and everybody hears each frame one to three ticks later.
+//! and everybody hears each frame one to three ticks later. Its ticks step by one, or all clocks are nudged: then those of a round
+//! step by 2 to ε.
 
 use oracle::generate::{Prng, TickCase};
 use oracle::timestamp::fresh;
@@ -9,7 +10,9 @@ pub struct Yard {
     setup: Setup,
     payload: usize,
     rng: Prng,
-    step: i64,
+    nudged: bool,
+    /// The clock of the slowest station.
+    slowest: i64,
     stations: Vec<Station>,
 }
 
@@ -30,14 +33,19 @@ impl Yard {
             coming: Default::default(),
         };
         let stations = (0..setup.n).map(station).collect();
-        Yard { setup, payload, rng: Prng::new(1), step: 0, stations }
+        Yard { setup, payload, rng: Prng::new(1), nudged: false, slowest: 0, stations }
+    }
+
+    /// The same, with nudged clocks. ε is at least 2, δ at least 3ε.
+    pub fn nudged(setup: Setup, payload: usize) -> Self {
+        Yard { nudged: true, ..Self::fresh(setup, payload) }
     }
 
     /// Lets all stations tick this often, the first `senders` of them sending; all their calls, as given.
-    pub fn run(&mut self, steps: i64, senders: i64) -> Vec<TickCase> {
+    pub fn run(&mut self, rounds: i64, senders: i64) -> Vec<TickCase> {
         let mut cases = Vec::new();
-        for _ in 0..steps {
-            self.step += 1;
+        for _ in 0..rounds {
+            self.slowest += if self.nudged { self.rng.range(2, self.setup.epsilon) } else { 1 };
             for k in 0..self.setup.n {
                 cases.push(self.tick(k, k < senders));
             }
@@ -47,7 +55,7 @@ impl Yard {
 
     /// One tick of a station; the call as it was given.
     fn tick(&mut self, k: i64, send: bool) -> TickCase {
-        let clock = self.step + lead(&self.setup, k);
+        let clock = self.slowest + lead(&self.setup, k);
         let setup = Setup { own: k, ..self.setup };
         let station = &mut self.stations[k as usize];
         station.coming.rotate_left(1);

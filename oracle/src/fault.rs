@@ -1,4 +1,4 @@
-//! Twelve small faults that can be planted in the oracle, to show that a comparison finds them.
+//! Eighteen small faults that can be planted in the oracle, to show that a comparison finds them.
 //! Without the feature `plant` nothing of this is left in the code.
 //!
 //!  1. the writer alone refuses a buffer of exactly the frame's length
@@ -13,9 +13,15 @@
 //! 10. replay lets an overlong trace pass
 //! 11. a frame's payload is read from one byte too early
 //! 12. the words say one tick more for check 13
+//! 13. a step of several ticks moves the counts by one offset only
+//! 14. a shelved frame due at the last clock passes as sound
+//! 15. frames due before v leave the queue only after the batch is judged
+//! 16. frames due before v are handed out behind those due at v
+//! 17. where the tables are replaced, a shelved frame due one before v passes as sound
+//! 18. a queue of one frame more than its count limit passes as sound
 
 /// How many faults there are.
-pub const COUNT: u8 = 12;
+pub const COUNT: u8 = 18;
 
 #[cfg(feature = "plant")]
 mod switch {

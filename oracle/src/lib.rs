@@ -1,7 +1,7 @@
 //! A second program for the group's nodes, written from the paper "Word between the stations"
-//! (01), the change requests to it (02) and the decided readings of both. It shares no code with the proved crates, so that the
-//! two can be compared. Numbers are signed here, and every reading of a clock is relative to
-//! the tick's clock v: 0 is v, 1 is one ahead, −1 one behind.
+//! (01), the change requests to it (02) and the decided readings of both. It shares no code with
+//! the proved crates, so that the two can be compared. Numbers are signed here, and every reading
+//! of a clock is relative to the tick's clock v: 0 is v, 1 is one ahead, −1 one behind.
 
 pub mod abi;
 pub mod batch;

@@ -1,6 +1,6 @@
 //! One node's tick.
 
-use crate::fault::skew;
+use crate::fault::{planted, skew};
 use crate::frame::{self, Frame};
 use crate::holdback::{self, Entry, Holdback};
 use crate::setup::{MAX_PAYLOAD, VERDICTS};
@@ -89,11 +89,12 @@ fn accepted(
 ) -> Answer {
     let setup = &call.setup;
     let held = buffers.holdback.to_vec();
-    let (mut local, state_repair) = enter(call, state);
-    let (mut holdback, holdback_repair) = match Holdback::decode(setup, call.clock, &held) {
+    let (mut local, state_repair, least) = enter(call, state);
+    let (mut holdback, holdback_repair) = match Holdback::decode(setup, call.clock, least, &held) {
         Some(holdback) => (holdback, 0),
         None => (Holdback::empty(), 2),
     };
+    let mut early = if planted(15) { Vec::new() } else { holdback.take_early(setup) };
     let mut taken = 0;
     for (entry, byte) in entries.iter().zip(buffers.verdicts.iter_mut()) {
         *byte = match hear(call, &mut local, &mut holdback, entry) {
@@ -102,6 +103,9 @@ fn accepted(
         };
         taken += u8::from(*byte == 0);
     }
+    if planted(15) {
+        early = holdback.take_early(setup);
+    }
     local.count_event(setup);
     *state = local.to_state(setup, call.clock);
     let outgoing = if call.send { send(call, state, buffers.outgoing) } else { 0 };
@@ -109,18 +113,18 @@ fn accepted(
         number: 0,
         repair: state_repair + holdback_repair,
         taken,
-        delivered: deliver(setup, &holdback, buffers),
+        delivered: deliver(setup, &early, &holdback, buffers),
         outgoing,
     }
 }
 
-/// Steps 1 and 2 for the clock state: the local timestamp at v, and the repair.
-fn enter(call: &Call, state: &ClockState) -> (LocalTimestamp, u8) {
+/// Steps 1 and 2 for the clock state: the local timestamp at v, the repair, and the least due
+/// clock of a sound queue, relative to v: one past r of sound tables, v where they are replaced.
+fn enter(call: &Call, state: &ClockState) -> (LocalTimestamp, u8, i64) {
     let before = Timestamp::of_state(&call.setup, state);
-    if before.is_sound_before(&call.setup, call.clock) {
-        (LocalTimestamp::step(&before), 0)
-    } else {
-        (LocalTimestamp::blank(), 1)
+    match before.sound_step(&call.setup, call.clock) {
+        Some(step) => (LocalTimestamp::step(&before, step), 0, 1 - step - skew(14)),
+        None => (LocalTimestamp::blank(), 1, -skew(17)),
     }
 }
 
@@ -164,11 +168,13 @@ fn send(call: &Call, state: &ClockState, outgoing: &mut [u8]) -> u8 {
     frame::put(call.setup.own, &timestamp, call.payload, outgoing) as u8
 }
 
-/// Step 6: writes what is due to the delivery, the rest back to the queue; how many are due.
-fn deliver(setup: &Setup, holdback: &Holdback, buffers: &mut Buffers) -> u16 {
+/// Step 6: writes what was due before v and what is due at v to the delivery, the rest back to
+/// the queue; how many are delivered.
+fn deliver(setup: &Setup, early: &[Entry], holdback: &Holdback, buffers: &mut Buffers) -> u16 {
     let (due, rest) = holdback.split_due(setup);
-    holdback::put(due, buffers.delivery);
+    let delivered = if planted(16) { [due, early].concat() } else { [early, due].concat() };
+    holdback::put(&delivered, buffers.delivery);
     let used = holdback::put(rest, buffers.holdback);
     buffers.holdback[used + skew(9) as usize..].fill(0);
-    due.len() as u16
+    delivered.len() as u16
 }

@@ -1,6 +1,6 @@
 //! Timestamps (01's stamps) and the local one of a node (01's tables).
 
-use crate::fault::skew;
+use crate::fault::{planted, skew};
 use crate::Setup;
 
 /// The most counts a timestamp can have.
@@ -67,12 +67,22 @@ impl<'a> Timestamp<'a> {
             && all_at_most(self.counts_from(self.c + 1), 0)
     }
 
-    /// Are the tables sound for a new clock v?
-    pub fn is_sound_before(&self, setup: &Setup, v: i64) -> bool {
+    /// How far a new clock v lies past r, modulo B.
+    pub fn step_to(&self, setup: &Setup, v: i64) -> i64 {
+        (v - self.r).rem_euclid(setup.modulus)
+    }
+
+    /// Are the tables sound for a clock that is 1 to ε past r?
+    pub fn are_sound_tables(&self, setup: &Setup) -> bool {
         self.is_sound(setup)
             && self.r < setup.modulus
-            && (self.r + 1) % setup.modulus == v
             && all_at_most(self.counts_from(1), setup.n - 1 + skew(6))
+    }
+
+    /// The step to a new clock v, from 1 to ε; none if the tables are unsound for v.
+    pub fn sound_step(&self, setup: &Setup, v: i64) -> Option<i64> {
+        let step = self.step_to(setup, v);
+        (self.are_sound_tables(setup) && (1..=setup.epsilon).contains(&step)).then_some(step)
     }
 }
 
@@ -101,11 +111,12 @@ impl LocalTimestamp {
         LocalTimestamp { c: 0, kn: [0; MAX_WIDTH] }
     }
 
-    /// Sound tables moved to the next clock: c drops by one, counts move one offset down.
-    pub fn step(before: &Timestamp) -> Self {
+    /// Sound tables moved to a new clock: c drops by the step, counts move down by it.
+    pub fn step(before: &Timestamp, step: i64) -> Self {
         let mut local = Self::blank();
-        local.c = (before.c - 1 + skew(7)).max(0);
-        local.kn[..before.kn.len() - 1].copy_from_slice(&before.kn[1..]);
+        local.c = if planted(7) { before.c } else { (before.c - step).max(0) };
+        let offsets = if planted(13) { 1 } else { step as usize };
+        local.kn[..before.kn.len() - offsets].copy_from_slice(&before.kn[offsets..]);
         local
     }
 

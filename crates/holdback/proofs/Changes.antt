@@ -7,7 +7,7 @@ use mathlib.Core.Path.{_≡_, refl, sym, ap, ap₂, _∙_}
 use mathlib.Core.Bool.{true}
 use mathlib.Core.List.{List, [], _∷_, _++_, append-assoc, append-nil}
 use lib.ListN.{length, take, drop, replicate, length-append, length-drop, length-replicate, take-append-drop, drop-of-length-le}
-use lib.Seq.{drop-drop, length-take-le, take-at, drop-at}
+use lib.Seq.{drop-drop, length-take-le, take-all, take-at, drop-at}
 use Rattle.laws.specs.Lists.{tab, every, joined, overlay, padded, insertAt}
 use Rattle.laws.proofs.Lists.{length-tab, take-tab, joined-append, joined-insertAt, length-insertAt}
 use Rattle.splice.specs.Bytes.{pasted, part, cleared, inserted, cutOut, zeros}
@@ -73,6 +73,21 @@ pasted-front : (d s : List ℕ) → pasted d 0 s ≡ s ++ drop (length s) d
 unfolding pasted
 pasted-front d s = rw (zero-add (length s))
 
+-- the frames of a queue behind its count, and where they end
+given-behind : (epsilon : ℕ) (d : List ℕ) → Pieces epsilon d (twoAt d 0) → drop 2 d ≡ joined encode (held epsilon d) ++ drop (frameStart epsilon d (twoAt d 0)) d
+unfolding twoBytes joined
+given-behind epsilon d g =
+    ap (drop 2) (g .split)
+    ∙ ap₂ (λ (a b : List Frame). joined encode a ++ (joined encode b ++ drop (frameStart epsilon d (twoAt d 0)) d))
+    (take-all (twoAt d 0) (held epsilon d) (omega (arith, length-held epsilon d))) (drop-of-length-le (held epsilon d) all)
+  where
+    all : length (held epsilon d) ≤ twoAt d 0
+    all = omega (arith, length-held epsilon d)
+
+given-ends : (epsilon : ℕ) (d : List ℕ) → Pieces epsilon d (twoAt d 0) → frameStart epsilon d (twoAt d 0) ≡ 2 + length (joined encode (held epsilon d))
+given-ends epsilon d g =
+    g .front ∙ ap (λ (l : List Frame). 2 + length (joined encode l)) (take-all (twoAt d 0) (held epsilon d) (omega (arith, length-held epsilon d)))
+
 -- ---- placing
 
 -- src put in between x and y, and the count written anew
@@ -133,18 +148,33 @@ module _ (epsilon : ℕ) (s : List ℕ) (k : ℕ) (p : Pieces epsilon s k) where
       ∙ ap (take n) (drop-at (twoBytes (twoAt s 0) ++ first) (others ++ drop end s) (frameStart epsilon s k) (omega (arith, p .front)))
       ∙ take-at others (drop end s) n (omega (arith, p .back))
 
-  -- written to the delivery
-  delivery-made : (d l : List ℕ) → k ≤ twoAt s 0
-      → l ≡ pasted (pasted d 0 (twoBytes k)) 2 (take (frameStart epsilon s k - 2) (drop 2 s))
-      → l ≡ overlay (encodeFrames (take k q)) d
+  -- written to the delivery, behind the frames that it has
+  delivery-made : (d l : List ℕ) → Pieces epsilon d (twoAt d 0) → k ≤ twoAt s 0
+      → l ≡ pasted (pasted d 0 (twoBytes (twoAt d 0 + k))) (frameStart epsilon d (twoAt d 0)) (take (frameStart epsilon s k - 2) (drop 2 s))
+      → l ≡ overlay (encodeFrames (held epsilon d ++ take k q)) d
   unfolding overlay encodeFrames
-  delivery-made d l h made =
-      let count : length (take k q) ≡ k = length-take-le k q (omega (arith, length-held epsilon s)) in
+  delivery-made d l g h made =
+      let n : ℕ = twoAt d 0 in
+      let given : List ℕ = joined encode (held epsilon d) in
+      let stop : ℕ = frameStart epsilon d n in
+      let c : List ℕ = twoBytes (n + k) in
+      let two : length c ≡ 2 = omega (arith, two-long (n + k)) in
+      let ends : stop ≡ length (c ++ given) = omega (arith, given-ends epsilon d g, length-append c given, two-long (n + k)) in
+      let more : pasted d 0 c ≡ pasted d 0 (c ++ given) =
+      pasted-front d c
+      ∙ ap (λ (r : List ℕ). c ++ r) (ap (λ (m : ℕ). drop m d) two ∙ given-behind epsilon d g)
+      ∙ sym (append-assoc c given (drop stop d))
+      ∙ ap (λ (m : ℕ). (c ++ given) ++ drop m d) ends
+      ∙ sym (pasted-front d (c ++ given)) in
+      let count : length (held epsilon d ++ take k q) ≡ n + k =
+      length-append (held epsilon d) (take k q) ∙ ap₂ _+_ (length-held epsilon d) (length-take-le k q (omega (arith, length-held epsilon s))) in
+      let whole : (c ++ given) ++ first ≡ encodeFrames (held epsilon d ++ take k q) =
+      append-assoc c given first ∙ sym (ap₂ (λ (m : ℕ) (r : List ℕ). twoBytes m ++ r) count (joined-append encode (held epsilon d) (take k q))) in
       made
-      ∙ ap (pasted (pasted d 0 (twoBytes k)) 2) (first-bytes (frameStart epsilon s k - 2) refl)
-      ∙ pasted-right d 0 (twoBytes k) 2 (two-long k) first (omega arith)
-      ∙ pasted-front d (twoBytes k ++ first)
-      ∙ ap (λ (n : ℕ). (twoBytes n ++ first) ++ drop (length (twoBytes n ++ first)) d) (sym count)
+      ∙ ap₂ (λ (a b : List ℕ). pasted a stop b) more (first-bytes (frameStart epsilon s k - 2) refl)
+      ∙ pasted-right d 0 (c ++ given) stop (ends ∙ sym (zero-add (length (c ++ given)))) first (omega arith)
+      ∙ pasted-front d ((c ++ given) ++ first)
+      ∙ ap (λ (r : List ℕ). r ++ drop (length r) d) whole
 
   -- the others moved to the front, zeros behind them
   cut-made : (l : List ℕ) → k ≤ twoAt s 0 → 2 ≤ length s
@@ -214,12 +244,17 @@ module _ {epsilon : ℕ} {s : List ℕ} {count stop index at : ℕ} (known : Spa
       ∙ ap₂ (λ (r : List ℕ) (n : ℕ). pasted r 0 (twoBytes (n + 1)))
       (moved ∙ ap₂ (λ (n m : ℕ). inserted s n m frame) stop-is (known .starts)) (known .count-is))
 
-  pub prefix-written : (d a l : List ℕ) → a ≡ pasted d 0 (twoBytes index) → l ≡ pasted a 2 (take (at - 2) (drop 2 s))
-      → l ≡ overlay (encodeFrames (take index (held epsilon s))) d
+  pub prefix-appended : {before stop′ : ℕ} (d a l : List ℕ) → Spans epsilon d before stop′ before stop′ → Bytes d
+      → a ≡ pasted d 0 (twoBytes (before + index)) → l ≡ pasted a stop′ (take (at - 2) (drop 2 s))
+      → l ≡ overlay (encodeFrames (held epsilon d ++ take index (held epsilon s))) d
   unfolding twoBytes
-  prefix-written d a l count-is copied =
-      delivery-made epsilon s index spans-pieces d l index-in
-      (copied ∙ ap₂ (λ (r : List ℕ) (n : ℕ). pasted r 2 (take (n - 2) (drop 2 s))) count-is (known .starts))
+  prefix-appended d a l given clean count-is copied =
+      delivery-made epsilon s index spans-pieces d l
+      (pieces epsilon d clean (given .two) (formed-frames epsilon d (given .formed)) (twoAt d 0) (omega arith)) index-in
+      (copied
+      ∙ ap₂ (λ (r : List ℕ) (n : ℕ). pasted r n (take (at - 2) (drop 2 s)))
+      (count-is ∙ ap (λ (n : ℕ). pasted d 0 (twoBytes (n + index))) (given .count-is)) (given .ends ∙ ap (frameStart epsilon d) (given .count-is))
+      ∙ ap (λ (n : ℕ). pasted (pasted d 0 (twoBytes (twoAt d 0 + index))) (frameStart epsilon d (twoAt d 0)) (take (n - 2) (drop 2 s))) (known .starts))
 
   pub prefix-cut : (a b l : List ℕ) → a ≡ cutOut s stop 2 (at - 2) → b ≡ cleared a stop (length s)
       → l ≡ pasted b 0 (twoBytes (count - index)) → l ≡ encodeHoldback (length s) (drop index (held epsilon s))

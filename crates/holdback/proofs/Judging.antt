@@ -73,51 +73,51 @@ module _ {A : Type 0} where
 -- ---- one frame
 
 -- what is asked of a frame alone
-pub record Fitting (s : Setup) (v : ℕ) (bytes : List ℕ) : Type 0 where
+pub record Fitting (s : Setup) (v least : ℕ) (bytes : List ℕ) : Type 0 where
   pub passed : passes s bytes ≡ true
   pub early : notEarly s v (decode (s .epsilon) bytes) ≡ true
-  pub overdue : notOverdue s v (decode (s .epsilon) bytes) ≡ true
+  pub overdue : notOverdue s v least (decode (s .epsilon) bytes) ≡ true
 
-pub fitting : (s : Setup) (v : ℕ) (bytes : List ℕ) → fits s v bytes ≡ true → Fitting s v bytes
+pub fitting : (s : Setup) (v least : ℕ) (bytes : List ℕ) → fits s v least bytes ≡ true → Fitting s v least bytes
 unfolding fits
-fitting s v bytes h =
+fitting s v least bytes h =
     let f = decode (s .epsilon) bytes in
-    let t = and-right (passes s bytes) (notEarly s v f && notOverdue s v f) h in
+    let t = and-right (passes s bytes) (notEarly s v f && notOverdue s v least f) h in
     record {
-      passed = and-left (passes s bytes) (notEarly s v f && notOverdue s v f) h;
-      early = and-left (notEarly s v f) (notOverdue s v f) t;
-      overdue = and-right (notEarly s v f) (notOverdue s v f) t;
+      passed = and-left (passes s bytes) (notEarly s v f && notOverdue s v least f) h;
+      early = and-left (notEarly s v f) (notOverdue s v least f) t;
+      overdue = and-right (notEarly s v f) (notOverdue s v least f) t;
     }
 
 -- ---- the queue
 
-module _ (s : Setup) (v : ℕ) (b : List ℕ) where
+module _ (s : Setup) (v least : ℕ) (b : List ℕ) where
   abbrev frame : ℕ → Frame
   frame = frameAt (s .epsilon) b
 
-  frame-parts : (k : ℕ) → frameSound s v b k ≡ true → (fits s v (bytesAt (s .epsilon) b k) ≡ true) × (follows s v b k ≡ true) × (isNew s b k ≡ true)
+  frame-parts : (k : ℕ) → frameSound s v least b k ≡ true → (fits s v least (bytesAt (s .epsilon) b k) ≡ true) × (follows s v b k ≡ true) × (isNew s b k ≡ true)
   unfolding frameSound
   frame-parts k h =
-      let t = and-right (fits s v (bytesAt (s .epsilon) b k)) (follows s v b k && isNew s b k) h in (
-        and-left (fits s v (bytesAt (s .epsilon) b k)) (follows s v b k && isNew s b k) h,
+      let t = and-right (fits s v least (bytesAt (s .epsilon) b k)) (follows s v b k && isNew s b k) h in (
+        and-left (fits s v least (bytesAt (s .epsilon) b k)) (follows s v b k && isNew s b k) h,
         and-left (follows s v b k) (isNew s b k) t,
         and-right (follows s v b k) (isNew s b k) t,
       )
 
-  pub frame-fits : (k : ℕ) → frameSound s v b k ≡ true → fits s v (bytesAt (s .epsilon) b k) ≡ true
+  pub frame-fits : (k : ℕ) → frameSound s v least b k ≡ true → fits s v least (bytesAt (s .epsilon) b k) ≡ true
   frame-fits k h = frame-parts k h .0
 
-  pub frame-follows : (k : ℕ) → frameSound s v b k ≡ true → follows s v b k ≡ true
+  pub frame-follows : (k : ℕ) → frameSound s v least b k ≡ true → follows s v b k ≡ true
   frame-follows k h = frame-parts k h .1
 
-  pub frame-new : (k : ℕ) → frameSound s v b k ≡ true → isNew s b k ≡ true
+  pub frame-new : (k : ℕ) → frameSound s v least b k ≡ true → isNew s b k ≡ true
   frame-new k h = frame-parts k h .2
 
-  fit : (k : ℕ) → frameSound s v b k ≡ true → Fitting s v (bytesAt (s .epsilon) b k)
-  fit k h = fitting s v (bytesAt (s .epsilon) b k) (frame-fits k h)
+  fit : (k : ℕ) → frameSound s v least b k ≡ true → Fitting s v least (bytesAt (s .epsilon) b k)
+  fit k h = fitting s v least (bytesAt (s .epsilon) b k) (frame-fits k h)
 
   -- enough that the count is in its bound and each frame is sound
-  pub sound-by : twoAt b 0 ≤ depth (s .n) (s .epsilon) (s .delta) → ((k : ℕ) → k < twoAt b 0 → frameSound s v b k ≡ true) → soundHoldback s v b ≡ true
+  pub sound-by : twoAt b 0 ≤ depth (s .n) (s .epsilon) (s .delta) → ((k : ℕ) → k < twoAt b 0 → frameSound s v least b k ≡ true) → soundHoldback s v least b ≡ true
   unfolding soundHoldback follows isNew frameAt
   sound-by few each =
       let n : ℕ = twoAt b 0 in
@@ -131,14 +131,14 @@ module _ (s : Setup) (v : ℕ) (b : List ℕ) where
       origin-sym (frame i) (frame j)
       ∙ any-tab-at (sameOrigin (frame j)) j frame (false-of-not (any (sameOrigin (frame j)) (tab j frame)) (frame-new j (each j l))) i h))
       (and-intro (every-tab (notEarly s v) n frame (λ k h. fit k (each k h) .early))
-      (every-tab (notOverdue s v) n frame (λ k h. fit k (each k h) .overdue))))))
+      (every-tab (notOverdue s v least) n frame (λ k h. fit k (each k h) .overdue))))))
 
-  module _ (h : soundHoldback s v b ≡ true) where
+  module _ (h : soundHoldback s v least b ≡ true) where
     abbrev rest : Bool
     rest =
         every (passes s) (heldBytes (s .epsilon) b)
         && (chained (before s v) (held (s .epsilon) b) && (apart sameOrigin (held (s .epsilon) b)
-        && (every (notEarly s v) (held (s .epsilon) b) && every (notOverdue s v) (held (s .epsilon) b))))
+        && (every (notEarly s v) (held (s .epsilon) b) && every (notOverdue s v least) (held (s .epsilon) b))))
 
     pub sound-few : twoAt b 0 ≤ depth (s .n) (s .epsilon) (s .delta)
     unfolding soundHoldback
@@ -150,7 +150,7 @@ module _ (s : Setup) (v : ℕ) (b : List ℕ) where
     sound-passes = and-left _ _ (and-right (leb (twoAt b 0) (depth (s .n) (s .epsilon) (s .delta))) rest h)
 
     rest-2 : (chained (before s v) (held (s .epsilon) b) && (apart sameOrigin (held (s .epsilon) b)
-        && (every (notEarly s v) (held (s .epsilon) b) && every (notOverdue s v) (held (s .epsilon) b)))) ≡ true
+        && (every (notEarly s v) (held (s .epsilon) b) && every (notOverdue s v least) (held (s .epsilon) b)))) ≡ true
     unfolding soundHoldback
     rest-2 =
         and-right (every (passes s) (heldBytes (s .epsilon) b)) _ (and-right (leb (twoAt b 0) (depth (s .n) (s .epsilon) (s .delta))) rest h)
@@ -159,19 +159,19 @@ module _ (s : Setup) (v : ℕ) (b : List ℕ) where
     sound-ordered = and-left _ _ rest-2
 
     rest-3 : (apart sameOrigin (held (s .epsilon) b)
-        && (every (notEarly s v) (held (s .epsilon) b) && every (notOverdue s v) (held (s .epsilon) b))) ≡ true
+        && (every (notEarly s v) (held (s .epsilon) b) && every (notOverdue s v least) (held (s .epsilon) b))) ≡ true
     rest-3 = and-right (chained (before s v) (held (s .epsilon) b)) _ rest-2
 
-    sound-single : apart sameOrigin (held (s .epsilon) b) ≡ true
+    pub sound-single : apart sameOrigin (held (s .epsilon) b) ≡ true
     sound-single = and-left _ _ rest-3
 
-    rest-4 : (every (notEarly s v) (held (s .epsilon) b) && every (notOverdue s v) (held (s .epsilon) b)) ≡ true
+    rest-4 : (every (notEarly s v) (held (s .epsilon) b) && every (notOverdue s v least) (held (s .epsilon) b)) ≡ true
     rest-4 = and-right (apart sameOrigin (held (s .epsilon) b)) _ rest-3
 
     sound-early : every (notEarly s v) (held (s .epsilon) b) ≡ true
     sound-early = and-left _ _ rest-4
 
-    pub sound-overdue : every (notOverdue s v) (held (s .epsilon) b) ≡ true
+    pub sound-overdue : every (notOverdue s v least) (held (s .epsilon) b) ≡ true
     sound-overdue = and-right (every (notEarly s v) (held (s .epsilon) b)) _ rest-4
 
     -- each frame of a sound queue is sound
@@ -190,17 +190,17 @@ module _ (s : Setup) (v : ℕ) (b : List ℕ) where
         origin-sym (frame k) (frame i)
         ∙ apart-tab-at sameOrigin (twoAt b 0) frame (rw (held-tab (s .epsilon) b) at sound-single) i k m l))
 
-    fits-at : (k : ℕ) → k < twoAt b 0 → fits s v (bytesAt (s .epsilon) b k) ≡ true
+    fits-at : (k : ℕ) → k < twoAt b 0 → fits s v least (bytesAt (s .epsilon) b k) ≡ true
     unfolding fits frameAt
     fits-at k l =
         and-intro (every-tab-at (passes s) (twoAt b 0) (bytesAt (s .epsilon) b) (rw (heldBytes-tab (s .epsilon) b) at sound-passes) k l)
         (and-intro (every-tab-at (notEarly s v) (twoAt b 0) frame (rw (held-tab (s .epsilon) b) at sound-early) k l)
-        (every-tab-at (notOverdue s v) (twoAt b 0) frame (rw (held-tab (s .epsilon) b) at sound-overdue) k l))
+        (every-tab-at (notOverdue s v least) (twoAt b 0) frame (rw (held-tab (s .epsilon) b) at sound-overdue) k l))
 
-    pub sound-frames : (k : ℕ) → k < twoAt b 0 → frameSound s v b k ≡ true
+    pub sound-frames : (k : ℕ) → k < twoAt b 0 → frameSound s v least b k ≡ true
     unfolding frameSound
     sound-frames k l = and-intro (fits-at k l) (and-intro (follows-at k l) (new-at k l))
 
   -- each frame of the first k is well-formed
-  pub sound-formed : (k : ℕ) → ((i : ℕ) → i < k → frameSound s v b i ≡ true) → FormedUpTo (s .epsilon) b k
+  pub sound-formed : (k : ℕ) → ((i : ℕ) → i < k → frameSound s v least b i ≡ true) → FormedUpTo (s .epsilon) b k
   sound-formed k each i l = passing s (bytesAt (s .epsilon) b i) (fit i (each i l) .passed) .well

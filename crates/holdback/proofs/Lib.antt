@@ -16,3 +16,5 @@ pub mod Started
 pub mod Testing
 pub mod Walks
 pub mod Cut
+-- What is due before v, handed out.
+pub mod Releasing

@@ -7,7 +7,7 @@ use mathlib.Core.Path.{_≡_, refl, sym, ap, _∙_}
 use mathlib.Core.Bool.{true}
 use mathlib.Core.List.{List, [], _∷_, _++_, append-assoc, append-nil, List·Memᴰ}
 use lib.ListN.{length, take, drop, getD, length-append, take-append-drop}
-use lib.Seq.{take-suc, split-at, drop-at}
+use lib.Seq.{take-length, take-suc, split-at, drop-at}
 use Rattle.laws.specs.Lists.{joined, overlay, insertAt}
 use Rattle.laws.proofs.Lists.{joined-append, joined-insertAt, length-insertAt, mem-getD}
 use Rattle.model.specs.Setup.{width}
@@ -48,7 +48,7 @@ module _ (epsilon : ℕ) (queue : List Frame) (rest : List ℕ) (wide : Wide eps
       ∙ ap (frameEnd epsilon) (drop-at (count ++ x) (encode f ++ (y ++ rest)) (frameStart epsilon bytes k) (length-append count x ∙ sym e))
       ∙ frame-end epsilon f (y ++ rest) (wide f (mem-getD queue k d h))
 
-  written-start : (k : ℕ) → k ≤ length queue → frameStart epsilon bytes k ≡ 2 + length (joined encode (take k queue))
+  pub written-start : (k : ℕ) → k ≤ length queue → frameStart epsilon bytes k ≡ 2 + length (joined encode (take k queue))
   unfolding joined
   written-start zero h = start-zero epsilon bytes
   written-start (suc k) h =
@@ -61,6 +61,13 @@ module _ (epsilon : ℕ) (queue : List Frame) (rest : List ℕ) (wide : Wide eps
       ∙ ap length (joined-append encode (take k queue) (f ∷ []) ∙ ap (λ (l : List ℕ). x ++ l) (append-nil (encode f)))
       ∙ length-append x (encode f) in
       omega (arith, start-suc epsilon bytes k, written-end k h d e)
+
+  -- all of them
+  pub written-whole : frameStart epsilon bytes (length queue) ≡ length (encodeFrames queue)
+  unfolding encodeFrames twoBytes
+  written-whole =
+      written-start (length queue) (omega arith) ∙ ap (λ (l : List Frame). 2 + length (joined encode l)) (take-length queue)
+      ∙ (let e : 2 + length (joined encode queue) ≡ suc (suc (length (joined encode queue))) = omega arith in e)
 
 -- ---- the first i of a list with one element more
 

@@ -19,15 +19,15 @@ use Rattle.holdback.proofs.Frames.{start-zero, start-inside, start-with
 use Rattle.holdback.proofs.Judging.{fitting, frame-fits, sound-frames, sound-formed}
 
 -- it has come to frame i, which starts at `at`, and the test holds of every frame before it
-pub record Led (p : Frame → Bool) (s : Setup) (v : ℕ) (b : List ℕ) (count i at : ℕ) : Type 0 where
-  pub sound : soundHoldback s v b ≡ true
+pub record Led (p : Frame → Bool) (s : Setup) (v least : ℕ) (b : List ℕ) (count i at : ℕ) : Type 0 where
+  pub sound : soundHoldback s v least b ≡ true
   pub two : 2 ≤ length b
   pub count-is : count ≡ twoAt b 0
   pub starts : at ≡ frameStart (s .epsilon) b i
   pub most : i ≤ count
   pub ahead : (k : ℕ) → k < i → p (frameAt (s .epsilon) b k) ≡ true
 
-pub led-starts : {p : Frame → Bool} {s : Setup} {v : ℕ} {b : List ℕ} {count : ℕ} → (soundHoldback s v b ≡ true) × ((2 ≤ length b) × (count ≡ twoAt b 0)) → Led p s v b count 0 2
+pub led-starts : {p : Frame → Bool} {s : Setup} {v least : ℕ} {b : List ℕ} {count : ℕ} → (soundHoldback s v least b ≡ true) × ((2 ≤ length b) × (count ≡ twoAt b 0)) → Led p s v least b count 0 2
 led-starts {s} {b} q =
     record {
       sound = q .0;
@@ -38,7 +38,7 @@ led-starts {s} {b} q =
       ahead = λ k h. absurd (not-suc-le-zero h);
     }
 
-module _ {p : Frame → Bool} {s : Setup} {v : ℕ} {b : List ℕ} {count i at : ℕ} (led : Led p s v b count i at) where
+module _ {p : Frame → Bool} {s : Setup} {v least : ℕ} {b : List ℕ} {count i at : ℕ} (led : Led p s v least b count i at) where
   stands : (i < count → p (frameAt (s .epsilon) b i) ≡ false) → Stands (s .epsilon) b (leading p (held (s .epsilon) b)) i at
   stands last =
       let le : i ≤ twoAt b 0 = omega (arith, led .most, led .count-is) in
@@ -51,7 +51,7 @@ module _ {p : Frame → Bool} {s : Setup} {v : ℕ} {b : List ℕ} {count i at :
   -- one turn
   module _ (more : i < count) where
     formed : FormedUpTo (s .epsilon) b (twoAt b 0)
-    formed = sound-formed s v b (twoAt b 0) (λ k l. sound-frames s v b (led .sound) k l)
+    formed = sound-formed s v least b (twoAt b 0) (λ k l. sound-frames s v least b (led .sound) k l)
 
     pub led-inside : at ≤ length b
     led-inside = rw (led .starts) (start-within (s .epsilon) b i (led .two) (λ k h. formed k (omega (arith, led .count-is))))
@@ -69,7 +69,12 @@ module _ {p : Frame → Bool} {s : Setup} {v : ℕ} {b : List ℕ} {count i at :
       pub led-passes : passes s (take (at + size - at) (drop at b)) ≡ true
       led-passes =
           let l : i < twoAt b 0 = omega (arith, led .count-is) in
-          ap (passes s) part ∙ fitting s v (bytesAt (s .epsilon) b i) (frame-fits s v b i (sound-frames s v b (led .sound) i l)) .passed
+          ap (passes s) part ∙ fitting s v least (bytesAt (s .epsilon) b i) (frame-fits s v least b i (sound-frames s v least b (led .sound) i l)) .passed
+
+      -- what its bytes hold
+      pub led-frame : decode (s .epsilon) (take (at + size - at) (drop at b)) ≡ frameAt (s .epsilon) b i
+      unfolding frameAt
+      led-frame = ap (decode (s .epsilon)) part
 
       -- a test of its bytes
       led-test : (q : Frame → Bool) {t : Bool} → t ≡ q (decode (s .epsilon) (take (at + size - at) (drop at b))) → t ≡ q (frameAt (s .epsilon) b i)
@@ -84,7 +89,7 @@ module _ {p : Frame → Bool} {s : Setup} {v : ℕ} {b : List ℕ} {count i at :
         pub led-stops : not t ≡ true → Stands (s .epsilon) b (leading p (held (s .epsilon) b)) i at
         led-stops n = stands (λ _. sym test-is ∙ false-of-not t n)
 
-        pub led-turns : not t ≡ false → Led p s v b count (i + 1) (at + size)
+        pub led-turns : not t ≡ false → Led p s v least b count (i + 1) (at + size)
         led-turns n =
             record {
               sound = led .sound;

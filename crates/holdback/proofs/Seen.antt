@@ -17,6 +17,7 @@ use Rattle.model.specs.Order.{readingOf}
 use Rattle.model.specs.Holdback.{sameOrigin}
 use Rattle.timestamp.specs.declared.ordering.Rank.{Rank}
 use Rattle.holdback.specs.Queue.{rankOf}
+use Rattle.holdback.specs.Sound.{Recent}
 use Rattle.holdback.specs.Seen.{Placeable, Within, tableLength, rankSlot, slotOf, seenTable, marked}
 use Rattle.lemmas.proofs.Bounds.{Limits}
 use Rattle.holdback.proofs.RoundTrip.{passing}
@@ -27,10 +28,10 @@ use Rattle.holdback.proofs.Changes.{all-cleared}
 use Rattle.holdback.proofs.Judging.{Fitting}
 
 -- a frame that a sound queue can have is one
-pub fitting-placeable : (s : Setup) (v : ℕ) (bytes : List ℕ) → Fitting s v bytes → Placeable s v (decode (s .epsilon) bytes)
-fitting-placeable s v bytes fit =
+pub fitting-placeable : (s : Setup) (v least : ℕ) (bytes : List ℕ) → Recent s least → Fitting s v least bytes → Placeable s v (decode (s .epsilon) bytes)
+fitting-placeable s v least bytes near fit =
     let p = passing s bytes (fit .passed) in
-    let o = overdue-from s v (decode (s .epsilon) bytes) (fit .overdue) in
+    let o = overdue-from s v least (decode (s .epsilon) bytes) (fit .overdue) in
     record { station-below = p .station-below; r-below = p .r-below; not-before = omega arith }
 
 pub rank-below : (s : Setup) → Limits s → (rank : Rank) → Within s rank → rankSlot s rank < tableLength
@@ -64,7 +65,7 @@ module _ (s : Setup) (v : ℕ) (limits : Limits s) (below : v < s .modulus) wher
   same-near f g e = rw e
 
   -- one place, one origin
-  same-slot : (f g : Frame) → Placeable s v f → Placeable s v g → eqb (slotOf s v g) (slotOf s v f) ≡ sameOrigin f g
+  pub same-slot : (f g : Frame) → Placeable s v f → Placeable s v g → eqb (slotOf s v g) (slotOf s v f) ≡ sameOrigin f g
   unfolding slotOf sameOrigin
   same-slot f g w x =
       same-test (eqb (slotOf s v g) (slotOf s v f)) (sameOrigin f g)

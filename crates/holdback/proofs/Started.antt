@@ -17,7 +17,7 @@ use Rattle.model.specs.Setup.{Setup, width, longestFrame, depth}
 use Rattle.model.specs.Timestamp.{sum}
 use Rattle.model.specs.Frame.{Frame, twoAt, decode}
 use Rattle.model.specs.Order.{due, dueNear, before}
-use Rattle.model.specs.Holdback.{held, soundHoldback, notEarly}
+use Rattle.model.specs.Holdback.{held, soundHoldback, notEarly, notOverdue}
 use Rattle.lemmas.proofs.Bounds.{Limits}
 use Rattle.setup.proofs.InLimits.{depth-most}
 use Rattle.holdback.specs.Queue.{frameStart, frameAt}
@@ -35,7 +35,7 @@ module _ (f : ℕ → ℕ) (from : ℕ) (starts : List ℕ) where
   abbrev changedAt : ℕ → ℕ → ℕ
   changedAt to k = cond (ltb k from) (getD starts k 0) (cond (ltb k to) (f (getD starts k 0)) (getD starts k 0))
 
-  changed-at : (to : ℕ) {l : List ℕ} → l ≡ changed f from to starts → (k : ℕ) → k < startPlaces → getD l k 0 ≡ changedAt to k
+  pub changed-at : (to : ℕ) {l : List ℕ} → l ≡ changed f from to starts → (k : ℕ) → k < startPlaces → getD l k 0 ≡ changedAt to k
   unfolding changed
   changed-at to e k h = ap (λ (m : List ℕ). getD m k 0) e ∙ getD-tab startPlaces (changedAt to) k 0 h
 
@@ -96,37 +96,32 @@ all-front starts e =
 
 -- ---- places of sums
 
-module _ (s : Setup) (v : ℕ) where
-  -- a smaller sum comes before
-  smaller-before : (f g : Frame) → sumPlace s v f < sumPlace s v g → before s v f g ≡ true
-  unfolding sumPlace
-  smaller-before f g h = due-before s v f g (omega arith)
-
-  -- what comes before has no larger one
-  before-smaller : (f g : Frame) → before s v f g ≡ true → sumPlace s v f ≤ sumPlace s v g
-  unfolding sumPlace
-  before-smaller f g h = omega (arith, due-first s v f g h)
-
-  pub place-inside : Limits s → (bytes : List ℕ) → fits s v bytes ≡ true → sumPlace s v (decode (s .epsilon) bytes) < startPlaces
-  unfolding sumPlace notEarly dueNear due sum
+module _ (s : Setup) (v least : ℕ) where
+  pub place-inside : Limits s → (bytes : List ℕ) → fits s v least bytes ≡ true → dueNear s v (decode (s .epsilon) bytes) < s .modulus + startPlaces
+  unfolding notEarly dueNear due sum
   place-inside limits bytes h =
       let f : Frame = decode (s .epsilon) bytes in
-      let early = leb-true _ (s .modulus + (s .epsilon - 1)) (fitting s v bytes h .early) in
+      let early = leb-true _ (s .modulus + (s .epsilon - 1)) (fitting s v least bytes h .early) in
       omega (arith, early, limits .epsilon-pos, limits .epsilon-most, limits .delta-most)
 
-  -- sums do not fall in a queue in order
-  pub sums-rise : (b : List ℕ) (i : ℕ) → ((k : ℕ) → k < i + 1 → frameSound s v b k ≡ true) → (j : ℕ) → j < i + 1
-      → sumPlace s v (frameAt (s .epsilon) b j) ≤ sumPlace s v (frameAt (s .epsilon) b i)
+  -- the place of the sum of a frame that is not due before v
+  pub place-at : s .modulus ≤ least → (bytes : List ℕ) → fits s v least bytes ≡ true → s .modulus + sumPlace s v (decode (s .epsilon) bytes) ≡ dueNear s v (decode (s .epsilon) bytes)
+  unfolding sumPlace notOverdue
+  place-at late bytes h = omega (arith, leb-true least _ (fitting s v least bytes h .overdue))
+
+  -- due clocks do not fall in a queue in order
+  pub sums-rise : (b : List ℕ) (i : ℕ) → ((k : ℕ) → k < i + 1 → frameSound s v least b k ≡ true) → (j : ℕ) → j < i + 1
+      → dueNear s v (frameAt (s .epsilon) b j) ≤ dueNear s v (frameAt (s .epsilon) b i)
   unfolding follows
   sums-rise b zero each j h = let e : j ≡ 0 = omega arith in rw e (omega arith)
   sums-rise b (suc i) each j h =
-      let step = before-smaller (frameAt (s .epsilon) b i) (frameAt (s .epsilon) b (suc i)) (frame-follows s v b (suc i) (each (suc i) (omega arith))) in
+      let step = due-first s v (frameAt (s .epsilon) b i) (frameAt (s .epsilon) b (suc i)) (frame-follows s v least b (suc i) (each (suc i) (omega arith))) in
       go (sums-rise b i (λ k l. each k (omega arith)) j) step (lt-or-ge j (i + 1))
     where
-      go : (j < i + 1 → sumPlace s v (frameAt (s .epsilon) b j) ≤ sumPlace s v (frameAt (s .epsilon) b i))
-          → sumPlace s v (frameAt (s .epsilon) b i) ≤ sumPlace s v (frameAt (s .epsilon) b (suc i))
+      go : (j < i + 1 → dueNear s v (frameAt (s .epsilon) b j) ≤ dueNear s v (frameAt (s .epsilon) b i))
+          → dueNear s v (frameAt (s .epsilon) b i) ≤ dueNear s v (frameAt (s .epsilon) b (suc i))
           → (j < i + 1) ⊎ (i + 1 ≤ j)
-          → sumPlace s v (frameAt (s .epsilon) b j) ≤ sumPlace s v (frameAt (s .epsilon) b (suc i))
+          → dueNear s v (frameAt (s .epsilon) b j) ≤ dueNear s v (frameAt (s .epsilon) b (suc i))
       go r t (inl l) = omega (arith, r l)
       go r t (inr l) = let e : j ≡ suc i = omega arith in rw e (omega arith)
 
@@ -146,17 +141,17 @@ module _ (s : Setup) (v : ℕ) (queue : List ℕ) where
   starts-by {l} long each = eq-tab l startPlaces (startOf s v queue) 0 long each
 
   below-most : (k : ℕ) → framesBelow s v queue k ≤ twoAt queue 0
-  below-most k = omega (arith, leading-le (λ f. ltb (sumPlace s v f) k) (held (s .epsilon) queue), length-held (s .epsilon) queue)
+  below-most k = omega (arith, leading-le (λ f. ltb (dueNear s v f) (s .modulus + k)) (held (s .epsilon) queue), length-held (s .epsilon) queue)
 
   -- the entry of frame i, or of the end
-  pub start-at : {i at k : ℕ} → at ≡ frameStart (s .epsilon) queue i → i ≤ twoAt queue 0
-      → ((j : ℕ) → j < i → sumPlace s v (frameAt (s .epsilon) queue j) < k) → (i < twoAt queue 0 → k ≤ sumPlace s v (frameAt (s .epsilon) queue i))
+  pub start-at : {i at : ℕ} (k : ℕ) → at ≡ frameStart (s .epsilon) queue i → i ≤ twoAt queue 0
+      → ((j : ℕ) → j < i → dueNear s v (frameAt (s .epsilon) queue j) < s .modulus + k) → (i < twoAt queue 0 → s .modulus + k ≤ dueNear s v (frameAt (s .epsilon) queue i))
       → i * startUnit + at ≡ startOf s v queue k
   unfolding startOf
-  start-at {i} {at} {k} starts most smaller larger =
+  start-at {i} {at} k starts most smaller larger =
       let frame : ℕ → Frame = frameAt (s .epsilon) queue in
       let e : framesBelow s v queue k ≡ i =
-      leading-held (λ f. ltb (sumPlace s v f) k) (s .epsilon) queue i most (λ j h. lt-ltb (sumPlace s v (frame j)) k (smaller j h)) (λ h. le-ltb (sumPlace s v (frame i)) k (larger h)) in
+      leading-held (λ f. ltb (dueNear s v f) (s .modulus + k)) (s .epsilon) queue i most (λ j h. lt-ltb (dueNear s v (frame j)) (s .modulus + k) (smaller j h)) (λ h. le-ltb (dueNear s v (frame i)) (s .modulus + k) (larger h)) in
       rw (e, starts)
 
   -- some places more
@@ -186,44 +181,47 @@ spans-small s queue i limits few formed =
     let all : i * longestFrame (s .epsilon) ≤ 1792 * 71 = mul-le-mul most wide in
     (most, omega (arith, start-most (s .epsilon) queue i formed))
 
-module _ (s : Setup) (v : ℕ) (queue : List ℕ) (limits : Limits s) (sound : soundHoldback s v queue ≡ true) where
+module _ (s : Setup) (v least : ℕ) (queue : List ℕ) (limits : Limits s) (sound : soundHoldback s v least queue ≡ true) where
   below-small : (k : ℕ) → (framesBelow s v queue k ≤ 1792) × (frameStart (s .epsilon) queue (framesBelow s v queue k) < startUnit)
   below-small k =
       let i : ℕ = framesBelow s v queue k in
-      spans-small s queue i limits (omega (arith, below-most s v queue k, sound-few s v queue sound)) (sound-formed s v queue i (λ j l. sound-frames s v queue sound j (omega (arith, below-most s v queue k))))
+      spans-small s queue i limits (omega (arith, below-most s v queue k, sound-few s v least queue sound)) (sound-formed s v least queue i (λ j l. sound-frames s v least queue sound j (omega (arith, below-most s v queue k))))
 
   pub moving : {step : ℕ} {starts : List ℕ} → starts ≡ startsOf s v queue → step < startLimit → Moving starts step
   unfolding startOf
   moving e small =
       record { long = starts-long s v queue e; each = λ k h. omega (arith, starts-at s v queue e k h, below-small k); small = small }
 
-  -- a search that starts at an entry
-  pub start-leads : {count k m : ℕ} (f : Frame) → 2 ≤ length queue → count ≡ twoAt queue 0 → m ≡ startOf s v queue k → k ≡ sumPlace s v f
-      → Led (λ g. before s v g f) s v queue count (m / startUnit) (m % startUnit)
+  -- an entry taken apart
+  pub start-parts : (k m : ℕ) → m ≡ startOf s v queue k → (m / startUnit ≡ framesBelow s v queue k) × (m % startUnit ≡ frameStart (s .epsilon) queue (framesBelow s v queue k))
   unfolding startOf
-  start-leads {count} {k} {m} f two count-is e own =
+  start-parts k m e = let low = below-small k .1 in (omega arith, omega arith)
+
+  -- a search that starts at an entry, for a frame that is not due before v
+  pub start-leads : {count m : ℕ} (k : ℕ) (f : Frame) → 2 ≤ length queue → count ≡ twoAt queue 0 → m ≡ startOf s v queue k → s .modulus + k ≡ dueNear s v f
+      → Led (λ g. before s v g f) s v least queue count (m / startUnit) (m % startUnit)
+  start-leads {count} {m} k f two count-is e own =
       let i : ℕ = framesBelow s v queue k in
       let frame : ℕ → Frame = frameAt (s .epsilon) queue in
-      let low = below-small k .1 in
       let most : i ≤ twoAt queue 0 = below-most s v queue k in
-      let all : every (λ g. ltb (sumPlace s v g) k) (tab i frame) ≡ true =
-      ap (every (λ g. ltb (sumPlace s v g) k)) (sym (ap (take i) (held-tab (s .epsilon) queue) ∙ take-tab i (twoAt queue 0) frame most)) ∙ every-leading (λ g. ltb (sumPlace s v g) k) (held (s .epsilon) queue) in
-      let index : m / startUnit ≡ i = omega arith in
-      let next : m % startUnit ≡ frameStart (s .epsilon) queue i = omega arith in
+      let all : every (λ g. ltb (dueNear s v g) (s .modulus + k)) (tab i frame) ≡ true =
+      ap (every (λ g. ltb (dueNear s v g) (s .modulus + k))) (sym (ap (take i) (held-tab (s .epsilon) queue) ∙ take-tab i (twoAt queue 0) frame most)) ∙ every-leading (λ g. ltb (dueNear s v g) (s .modulus + k)) (held (s .epsilon) queue) in
+      let index : m / startUnit ≡ i = start-parts k m e .0 in
+      let next : m % startUnit ≡ frameStart (s .epsilon) queue i = start-parts k m e .1 in
       record {
         sound = sound;
         two = two;
         count-is = count-is;
         starts = next ∙ ap (frameStart (s .epsilon) queue) (sym index);
         most = omega arith;
-        ahead = λ j h. smaller-before s v (frame j) f (omega (arith, ltb-true (sumPlace s v (frame j)) k (every-tab-at (λ g. ltb (sumPlace s v g) k) i frame all j (omega arith)), own));
+        ahead = λ j h. due-before s v (frame j) f (omega (arith, ltb-true (dueNear s v (frame j)) (s .modulus + k) (every-tab-at (λ g. ltb (dueNear s v g) (s .modulus + k)) i frame all j (omega arith)), own));
       }
 
 -- ---- a frame put at its place
 
 module _ {A : Type 0} where
   -- a property that another has too
-  leading-mono : (p q : A → Bool) (l : List A) → ((x : A) → p x ≡ true → q x ≡ true) → leading p l ≤ leading q l
+  pub leading-mono : (p q : A → Bool) (l : List A) → ((x : A) → p x ≡ true → q x ≡ true) → leading p l ≤ leading q l
   unfolding leading
   leading-mono p q [] f = zero-le
   leading-mono p q (x ∷ l) f =
@@ -253,33 +251,37 @@ module _ {A : Type 0} where
         | inr t ↦ absurd (not-suc-le-zero (rw t at h))
       ]
 
-module _ (s : Setup) (v : ℕ) (queue queue′ : List ℕ) (f : Frame) (place size : ℕ)
+module _ (s : Setup) (v : ℕ) (queue queue′ : List ℕ) (f : Frame) (place size : ℕ) (late : s .modulus ≤ dueNear s v f)
     (place-is : leading (λ g. before s v g f) (held (s .epsilon) queue) ≡ place)
     (held-is : held (s .epsilon) queue′ ≡ insertAt place f (held (s .epsilon) queue))
     (ahead : (i : ℕ) → i ≤ place → frameStart (s .epsilon) queue′ i ≡ frameStart (s .epsilon) queue i)
     (behind : (i : ℕ) → place ≤ i → i ≤ twoAt queue 0 → frameStart (s .epsilon) queue′ (suc i) ≡ frameStart (s .epsilon) queue i + size) where
   -- an entry for a sum that is not larger stands before the place, and stays
-  entry-stays : (k : ℕ) → k ≤ sumPlace s v f → startOf s v queue k ≡ startOf s v queue′ k
+  entry-stays : (k : ℕ) → s .modulus + k ≤ dueNear s v f → startOf s v queue k ≡ startOf s v queue′ k
   unfolding startOf
   entry-stays k h =
-      let below : Frame → Bool = λ g. ltb (sumPlace s v g) k in
+      let below : Frame → Bool = λ g. ltb (dueNear s v g) (s .modulus + k) in
       let low : framesBelow s v queue k ≤ place =
-      rw (← place-is) (leading-mono below (λ g. before s v g f) (held (s .epsilon) queue) (λ g l. smaller-before s v g f (omega (arith, ltb-true (sumPlace s v g) k l)))) in
+      rw (← place-is) (leading-mono below (λ g. before s v g f) (held (s .epsilon) queue) (λ g l. due-before s v g f (omega (arith, ltb-true (dueNear s v g) (s .modulus + k) l)))) in
       let e : framesBelow s v queue′ k ≡ framesBelow s v queue k =
-      ap (leading below) held-is ∙ leading-stays below place f (held (s .epsilon) queue) low (le-ltb (sumPlace s v f) k h) in
+      ap (leading below) held-is ∙ leading-stays below place f (held (s .epsilon) queue) low (le-ltb (dueNear s v f) (s .modulus + k) h) in
       rw e (ap (λ (n : ℕ). framesBelow s v queue k * startUnit + n) (sym (ahead (framesBelow s v queue k) low)))
 
   -- one for a larger sum stands behind it, and moves
-  entry-moves : (k : ℕ) → sumPlace s v f < k → startOf s v queue k + (startUnit + size) ≡ startOf s v queue′ k
+  entry-moves : (k : ℕ) → dueNear s v f < s .modulus + k → startOf s v queue k + (startUnit + size) ≡ startOf s v queue′ k
   unfolding startOf
   entry-moves k h =
-      let below : Frame → Bool = λ g. ltb (sumPlace s v g) k in
+      let below : Frame → Bool = λ g. ltb (dueNear s v g) (s .modulus + k) in
       let i : ℕ = framesBelow s v queue k in
       let high : place ≤ i =
-      rw (← place-is) (leading-mono (λ g. before s v g f) below (held (s .epsilon) queue) (λ g l. lt-ltb (sumPlace s v g) k (omega (arith, before-smaller s v g f l)))) in
+      rw (← place-is) (leading-mono (λ g. before s v g f) below (held (s .epsilon) queue) (λ g l. lt-ltb (dueNear s v g) (s .modulus + k) (omega (arith, due-first s v g f l)))) in
       let e : framesBelow s v queue′ k ≡ suc i =
-      ap (leading below) held-is ∙ leading-grows below place f (held (s .epsilon) queue) high (lt-ltb (sumPlace s v f) k h) in
+      ap (leading below) held-is ∙ leading-grows below place f (held (s .epsilon) queue) high (lt-ltb (dueNear s v f) (s .modulus + k) h) in
       rw e (omega (arith, behind i high (below-most s v queue k)))
+
+  own-place : s .modulus + sumPlace s v f ≡ dueNear s v f
+  unfolding sumPlace
+  own-place = omega (arith, late)
 
   pub moved-table : {starts l : List ℕ} → starts ≡ startsOf s v queue → l ≡ movedStarts (sumPlace s v f + 1) (startUnit + size) starts → l ≡ startsOf s v queue′
   moved-table {starts} {l} old e =
@@ -287,5 +289,5 @@ module _ (s : Setup) (v : ℕ) (queue queue′ : List ℕ) (f : Frame) (place si
       starts-by s v queue′ (changed-long (λ m. m + (startUnit + size)) from starts startPlaces e) (λ k h. changed-at (λ m. m + (startUnit + size)) from starts startPlaces e k h ∙ rw (starts-at s v queue old k h, lt-ltb k startPlaces h) (go k (lt-or-ge k from)))
     where
       go : (k : ℕ) → (k < sumPlace s v f + 1) ⊎ (sumPlace s v f + 1 ≤ k) → cond (ltb k (sumPlace s v f + 1)) (startOf s v queue k) (startOf s v queue k + (startUnit + size)) ≡ startOf s v queue′ k
-      go k (inl a) = rw (lt-ltb k (sumPlace s v f + 1) a) (entry-stays k (omega arith))
-      go k (inr a) = rw (le-ltb k (sumPlace s v f + 1) a) (entry-moves k (omega arith))
+      go k (inl a) = rw (lt-ltb k (sumPlace s v f + 1) a) (entry-stays k (omega (arith, own-place)))
+      go k (inr a) = rw (le-ltb k (sumPlace s v f + 1) a) (entry-moves k (omega (arith, own-place)))

@@ -27,7 +27,7 @@ use Rattle.timestamp.proofs.Ordered.{Tags}
 use Rattle.lemmas.proofs.RoundTrip.{formed-from, decode-wide}
 use Rattle.holdback.specs.Queue.{rankOf, rankBefore}
 use Rattle.holdback.specs.Sound.{fits, timely, Summed}
-use Rattle.holdback.specs.Starts.{rankPlace, sumPlace}
+use Rattle.holdback.specs.Starts.{rankPlace, placesTo, sumPlace}
 use Rattle.holdback.proofs.RoundTrip.{passing}
 
 -- ---- 10 to 12 by their number
@@ -40,9 +40,9 @@ check-no : (s : Setup) (bytes : List ℕ) (r : ℕ) → r ≡ firstNo (frameQues
 unfolding passes
 check-no s bytes r e z = ne-eqb (firstNo (frameQuestions s bytes)) 0 (λ q. z (e ∙ q))
 
-pub unfit-passes : (s : Setup) (v : ℕ) (bytes : List ℕ) (r : ℕ) → r ≡ firstNo (frameQuestions s bytes) → (r ≡ 0 → ⊥) → fits s v bytes ≡ false
+pub unfit-passes : (s : Setup) (v least : ℕ) (bytes : List ℕ) (r : ℕ) → r ≡ firstNo (frameQuestions s bytes) → (r ≡ 0 → ⊥) → fits s v least bytes ≡ false
 unfolding fits
-unfit-passes s v bytes r e z = rw (check-no s bytes r e z)
+unfit-passes s v least bytes r e z = rw (check-no s bytes r e z)
 
 -- ---- sums
 
@@ -55,36 +55,41 @@ summed s v bytes reading c limits ok er ec =
     record { is-sum = ap₂ _+_ er ec; small = omega arith }
 
 -- early or overdue, by the rank
-module _ (s : Setup) (rank : Rank) where
-  pub untimely : s .modulus + (s .epsilon - 1) < rank .reading + rank .c → false ≡ timely s rank
+module _ (s : Setup) (least : ℕ) (rank : Rank) where
+  pub untimely : s .modulus + (s .epsilon - 1) < rank .reading + rank .c → false ≡ timely s least rank
   unfolding timely sum
   untimely h = rw (lt-leb (rank .reading + rank .c) (s .modulus + (s .epsilon - 1)) h)
 
-  pub timely-rest : rank .reading + rank .c ≤ s .modulus + (s .epsilon - 1) → leb (s .modulus) (rank .reading + rank .c + s .delta + s .epsilon) ≡ timely s rank
+  pub timely-rest : rank .reading + rank .c ≤ s .modulus + (s .epsilon - 1) → leb least (rank .reading + rank .c + s .delta + s .epsilon) ≡ timely s least rank
   unfolding timely due sum
   timely-rest h = rw (le-leb (rank .reading + rank .c) (s .modulus + (s .epsilon - 1)) h)
 
-pub fits-passes : (s : Setup) (v : ℕ) (bytes : List ℕ) → fits s v bytes ≡ true → passes s bytes ≡ true
+pub fits-passes : (s : Setup) (v least : ℕ) (bytes : List ℕ) → fits s v least bytes ≡ true → passes s bytes ≡ true
 unfolding fits
-fits-passes s v bytes h = and-left (passes s bytes) _ h
+fits-passes s v least bytes h = and-left (passes s bytes) _ h
 
 -- a frame that passes 10 to 12 fits if its rank is timely
-pub fits-by : (s : Setup) (v : ℕ) (bytes : List ℕ) (rank : Rank) → passes s bytes ≡ true → rank ≡ rankOf s v (decode (s .epsilon) bytes) → timely s rank ≡ fits s v bytes
+pub fits-by : (s : Setup) (v least : ℕ) (bytes : List ℕ) (rank : Rank) → passes s bytes ≡ true → rank ≡ rankOf s v (decode (s .epsilon) bytes) → timely s least rank ≡ fits s v least bytes
 unfolding fits timely notEarly notOverdue dueNear
-fits-by s v bytes rank ok e = ap (timely s) e ∙ rw ok
+fits-by s v least bytes rank ok e = ap (timely s least) e ∙ rw ok
 
 pub due-tested : (s : Setup) (v : ℕ) (f : Frame) (r : ℕ) → Summed s v f r → eqb (r + s .delta + s .epsilon) (s .modulus) ≡ dueNow s v f
 unfolding dueNow dueNear due sum
 due-tested s v f r total = rw (total .is-sum)
 
 -- the place of a sum
-pub rank-past : (s : Setup) (rank : Rank) → timely s rank ≡ true → s .modulus ≤ rank .reading + rank .c + s .delta + s .epsilon
+pub rank-past : (s : Setup) (least : ℕ) (rank : Rank) → timely s least rank ≡ true → least ≤ rank .reading + rank .c + s .delta + s .epsilon
 unfolding timely due sum
-rank-past s rank h = leb-true _ _ (and-right (leb (rank .reading + rank .c) (s .modulus + (s .epsilon - 1))) _ h)
+rank-past s least rank h = leb-true _ _ (and-right (leb (rank .reading + rank .c) (s .modulus + (s .epsilon - 1))) _ h)
 
 pub rank-placed : (s : Setup) (v : ℕ) (f : Frame) (rank : Rank) → rank ≡ rankOf s v f → rankPlace s rank ≡ sumPlace s v f
 unfolding rankPlace sumPlace dueNear
 rank-placed s v f rank e = ap (rankPlace s) e
+
+-- the places up to it
+pub places-placed : (s : Setup) (v : ℕ) (f : Frame) (rank : Rank) → rank ≡ rankOf s v f → placesTo s rank ≡ dueNear s v f + 1 - s .modulus
+unfolding placesTo dueNear
+places-placed s v f rank e = ap (placesTo s) e
 
 -- ---- the order of two
 
@@ -132,12 +137,12 @@ ranked s v bytes kn rank limits ok ek e =
     }
 
 -- what a frame that fits says of its rank
-pub rank-fits : (s : Setup) (v : ℕ) (bytes : List ℕ) (rank : Rank) → Limits s → fits s v bytes ≡ true → rank ≡ rankOf s v (decode (s .epsilon) bytes)
-    → (rank .reading ≤ 2 ^ 17) × ((rank .c < s .epsilon) × (timely s rank ≡ true))
-rank-fits s v bytes rank limits h e =
-    let ok = fits-passes s v bytes h in
+pub rank-fits : (s : Setup) (v least : ℕ) (bytes : List ℕ) (rank : Rank) → Limits s → fits s v least bytes ≡ true → rank ≡ rankOf s v (decode (s .epsilon) bytes)
+    → (rank .reading ≤ 2 ^ 17) × ((rank .c < s .epsilon) × (timely s least rank ≡ true))
+rank-fits s v least bytes rank limits h e =
+    let ok = fits-passes s v least bytes h in
     let o = ranked s v bytes (decode (s .epsilon) bytes .stamp .kn) rank limits ok refl e in
-    (o .small, (o .lead, fits-by s v bytes rank ok e ∙ h))
+    (o .small, (o .lead, fits-by s v least bytes rank ok e ∙ h))
 
 -- by ranks and counts as by the frames themselves
 pub before-by : (s : Setup) (v : ℕ) (f g : Frame) (rf rg : Rank) (kf kg : List ℕ) → rf ≡ rankOf s v f → kf ≡ f .stamp .kn → rg ≡ rankOf s v g → kg ≡ g .stamp .kn

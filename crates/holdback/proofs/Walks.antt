@@ -18,6 +18,7 @@ use Rattle.model.specs.Setup.{Setup, depth}
 use Rattle.model.specs.Frame.{Frame, twoAt, countsOf, decode, payloadCountAt, frameEnd, wellFormed}
 use Rattle.model.specs.Question.{firstNo, frameQuestions}
 use Rattle.model.specs.Holdback.{passes, sameOrigin, soundHoldback}
+use Rattle.model.specs.Order.{dueNear}
 use Rattle.model.specs.Tick.{openingQueue}
 use Rattle.lemmas.proofs.Bounds.{Limits}
 use Rattle.timestamp.specs.declared.ordering.Rank.{Rank}
@@ -25,16 +26,16 @@ use Rattle.timestamp.specs.Ranks.{Ranked}
 use Rattle.holdback.specs.declared.soundness.Judged.{Judged}
 use Rattle.holdback.specs.declared.soundness.Walk.{Walk}
 use Rattle.holdback.specs.Queue.{frameStart, bytesAt, frameAt, rankOf, rankBefore, newestLess, countsAt}
-use Rattle.holdback.specs.Sound.{fits, follows, isNew, frameSound, timely, rankFollows, Compared, unsound, judgedAt, Walking, Starting, emptied, Walked}
+use Rattle.holdback.specs.Sound.{fits, follows, isNew, frameSound, timely, rankFollows, Compared, unsound, judgedAt, Recent, Walking, Starting, emptied, Walked}
 use Rattle.holdback.specs.Seen.{Placeable, Within, rankSlot, hasMark, withMark, marked, seenTable, tableLength}
-use Rattle.holdback.specs.Starts.{startUnit, startPlaces, front, allFront, rankPlace, sumPlace, startOf, startsOf, filled}
+use Rattle.holdback.specs.Starts.{startUnit, startPlaces, front, allFront, placesTo, startOf, startsOf, filled}
 use Rattle.holdback.proofs.RoundTrip.{Bytes, passing}
 use Rattle.holdback.proofs.Frames.{start-zero, start-suc, start-inside, start-within, counts-at, counts-inside, counts-bytes, bytes-drop, held-tab, FormedUpTo, lent, lent-is, next-start, bytes-part}
 use Rattle.holdback.proofs.Judging.{fitting, frame-fits, frame-follows, frame-new, sound-by, sound-few, sound-frames, sound-formed}
 use Rattle.holdback.proofs.Started.{changed-long, place-inside, sums-rise, starts-by, start-at, filled-more, spans-small}
 use Rattle.holdback.proofs.Seen.{fitting-placeable, within, rank-slot, seen-at, seen-more, length-seen}
 use Rattle.holdback.proofs.Newest.{newest-before}
-use Rattle.holdback.proofs.Testing.{check-yes, unfit-passes, fits-by, ranked, rank-fits, rank-placed, before-by}
+use Rattle.holdback.proofs.Testing.{check-yes, unfit-passes, fits-by, ranked, rank-fits, places-placed, before-by}
 
 -- ---- two frames compared, by the counts that the code lends
 
@@ -88,21 +89,21 @@ one-is : (t : Bool) → eqb (cond t 1 0) 1 ≡ t
 one-is true = refl
 one-is false = refl
 
-sound-of-parts : (s : Setup) (v : ℕ) (b : List ℕ) (i : ℕ) → fits s v (bytesAt (s .epsilon) b i) ≡ true → follows s v b i ≡ true → isNew s b i ≡ true → frameSound s v b i ≡ true
+sound-of-parts : (s : Setup) (v least : ℕ) (b : List ℕ) (i : ℕ) → fits s v least (bytesAt (s .epsilon) b i) ≡ true → follows s v b i ≡ true → isNew s b i ≡ true → frameSound s v least b i ≡ true
 unfolding frameSound
-sound-of-parts s v b i x y z = and-intro x (and-intro y z)
+sound-of-parts s v least b i x y z = and-intro x (and-intro y z)
 
 start-low : (epsilon : ℕ) (b : List ℕ) (k : ℕ) → 2 ≤ frameStart epsilon b k
 start-low epsilon b zero = omega (arith, start-zero epsilon b)
 start-low epsilon b (suc k) = omega (arith, start-suc epsilon b k, start-low epsilon b k)
 
-judged-no : (s : Setup) (v : ℕ) (b : List ℕ) (i : ℕ) → frameSound s v b i ≡ false → unsound ≡ judgedAt s v b i
+judged-no : (s : Setup) (v least : ℕ) (b : List ℕ) (i : ℕ) → frameSound s v least b i ≡ false → unsound ≡ judgedAt s v least b i
 unfolding judgedAt
-judged-no s v b i e = rw e
+judged-no s v least b i e = rw e
 
-module _ {s : Setup} {v : ℕ} {b table : List ℕ} {i prev : ℕ} {last : Rank} {at : ℕ} (walk : Walking s v b table i prev last at) where
+module _ {s : Setup} {v least : ℕ} {b table : List ℕ} {i prev : ℕ} {last : Rank} {at : ℕ} (walk : Walking s v least b table i prev last at) where
   formed-so-far : FormedUpTo (s .epsilon) b i
-  formed-so-far = sound-formed s v b i (walk .each)
+  formed-so-far = sound-formed s v least b i (walk .each)
 
   pub at-inside : at ≤ length b
   at-inside = rw (walk .starts) (start-within (s .epsilon) b i (walk .two) formed-so-far)
@@ -116,7 +117,7 @@ module _ {s : Setup} {v : ℕ} {b table : List ℕ} {i prev : ℕ} {last : Rank}
 
   -- the frame before it passes 10 to 12
   passed-before : (k : ℕ) → k < i → passes s (bytesAt (s .epsilon) b k) ≡ true
-  passed-before k h = fitting s v (bytesAt (s .epsilon) b k) (frame-fits s v b k (walk .each k h)) .passed
+  passed-before k h = fitting s v least (bytesAt (s .epsilon) b k) (frame-fits s v least b k (walk .each k h)) .passed
 
   counts-before : (k : ℕ) → i ≡ suc k → countsAt (s .epsilon) b prev ≡ frameAt (s .epsilon) b k .stamp .kn
   counts-before k e =
@@ -142,21 +143,21 @@ module _ {s : Setup} {v : ℕ} {b table : List ℕ} {i prev : ℕ} {last : Rank}
     part-is = bytes-part (s .epsilon) b i at (at + size) (walk .starts) next-is
 
     -- it does not end within the queue
-    pub judged-cut : length b < at + size → unsound ≡ judgedAt s v b i
+    pub judged-cut : length b < at + size → unsound ≡ judgedAt s v least b i
     judged-cut h =
-        judged-no s v b i
-        (false-of-no (frameSound s v b i)
+        judged-no s v least b i
+        (false-of-no (frameSound s v least b i)
         (λ e.
-        let well : wellFormed (s .epsilon) (bytesAt (s .epsilon) b i) ≡ true = passing s (bytesAt (s .epsilon) b i) (fitting s v (bytesAt (s .epsilon) b i) (frame-fits s v b i e) .passed) .well in
+        let well : wellFormed (s .epsilon) (bytesAt (s .epsilon) b i) ≡ true = passing s (bytesAt (s .epsilon) b i) (fitting s v least (bytesAt (s .epsilon) b i) (frame-fits s v least b i e) .passed) .well in
         omega (arith, start-inside (s .epsilon) b i well, next-is)))
 
-    judged-unfit : fits s v (bytesAt (s .epsilon) b i) ≡ false → unsound ≡ judgedAt s v b i
-    judged-unfit e = judged-no s v b i (false-of-no (frameSound s v b i) (λ h. clash (frame-fits s v b i h) e))
+    judged-unfit : fits s v least (bytesAt (s .epsilon) b i) ≡ false → unsound ≡ judgedAt s v least b i
+    judged-unfit e = judged-no s v least b i (false-of-no (frameSound s v least b i) (λ h. clash (frame-fits s v least b i h) e))
 
     -- 10 to 12
     module _ (r : ℕ) (e : r ≡ firstNo (frameQuestions s (take (at + size - at) (drop at b)))) where
-      pub judged-failed : (r ≡ 0 → ⊥) → unsound ≡ judgedAt s v b i
-      judged-failed n = judged-unfit (ap (fits s v) (sym part-is) ∙ unfit-passes s v (take (at + size - at) (drop at b)) r e n)
+      pub judged-failed : (r ≡ 0 → ⊥) → unsound ≡ judgedAt s v least b i
+      judged-failed n = judged-unfit (ap (fits s v least) (sym part-is) ∙ unfit-passes s v least (take (at + size - at) (drop at b)) r e n)
 
       pub passed-part : r ≡ 0 → passes s (take (at + size - at) (drop at b)) ≡ true
       passed-part z = check-yes s (take (at + size - at) (drop at b)) r e z
@@ -184,15 +185,15 @@ module _ {s : Setup} {v : ℕ} {b table : List ℕ} {i prev : ℕ} {last : Rank}
       pub compared : Limits s → Compared (s .epsilon) b i prev last at rank
       compared limits = record { narrow = limits .epsilon-most; own = own-ranked limits; previous = λ n. ranked-before limits i refl n }
 
-      timely-is : timely s rank ≡ fits s v (bytesAt (s .epsilon) b i)
+      timely-is : timely s least rank ≡ fits s v least (bytesAt (s .epsilon) b i)
       unfolding frameAt
-      timely-is = fits-by s v (bytesAt (s .epsilon) b i) rank own-passes own-rank
+      timely-is = fits-by s v least (bytesAt (s .epsilon) b i) rank own-passes own-rank
 
       -- it is early or overdue
-      pub judged-untimely : (t : Bool) → t ≡ timely s rank → not t ≡ true → unsound ≡ judgedAt s v b i
+      pub judged-untimely : (t : Bool) → t ≡ timely s least rank → not t ≡ true → unsound ≡ judgedAt s v least b i
       judged-untimely t e n = judged-unfit (sym (e ∙ timely-is) ∙ false-of-not t n)
 
-      pub fit-of : (t : Bool) → t ≡ timely s rank → not t ≡ false → fits s v (bytesAt (s .epsilon) b i) ≡ true
+      pub fit-of : (t : Bool) → t ≡ timely s least rank → not t ≡ false → fits s v least (bytesAt (s .epsilon) b i) ≡ true
       fit-of t e n = sym (e ∙ timely-is) ∙ true-of-not t n
 
       follows-by : (k : ℕ) → i ≡ k → rankFollows (s .epsilon) b k prev last at rank ≡ follows s v b k
@@ -204,16 +205,16 @@ module _ {s : Setup} {v : ℕ} {b table : List ℕ} {i prev : ℕ} {last : Rank}
           (own-rank ∙ ap (λ (n : ℕ). rankOf s v (frameAt (s .epsilon) b n)) e) (own-counts ∙ ap (λ (n : ℕ). frameAt (s .epsilon) b n .stamp .kn) e))
 
       -- it does not follow
-      pub judged-unordered : (t : Bool) → t ≡ rankFollows (s .epsilon) b i prev last at rank → not t ≡ true → unsound ≡ judgedAt s v b i
+      pub judged-unordered : (t : Bool) → t ≡ rankFollows (s .epsilon) b i prev last at rank → not t ≡ true → unsound ≡ judgedAt s v least b i
       judged-unordered t e n =
-          judged-no s v b i
-          (false-of-no (frameSound s v b i) (λ h. clash (e ∙ follows-by i refl ∙ frame-follows s v b i h) (false-of-not t n)))
+          judged-no s v least b i
+          (false-of-no (frameSound s v least b i) (λ h. clash (e ∙ follows-by i refl ∙ frame-follows s v least b i h) (false-of-not t n)))
 
       -- the look-up
-      module _ (fit : fits s v (bytesAt (s .epsilon) b i) ≡ true) (limits : Limits s) (below : v < s .modulus) where
+      module _ (fit : fits s v least (bytesAt (s .epsilon) b i) ≡ true) (limits : Limits s) (below : v < s .modulus) (near : Recent s least) where
         own-placeable : Placeable s v (frameAt (s .epsilon) b i)
         unfolding frameAt
-        own-placeable = fitting-placeable s v (bytesAt (s .epsilon) b i) (fitting s v (bytesAt (s .epsilon) b i) fit)
+        own-placeable = fitting-placeable s v least (bytesAt (s .epsilon) b i) near (fitting s v least (bytesAt (s .epsilon) b i) fit)
 
         pub own-within : Within s rank
         own-within = within s v limits below (frameAt (s .epsilon) b i) rank own-placeable own-rank
@@ -225,7 +226,7 @@ module _ {s : Setup} {v : ℕ} {b table : List ℕ} {i prev : ℕ} {last : Rank}
             let r = index-of-mem (frame 0) m in
             let l : r .0 < i = rw (length-tab i frame) at (r .1) in
             let e : frame (r .0) ≡ g = sym (getD-tab i frame (r .0) (frame 0) l) ∙ r .2 in
-            rw (← e) (fitting-placeable s v (bytesAt (s .epsilon) b (r .0)) (fitting s v (bytesAt (s .epsilon) b (r .0)) (frame-fits s v b (r .0) (walk .each (r .0) l))))
+            rw (← e) (fitting-placeable s v least (bytesAt (s .epsilon) b (r .0)) near (fitting s v least (bytesAt (s .epsilon) b (r .0)) (frame-fits s v least b (r .0) (walk .each (r .0) l))))
 
         looked-up : (t : Bool) → t ≡ hasMark table (rankSlot s rank) → isNew s b i ≡ not t
         unfolding isNew
@@ -237,25 +238,26 @@ module _ {s : Setup} {v : ℕ} {b table : List ℕ} {i prev : ℕ} {last : Rank}
             ∙ ap (λ (n : ℕ). eqb n 1) (seen-at s v limits below queue f all-placeable own-placeable) ∙ one-is (any (sameOrigin f) queue) in
             ap not (sym same)
 
-        pub judged-repeated : (t : Bool) → t ≡ hasMark table (rankSlot s rank) → t ≡ true → unsound ≡ judgedAt s v b i
+        pub judged-repeated : (t : Bool) → t ≡ hasMark table (rankSlot s rank) → t ≡ true → unsound ≡ judgedAt s v least b i
         judged-repeated t e y =
-            judged-no s v b i
-            (false-of-no (frameSound s v b i) (λ h. clash (frame-new s v b i h) (looked-up t e ∙ not-of-true y)))
+            judged-no s v least b i
+            (false-of-no (frameSound s v least b i) (λ h. clash (frame-new s v least b i h) (looked-up t e ∙ not-of-true y)))
 
         pub judged-sound : (o t : Bool) → o ≡ rankFollows (s .epsilon) b i prev last at rank → not o ≡ false → t ≡ hasMark table (rankSlot s rank) → t ≡ false
-            → _≡_ {A = Judged} (record { end = at + size; rank = rank }) (judgedAt s v b i)
+            → _≡_ {A = Judged} (record { end = at + size; rank = rank }) (judgedAt s v least b i)
         unfolding judgedAt
         judged-sound o t eo mo et nt =
-            let sound : frameSound s v b i ≡ true = sound-of-parts s v b i fit (sym (eo ∙ follows-by i refl) ∙ true-of-not o mo) (looked-up t et ∙ not-of-false nt) in
+            let sound : frameSound s v least b i ≡ true = sound-of-parts s v least b i fit (sym (eo ∙ follows-by i refl) ∙ true-of-not o mo) (looked-up t et ∙ not-of-false nt) in
             rw sound (ap₂ (λ (n : ℕ) (q : Rank). record { end = n; rank = q }) next-is own-rank)
 
 -- ---- the whole walk
 
--- the table of starts at frame i: the places below `from` are filled, and the frames so far have the places of their sums there
+-- the table of starts at frame i: the places below `from` are filled, and the frames so far are due before v or have the places of
+-- their sums there
 pub record Filling (s : Setup) (v : ℕ) (b : List ℕ) (i from : ℕ) (starts : List ℕ) : Type 0 where
   pub long : length starts ≡ startPlaces
   pub done : (k : ℕ) → k < from → k < startPlaces → getD starts k 0 ≡ startOf s v b k
-  pub below : (j : ℕ) → j < i → sumPlace s v (frameAt (s .epsilon) b j) < from
+  pub below : (j : ℕ) → j < i → dueNear s v (frameAt (s .epsilon) b j) < s .modulus + from
 
 pub filling-starts : {s : Setup} {v : ℕ} {b starts : List ℕ} → starts ≡ allFront → Filling s v b 0 0 starts
 filling-starts e =
@@ -265,7 +267,7 @@ filling-starts e =
       below = λ j h. absurd (not-suc-le-zero h);
     }
 
-pub walk-starts : {s : Setup} {v : ℕ} {b table starts : List ℕ} {count : ℕ} → (last : Rank) → Starting s v b table starts count → Walking s v b table 0 2 last 2
+pub walk-starts : {s : Setup} {v least : ℕ} {b table starts : List ℕ} {count : ℕ} → (last : Rank) → Starting s v b table starts count → Walking s v least b table 0 2 last 2
 unfolding tab
 walk-starts {s} {v} {b} last begin =
     record {
@@ -281,24 +283,24 @@ pub starting-long : {s : Setup} {v : ℕ} {b table starts : List ℕ} {count : �
 starting-long {s} {v} begin = ap length (begin .empty) ∙ length-seen s v []
 
 -- what a judged frame's answer says
-pub judged-bad : (s : Setup) (v : ℕ) (b : List ℕ) (i : ℕ) (judged : Judged) → judged ≡ judgedAt s v b i → judged .end ≡ 0 → frameSound s v b i ≡ false
+pub judged-bad : (s : Setup) (v least : ℕ) (b : List ℕ) (i : ℕ) (judged : Judged) → judged ≡ judgedAt s v least b i → judged .end ≡ 0 → frameSound s v least b i ≡ false
 unfolding judgedAt
-judged-bad s v b i judged e z = go (frameSound s v b i) e
+judged-bad s v least b i judged e z = go (frameSound s v least b i) e
   where
     go : (t : Bool) → judged ≡ cond t (record { end = frameStart (s .epsilon) b (suc i); rank = rankOf s v (frameAt (s .epsilon) b i) }) unsound → t ≡ false
     go true h = let k : judged .end ≡ frameStart (s .epsilon) b (suc i) = ap (λ (q : Judged). q .end) h in absurd (omega (arith, start-low (s .epsilon) b (suc i)))
     go false h = refl
 
-pub record Right (s : Setup) (v : ℕ) (b : List ℕ) (i next : ℕ) (rank : Rank) : Type 0 where
-  pub sound : frameSound s v b i ≡ true
+pub record Right (s : Setup) (v least : ℕ) (b : List ℕ) (i next : ℕ) (rank : Rank) : Type 0 where
+  pub sound : frameSound s v least b i ≡ true
   pub ends : next ≡ frameStart (s .epsilon) b (suc i)
   pub rank-is : rank ≡ rankOf s v (frameAt (s .epsilon) b i)
 
-pub judged-good : (s : Setup) (v : ℕ) (b : List ℕ) (i : ℕ) (judged : Judged) → judged ≡ judgedAt s v b i → (judged .end ≡ 0 → ⊥) → Right s v b i (judged .end) (judged .rank)
+pub judged-good : (s : Setup) (v least : ℕ) (b : List ℕ) (i : ℕ) (judged : Judged) → judged ≡ judgedAt s v least b i → (judged .end ≡ 0 → ⊥) → Right s v least b i (judged .end) (judged .rank)
 unfolding judgedAt
-judged-good s v b i judged e z = go (frameSound s v b i) refl e
+judged-good s v least b i judged e z = go (frameSound s v least b i) refl e
   where
-    go : (t : Bool) → frameSound s v b i ≡ t → judged ≡ cond t (record { end = frameStart (s .epsilon) b (suc i); rank = rankOf s v (frameAt (s .epsilon) b i) }) unsound → Right s v b i (judged .end) (judged .rank)
+    go : (t : Bool) → frameSound s v least b i ≡ t → judged ≡ cond t (record { end = frameStart (s .epsilon) b (suc i); rank = rankOf s v (frameAt (s .epsilon) b i) }) unsound → Right s v least b i (judged .end) (judged .rank)
     go true h k = record { sound = h; ends = ap (λ (q : Judged). q .end) k; rank-is = ap (λ (q : Judged). q .rank) k }
     go false h k = absurd (z (ap (λ (q : Judged). q .end) k))
 
@@ -312,20 +314,20 @@ any-last : (p : Frame → Bool) (k : ℕ) (f : ℕ → Frame) → any p (tab (su
 unfolding any
 any-last p k f = ap (any p) (tab-suc k f) ∙ any-append p (tab k f) (f k ∷ []) ∙ or-swap (any p (tab k f)) (p (f k))
 
-module _ {s : Setup} {v : ℕ} {b table : List ℕ} {i prev : ℕ} {last : Rank} {at : ℕ} (walk : Walking s v b table i prev last at) {next : ℕ} {rank : Rank} (right : Right s v b i next rank) where
-  pub judged-within : Limits s → v < s .modulus → Within s rank
+module _ {s : Setup} {v least : ℕ} {b table : List ℕ} {i prev : ℕ} {last : Rank} {at : ℕ} (walk : Walking s v least b table i prev last at) {next : ℕ} {rank : Rank} (right : Right s v least b i next rank) where
+  pub judged-within : Limits s → v < s .modulus → Recent s least → Within s rank
   unfolding frameAt
-  judged-within limits below =
-      within s v limits below (frameAt (s .epsilon) b i) rank (fitting-placeable s v (bytesAt (s .epsilon) b i) (fitting s v (bytesAt (s .epsilon) b i) (frame-fits s v b i (right .sound)))) (right .rank-is)
+  judged-within limits below near =
+      within s v limits below (frameAt (s .epsilon) b i) rank (fitting-placeable s v least (bytesAt (s .epsilon) b i) near (fitting s v least (bytesAt (s .epsilon) b i) (frame-fits s v least b i (right .sound)))) (right .rank-is)
 
-  each-more : (k : ℕ) → k < i + 1 → frameSound s v b k ≡ true
+  each-more : (k : ℕ) → k < i + 1 → frameSound s v least b k ≡ true
   each-more k h = go (lt-or-ge k i)
     where
-      go : (k < i) ⊎ (i ≤ k) → frameSound s v b k ≡ true
+      go : (k < i) ⊎ (i ≤ k) → frameSound s v least b k ≡ true
       go (inl l) = walk .each k l
       go (inr l) = let e : i ≡ k = omega arith in rw (← e) (right .sound)
 
-  pub walk-turns : (l : List ℕ) → l ≡ withMark table (rankSlot s rank) → Walking s v b l (i + 1) at rank next
+  pub walk-turns : (l : List ℕ) → l ≡ withMark table (rankSlot s rank) → Walking s v least b l (i + 1) at rank next
   unfolding marked
   walk-turns l e =
       let f : Frame = frameAt (s .epsilon) b i in
@@ -343,35 +345,37 @@ module _ {s : Setup} {v : ℕ} {b table : List ℕ} {i prev : ℕ} {last : Rank}
       }
 
   -- the frame for the table of starts
-  pub judged-timely : Limits s → (rank .reading ≤ 2 ^ 17) × ((rank .c < s .epsilon) × (timely s rank ≡ true))
+  pub judged-small : Limits s → (rank .reading ≤ 2 ^ 17) × (rank .c < s .epsilon)
   unfolding frameAt
-  judged-timely limits = rank-fits s v (bytesAt (s .epsilon) b i) rank limits (frame-fits s v b i (right .sound)) (right .rank-is)
+  judged-small limits =
+      let small = rank-fits s v least (bytesAt (s .epsilon) b i) rank limits (frame-fits s v least b i (right .sound)) (right .rank-is) in
+      (small .0, small .1 .0)
 
-  pub judged-place : Limits s → rankPlace s rank < startPlaces
+  pub judged-place : Limits s → placesTo s rank ≤ startPlaces
   unfolding frameAt
   judged-place limits =
-      omega (arith, rank-placed s v (frameAt (s .epsilon) b i) rank (right .rank-is), place-inside s v limits (bytesAt (s .epsilon) b i) (frame-fits s v b i (right .sound)))
+      omega (arith, places-placed s v (frameAt (s .epsilon) b i) rank (right .rank-is), place-inside s v least limits (bytesAt (s .epsilon) b i) (frame-fits s v least b i (right .sound)))
 
   pub filling-turns : {from k : ℕ} {starts l : List ℕ} → Filling s v b i from starts → i < twoAt b 0
-      → k ≡ rankPlace s rank → l ≡ filled (i * startUnit + at) from (k + 1) starts → Filling s v b (i + 1) (k + 1) l
+      → k ≡ placesTo s rank → l ≡ filled (i * startUnit + at) from k starts → Filling s v b (i + 1) k l
   filling-turns {from} {k} {starts} old more e h =
-      let own : k ≡ sumPlace s v (frameAt (s .epsilon) b i) = e ∙ rank-placed s v (frameAt (s .epsilon) b i) rank (right .rank-is) in
+      let own : k ≡ dueNear s v (frameAt (s .epsilon) b i) + 1 - s .modulus = e ∙ places-placed s v (frameAt (s .epsilon) b i) rank (right .rank-is) in
       record {
-        long = changed-long (λ _. i * startUnit + at) from starts (k + 1) h;
-        done = filled-more s v b starts (old .done) (λ j low high. start-at s v b (walk .starts) (omega arith) (λ n l. omega (arith, old .below n l)) (λ _. omega arith)) h;
-        below = λ j l. omega (arith, own, sums-rise s v b i each-more j l);
+        long = changed-long (λ _. i * startUnit + at) from starts k h;
+        done = filled-more s v b starts (old .done) (λ j low high. start-at s v b j (walk .starts) (omega arith) (λ n l. omega (arith, old .below n l)) (λ _. omega arith)) h;
+        below = λ j l. omega (arith, own, sums-rise s v least b i each-more j l);
       }
 
 -- the end fills the last places
-pub filling-ends : {s : Setup} {v : ℕ} {b table : List ℕ} {i prev : ℕ} {last : Rank} {at from count : ℕ} {starts l : List ℕ} → Walking s v b table i prev last at → Filling s v b i from starts
+pub filling-ends : {s : Setup} {v least : ℕ} {b table : List ℕ} {i prev : ℕ} {last : Rank} {at from count : ℕ} {starts l : List ℕ} → Walking s v least b table i prev last at → Filling s v b i from starts
     → count ≡ twoAt b 0 → i ≤ count → count ≤ i → l ≡ filled (count * startUnit + at) from startPlaces starts → l ≡ startsOf s v b
 filling-ends {s} {v} {b} {i} {at} {from} {count} {starts} walk old count-is le ge h =
     let e : i ≡ count = omega arith in
     starts-by s v b (changed-long (λ _. count * startUnit + at) from starts startPlaces h)
-    (λ k l. filled-more s v b starts (old .done) (λ j low high. start-at s v b (walk .starts ∙ ap (frameStart (s .epsilon) b) e) (omega (arith, count-is)) (λ n l. omega (arith, old .below n (omega arith))) (λ l. absurd (omega (arith, count-is)))) h k l l)
+    (λ k l. filled-more s v b starts (old .done) (λ j low high. start-at s v b j (walk .starts ∙ ap (frameStart (s .epsilon) b) e) (omega (arith, count-is)) (λ n l. omega (arith, old .below n (omega arith))) (λ l. absurd (omega (arith, count-is)))) h k l l)
 
-pub walked-no : {s : Setup} {v : ℕ} {b table starts : List ℕ} {walk : Walk} → walk ≡ emptied → soundHoldback s v b ≡ false → table ≡ seenTable s v [] → starts ≡ allFront
-    → Walked s v b (walk .sound) (walk .count) (walk .end) table starts
+pub walked-no : {s : Setup} {v least : ℕ} {b table starts : List ℕ} {walk : Walk} → walk ≡ emptied → soundHoldback s v least b ≡ false → table ≡ seenTable s v [] → starts ≡ allFront
+    → Walked s v least b (walk .sound) (walk .count) (walk .end) table starts
 unfolding openingQueue
 walked-no {s} {v} {b} w h e none =
     record {
@@ -382,19 +386,19 @@ walked-no {s} {v} {b} w h e none =
       starts-is = none ∙ rw h;
     }
 
-pub walk-fails : (s : Setup) (v : ℕ) (b : List ℕ) (i : ℕ) → i < twoAt b 0 → frameSound s v b i ≡ false → soundHoldback s v b ≡ false
-walk-fails s v b i l h = false-of-no (soundHoldback s v b) (λ e. clash (sound-frames s v b e i l) h)
+pub walk-fails : (s : Setup) (v least : ℕ) (b : List ℕ) (i : ℕ) → i < twoAt b 0 → frameSound s v least b i ≡ false → soundHoldback s v least b ≡ false
+walk-fails s v least b i l h = false-of-no (soundHoldback s v least b) (λ e. clash (sound-frames s v least b e i l) h)
 
-pub too-many : (s : Setup) (v : ℕ) (b : List ℕ) → depth (s .n) (s .epsilon) (s .delta) < twoAt b 0 → soundHoldback s v b ≡ false
-too-many s v b h = false-of-no (soundHoldback s v b) (λ e. omega (arith, sound-few s v b e))
+pub too-many : (s : Setup) (v least : ℕ) (b : List ℕ) → depth (s .n) (s .epsilon) (s .delta) < twoAt b 0 → soundHoldback s v least b ≡ false
+too-many s v least b h = false-of-no (soundHoldback s v least b) (λ e. omega (arith, sound-few s v least b e))
 
-pub walked-yes : {s : Setup} {v : ℕ} {b t m table starts : List ℕ} {count i prev : ℕ} {last : Rank} {at : ℕ} → Starting s v b t m count → Walking s v b table i prev last at → starts ≡ startsOf s v b → i ≤ count → count ≤ i
-    → Walked s v b true count at table starts
+pub walked-yes : {s : Setup} {v least : ℕ} {b t m table starts : List ℕ} {count i prev : ℕ} {last : Rank} {at : ℕ} → Starting s v b t m count → Walking s v least b table i prev last at → starts ≡ startsOf s v b → i ≤ count → count ≤ i
+    → Walked s v least b true count at table starts
 unfolding openingQueue
-walked-yes {s} {v} {b} {count} {i} begin walk filled-all le ge =
+walked-yes {s} {v} {least} {b} {count} {i} begin walk filled-all le ge =
     let all : i ≡ twoAt b 0 = omega (arith, begin .count-is) in
-    let sound : soundHoldback s v b ≡ true =
-    sound-by s v b (omega (arith, begin .count-is, begin .few)) (λ k l. walk .each k (omega arith)) in
+    let sound : soundHoldback s v least b ≡ true =
+    sound-by s v least b (omega (arith, begin .count-is, begin .few)) (λ k l. walk .each k (omega arith)) in
     record {
       sound-is = sym sound;
       count-is = begin .count-is ∙ rw sound;

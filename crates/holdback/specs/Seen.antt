@@ -12,7 +12,7 @@ use Rattle.model.specs.Order.{readingOf}
 use Rattle.timestamp.specs.declared.ordering.Rank.{Rank}
 use Rattle.holdback.specs.Queue.{rankOf}
 
--- places for one station: more than the δ + 3ε readings from the least, which lies δ + 2ε behind v
+-- places for one station: as many as the δ + 4ε readings from the least, which lies δ + 3ε behind v
 abbrev rowLength : ℕ
 rowLength = 128
 
@@ -24,17 +24,17 @@ tableLength = 2048
 pub record Placeable (s : Setup) (v : ℕ) (f : Frame) : Type 0 where
   pub station-below : f .station < s .n
   pub r-below : f .stamp .r < s .modulus
-  pub not-before : s .modulus ≤ readingOf s v f + (s .delta + 2 * s .epsilon)
+  pub not-before : s .modulus ≤ readingOf s v f + (s .delta + 3 * s .epsilon)
 
 -- the rank of such a frame
 pub record Within (s : Setup) (rank : Rank) : Type 0 where
   pub station-below : rank .station < s .n
-  pub not-before : s .modulus ≤ rank .reading + (s .delta + 2 * s .epsilon)
+  pub not-before : s .modulus ≤ rank .reading + (s .delta + 3 * s .epsilon)
   pub not-past : rank .reading < s .modulus + s .epsilon
 
 -- the place for a station and a reading; v reads B
 abbrev pub rankSlot : Setup → Rank → ℕ
-rankSlot s rank = rank .station * rowLength + (rank .reading + (s .delta + 2 * s .epsilon) - s .modulus)
+rankSlot s rank = rank .station * rowLength + (rank .reading + (s .delta + 3 * s .epsilon) - s .modulus)
 
 -- the place for a frame's
 unfoldable pub slotOf : Setup → ℕ → Frame → ℕ
@@ -51,6 +51,10 @@ hasMark table i = eqb (getD table i 0) 1
 -- the table of origins with a place marked
 abbrev pub withMark : List ℕ → ℕ → List ℕ
 withMark table i = set table i 1
+
+-- the table of origins with a place not marked
+abbrev pub withoutMark : List ℕ → ℕ → List ℕ
+withoutMark table i = set table i 0
 
 -- a frame's place is marked
 unfoldable pub isMarked : Setup → ℕ → Frame → List ℕ → Bool

@@ -21,10 +21,10 @@ use Rattle.holdback.specs.Queue.{frameStart, bytesAt, frameAt, rankOf, r
 use Rattle.holdback.specs.Seen.{seenTable}
 use Rattle.holdback.specs.Starts.{startsOf, allFront}
 
--- of a frame alone: it passes 10 to 12, is not early and not overdue
-unfoldable pub fits : Setup → ℕ → List ℕ → Bool
-fits s v bytes =
-    passes s bytes && (notEarly s v (decode (s .epsilon) bytes) && notOverdue s v (decode (s .epsilon) bytes))
+-- of a frame alone: it passes 10 to 12, is not early, and not overdue by the least due clock that is allowed
+unfoldable pub fits : Setup → ℕ → ℕ → List ℕ → Bool
+fits s v least bytes =
+    passes s bytes && (notEarly s v (decode (s .epsilon) bytes) && notOverdue s v least (decode (s .epsilon) bytes))
 
 -- "strictly in order": frame k of a queue comes after the one before it
 unfoldable pub follows : Setup → ℕ → List ℕ → ℕ → Bool
@@ -37,13 +37,17 @@ unfoldable pub isNew : Setup → List ℕ → ℕ → Bool
 isNew s queue k = not (any (sameOrigin (frameAt (s .epsilon) queue k)) (tab k (frameAt (s .epsilon) queue)))
 
 -- all that is asked of frame k
-unfoldable pub frameSound : Setup → ℕ → List ℕ → ℕ → Bool
-frameSound s v queue k = fits s v (bytesAt (s .epsilon) queue k) && (follows s v queue k && isNew s queue k)
+unfoldable pub frameSound : Setup → ℕ → ℕ → List ℕ → ℕ → Bool
+frameSound s v least queue k = fits s v least (bytesAt (s .epsilon) queue k) && (follows s v queue k && isNew s queue k)
 
--- "each sum at most ε − 1 past v and each sum + δ + ε not before v", of a frame with that rank
-unfoldable pub timely : Setup → Rank → Bool
-timely s rank =
-    leb (sum (rank .reading) (rank .c)) (s .modulus + (s .epsilon - 1)) && leb (s .modulus) (due s (rank .reading) (rank .c))
+-- "each sum at most ε − 1 past v", and its due clock not before the least allowed, of a frame with that rank
+unfoldable pub timely : Setup → ℕ → Rank → Bool
+timely s least rank =
+    leb (sum (rank .reading) (rank .c)) (s .modulus + (s .epsilon - 1)) && leb least (due s (rank .reading) (rank .c))
+
+-- 02, 2.2: the last clock lies at most ε before v, so the least due clock allowed, as a reading, in which v stands at B, less than ε
+abbrev pub Recent : Setup → ℕ → Type 0
+Recent s least = s .modulus + 1 ≤ least + s .epsilon
 
 -- frame i, at `at`, comes after the one before it, at `prev`, by their ranks
 unfoldable pub rankFollows : ℕ → List ℕ → ℕ → ℕ → Rank → ℕ → Rank → Bool
@@ -65,9 +69,9 @@ abbrev pub unsound : Judged
 unsound = record { end = 0; rank = noRank }
 
 -- where frame i ends and its rank, if it is sound
-unfoldable pub judgedAt : Setup → ℕ → List ℕ → ℕ → Judged
-judgedAt s v queue i =
-    cond (frameSound s v queue i) (record { end = frameStart (s .epsilon) queue (suc i); rank = rankOf s v (frameAt (s .epsilon) queue i) }) unsound
+unfoldable pub judgedAt : Setup → ℕ → ℕ → List ℕ → ℕ → Judged
+judgedAt s v least queue i =
+    cond (frameSound s v least queue i) (record { end = frameStart (s .epsilon) queue (suc i); rank = rankOf s v (frameAt (s .epsilon) queue i) }) unsound
 
 -- r + c of a frame, with r read near v
 pub record Summed (s : Setup) (v : ℕ) (f : Frame) (r : ℕ) : Type 0 where
@@ -75,12 +79,12 @@ pub record Summed (s : Setup) (v : ℕ) (f : Frame) (r : ℕ) : Type 0 where
   pub small : r < 131072
 
 -- a walk over a queue that has found its first i frames sound: frame i starts at `at`, the one before it at `prev` and has the rank `last`, and the table of origins has those of the frames so far
-pub record Walking (s : Setup) (v : ℕ) (queue table : List ℕ) (i prev : ℕ) (last : Rank) (at : ℕ) : Type 0 where
+pub record Walking (s : Setup) (v least : ℕ) (queue table : List ℕ) (i prev : ℕ) (last : Rank) (at : ℕ) : Type 0 where
   pub two : 2 ≤ length queue
   pub starts : at ≡ frameStart (s .epsilon) queue i
   pub previous : prev ≡ frameStart (s .epsilon) queue (i - 1)
   pub ranked : (i ≡ 0 → ⊥) → last ≡ rankOf s v (frameAt (s .epsilon) queue (i - 1))
-  pub each : (k : ℕ) → k < i → frameSound s v queue k ≡ true
+  pub each : (k : ℕ) → k < i → frameSound s v least queue k ≡ true
   pub table-is : table ≡ seenTable s v (tab i (frameAt (s .epsilon) queue))
 
 -- where it begins: the count is in its bound, the table of origins is empty, and the table of starts is that of an empty queue
@@ -96,9 +100,9 @@ abbrev pub emptied : Walk
 emptied = record { sound = false; count = 0; end = 2 }
 
 -- what the walk over a whole queue answers, and the tables of origins and of starts that it leaves
-pub record Walked (s : Setup) (v : ℕ) (queue : List ℕ) (sound : Bool) (count stop : ℕ) (table starts : List ℕ) : Type 0 where
-  pub sound-is : sound ≡ soundHoldback s v queue
-  pub count-is : count ≡ cond (soundHoldback s v queue) (twoAt queue 0) 0
-  pub stop-is : stop ≡ cond (soundHoldback s v queue) (frameStart (s .epsilon) queue (twoAt queue 0)) 2
-  pub table-is : table ≡ seenTable s v (openingQueue s v queue)
-  pub starts-is : starts ≡ cond (soundHoldback s v queue) (startsOf s v queue) allFront
+pub record Walked (s : Setup) (v least : ℕ) (queue : List ℕ) (sound : Bool) (count stop : ℕ) (table starts : List ℕ) : Type 0 where
+  pub sound-is : sound ≡ soundHoldback s v least queue
+  pub count-is : count ≡ cond (soundHoldback s v least queue) (twoAt queue 0) 0
+  pub stop-is : stop ≡ cond (soundHoldback s v least queue) (frameStart (s .epsilon) queue (twoAt queue 0)) 2
+  pub table-is : table ≡ seenTable s v (openingQueue s v least queue)
+  pub starts-is : starts ≡ cond (soundHoldback s v least queue) (startsOf s v queue) allFront

@@ -22,7 +22,7 @@ startUnit = 131072
 abbrev pub startLimit : ℕ
 startLimit = 2147483648
 
--- places in the table of starts: a place for each sum of a sound queue's frames, which are δ + 2ε at most
+-- places in the table of starts: a place for each sum of the frames that are not due before v, which are δ + 2ε at most
 abbrev pub startPlaces : ℕ
 startPlaces = 96
 
@@ -38,13 +38,17 @@ allFront = replicate startPlaces front
 unfoldable pub rankPlace : Setup → Rank → ℕ
 rankPlace s rank = due s (rank .reading) (rank .c) - s .modulus
 
--- the same, of a frame
+-- the places up to that of a sum: none where it is due before v
+unfoldable pub placesTo : Setup → Rank → ℕ
+placesTo s rank = due s (rank .reading) (rank .c) + 1 - s .modulus
+
+-- the place for the sum of a frame
 unfoldable pub sumPlace : Setup → ℕ → Frame → ℕ
 sumPlace s v f = dueNear s v f - s .modulus
 
--- how many frames stand at the front of a queue whose sums have places below k
+-- how many frames stand at the front of a queue that are due before v, or whose sums have places below k
 abbrev pub framesBelow : Setup → ℕ → List ℕ → ℕ → ℕ
-framesBelow s v queue k = leading (λ f. ltb (sumPlace s v f) k) (held (s .epsilon) queue)
+framesBelow s v queue k = leading (λ f. ltb (dueNear s v f) (s .modulus + k)) (held (s .epsilon) queue)
 
 -- the entry for place k: those frames, and where the next one, or the end, starts
 unfoldable pub startOf : Setup → ℕ → List ℕ → ℕ → ℕ
@@ -67,6 +71,10 @@ filled m from to starts = changed (λ _. m) from to starts
 -- a step added to each from a place on
 abbrev pub movedStarts : ℕ → ℕ → List ℕ → List ℕ
 movedStarts from step starts = changed (λ m. m + step) from startPlaces starts
+
+-- a step taken from each
+abbrev pub loweredStarts : ℕ → List ℕ → List ℕ
+loweredStarts step starts = changed (λ m. m - step) 0 startPlaces starts
 
 -- numbers with which entries are moved
 pub record Moving (starts : List ℕ) (step : ℕ) : Type 0 where

@@ -1,8 +1,8 @@
 // Changes of a hold-back queue in its buffer: emptying, placing a frame, cutting off a prefix.
 ghost use mathlib.Core.Path.{_≡_};
 ghost use mathlib.Core.Bool.{true};
-ghost use mathlib.Core.List.{[]};
-ghost use Prim.Native.Nat.{_+_, _≤_, _<_};
+ghost use mathlib.Core.List.{[], _++_};
+ghost use Prim.Native.Nat.{_+_, _-_, _≤_, _<_};
 ghost use lib.ListN.{length, take, drop};
 ghost use Rattle.laws.specs.Lists.{overlay, insertAt};
 ghost use Rattle.model.specs.Frame.{decode, wellFormed};
@@ -37,23 +37,26 @@ pub fn put(epsilon: usize, buf: &mut [u8], count: usize, end: usize, place: Plac
     splice::put_u16(buf, 0, count + 1);
 }
 
-// 01, tick 6: the first frames of a queue are handed out: their number and their bytes.
-pub fn write_prefix(
+// 01, tick 6: the first frames of a queue are handed out behind those that already are: the number of all, and their bytes. `given`
+// is the number of those, and where they end.
+pub fn append_prefix(
     epsilon: usize,
     buf: &[u8],
     count: usize,
     end: usize,
     prefix: Place,
     delivery: &mut [u8],
+    given: Place,
 )
     requires { ⌜ Spans epsilon (now buf) count end (prefix .index) (prefix .at) ⌝ }
-    requires { ⌜ (length (now buf) ≤ length (now delivery)) × (count < 65536) ⌝ }
+    requires { ⌜ Spans epsilon (now delivery) (given .index) (given .at) (given .index) (given .at) ⌝ }
+    requires { ⌜ (given .at + (prefix .at - 2) ≤ length (now delivery)) × (given .index + prefix .index < 65536) ⌝ }
     ensures { λ _. ⌜ now (delivery .exit)
-        ≡ overlay (encodeFrames (take (prefix .index) (held epsilon (now (buf .entry))))) (now (delivery .entry)) ⌝ }
+        ≡ overlay (encodeFrames (held epsilon (now (delivery .entry)) ++ take (prefix .index) (held epsilon (now (buf .entry))))) (now (delivery .entry)) ⌝ }
 {
     let at = prefix.at;
-    splice::put_u16(delivery, 0, prefix.index);
-    splice::copy_into(delivery, 2, &buf[2..at]);
+    splice::put_u16(delivery, 0, given.index + prefix.index);
+    splice::copy_into(delivery, given.at, &buf[2..at]);
 }
 
 // 01, tick 6: they leave the shelf; the others move to the front, "then zeros".

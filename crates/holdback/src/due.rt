@@ -1,25 +1,26 @@
 // What is due at v: a prefix of a sound queue.
 use crate::change::Place;
+use crate::change::append_prefix;
 use crate::change::cut_prefix;
-use crate::change::write_prefix;
 use crate::timing::is_due;
 use setup::Setup;
 ghost use mathlib.Core.Path.{_≡_};
 ghost use mathlib.Core.Bool.{true, not};
-ghost use Prim.Native.Nat.{_≤_, _<_};
+ghost use mathlib.Core.List.{_++_};
+ghost use Prim.Native.Nat.{_*_, _-_, _≤_, _<_};
 ghost use lib.ListN.{length};
 ghost use Rattle.laws.specs.Lists.{leading, select, overlay};
 ghost use Rattle.model.specs.Setup.{inLimits};
 ghost use Rattle.model.specs.Frame.{twoAt};
 ghost use Rattle.model.specs.Holdback.{held, soundHoldback, encodeFrames, encodeHoldback};
-ghost use Rattle.model.specs.Tick.{dueNow};
+ghost use Rattle.model.specs.Tick.{dueNow, holdbackSize};
 ghost use Rattle.setup.specs.Views.{setupOf};
-ghost use Rattle.holdback.specs.Queue.{frameStart, Stands};
+ghost use Rattle.holdback.specs.Queue.{frameStart, Spans, Stands};
 
 // The frames at the front that are due at v.
 fn due_prefix(s: Setup, v: usize, buf: &[u8], count: usize) -> Place
     requires { ⌜ (inLimits (setupOf s) ≡ true) × (v < s .modulus) ⌝ }
-    requires { ⌜ (soundHoldback (setupOf s) v (now buf) ≡ true) × ((2 ≤ length (now buf)) × (count ≡ twoAt (now buf) 0)) ⌝ }
+    requires { ⌜ (soundHoldback (setupOf s) v (s .modulus) (now buf) ≡ true) × ((2 ≤ length (now buf)) × (count ≡ twoAt (now buf) 0)) ⌝ }
     ensures { λ p. ⌜ Stands (s .epsilon) (now (buf .entry)) (leading (dueNow (setupOf s) v) (held (s .epsilon) (now (buf .entry)))) (p .index) (p .at) ⌝ }
 {
     let epsilon = s.epsilon as usize;
@@ -36,7 +37,8 @@ fn due_prefix(s: Setup, v: usize, buf: &[u8], count: usize) -> Place
     Place { index: i, at }
 }
 
-// 01, tick 6: every frame that is due at v "is handed out, in order, and leaves the shelf". Answers how many.
+// 01, tick 6: every frame that is due at v "is handed out, in order, and leaves the shelf", behind those that are handed out already:
+// `given` is their number, and where they end. Answers how many are due at v.
 pub fn cut_due(
     s: Setup,
     v: usize,
@@ -44,19 +46,21 @@ pub fn cut_due(
     count: usize,
     end: usize,
     delivery: &mut [u8],
+    given: Place,
 ) -> usize
     requires { ⌜ (inLimits (setupOf s) ≡ true) × (v < s .modulus) ⌝ }
-    requires { ⌜ (soundHoldback (setupOf s) v (now buf) ≡ true) × ((2 ≤ length (now buf)) × (count ≡ twoAt (now buf) 0)) ⌝ }
-    requires { ⌜ (end ≡ frameStart (s .epsilon) (now buf) count) × (length (now buf) ≤ length (now delivery)) ⌝ }
+    requires { ⌜ (soundHoldback (setupOf s) v (s .modulus) (now buf) ≡ true) × ((2 ≤ length (now buf)) × (count ≡ twoAt (now buf) 0)) ⌝ }
+    requires { ⌜ (end ≡ frameStart (s .epsilon) (now buf) count) × (holdbackSize (setupOf s) ≤ length (now delivery)) ⌝ }
+    requires { ⌜ Spans (s .epsilon) (now delivery) (given .index) (given .at) (given .index) (given .at) × (given .index ≤ s .n * (2 * s .epsilon - 2)) ⌝ }
     ensures { λ r. ⌜ r ≡ length (select (dueNow (setupOf s) v) (held (s .epsilon) (now (buf .entry)))) ⌝ }
     ensures { λ _. ⌜ now (buf .exit)
         ≡ encodeHoldback (length (now (buf .entry))) (select (λ f. not (dueNow (setupOf s) v f)) (held (s .epsilon) (now (buf .entry)))) ⌝ }
     ensures { λ _. ⌜ now (delivery .exit)
-        ≡ overlay (encodeFrames (select (dueNow (setupOf s) v) (held (s .epsilon) (now (buf .entry))))) (now (delivery .entry)) ⌝ }
+        ≡ overlay (encodeFrames (held (s .epsilon) (now (delivery .entry)) ++ select (dueNow (setupOf s) v) (held (s .epsilon) (now (buf .entry))))) (now (delivery .entry)) ⌝ }
 {
     let epsilon = s.epsilon as usize;
     let due = due_prefix(s, v, buf, count);
-    write_prefix(epsilon, buf, count, end, due, delivery);
+    append_prefix(epsilon, buf, count, end, due, delivery, given);
     cut_prefix(epsilon, buf, count, end, due);
     due.index
 }

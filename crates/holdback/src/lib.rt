@@ -3,6 +3,7 @@
 mod change;
 mod compare;
 mod due;
+mod early;
 mod origins;
 mod search;
 mod soundness;
@@ -13,6 +14,7 @@ pub use change::Place;
 pub use change::empty;
 pub use change::put;
 pub use due::cut_due;
+pub use early::release;
 pub use origins::TABLE_LENGTH;
 pub use origins::mark;
 pub use origins::repeats;

@@ -9,7 +9,7 @@ ghost use lib.ListN.{length};
 ghost use Rattle.model.specs.Setup.{inLimits};
 ghost use Rattle.model.specs.Frame.{decode};
 ghost use Rattle.setup.specs.Views.{setupOf};
-ghost use Rattle.holdback.specs.Seen.{Placeable, Within, rankSlot, tableLength, hasMark, withMark, isMarked, marked};
+ghost use Rattle.holdback.specs.Seen.{Placeable, Within, rankSlot, tableLength, hasMark, withMark, withoutMark, isMarked, marked};
 
 // Places for one station in the table of origins, one for each reading.
 const ROW_LENGTH: usize = 128;
@@ -22,7 +22,7 @@ fn slot(s: Setup, rank: Rank) -> usize
     requires { ⌜ (inLimits (setupOf s) ≡ true) × Within (setupOf s) rank ⌝ }
     ensures { λ r. ⌜ (r ≡ rankSlot (setupOf s) rank) × (r < tableLength) ⌝ }
 {
-    let back = s.delta as usize + 2 * (s.epsilon as usize);
+    let back = s.delta as usize + 3 * (s.epsilon as usize);
     rank.station * ROW_LENGTH + (rank.reading + back - s.modulus as usize)
 }
 
@@ -44,6 +44,16 @@ pub fn set_mark(s: Setup, rank: Rank, seen: &mut [u8])
 {
     let i = slot(s, rank);
     seen[i] = 1;
+}
+
+// Takes its mark away.
+pub fn clear_mark(s: Setup, rank: Rank, seen: &mut [u8])
+    requires { ⌜ (inLimits (setupOf s) ≡ true) × Within (setupOf s) rank ⌝ }
+    requires { ⌜ length (now seen) ≡ tableLength ⌝ }
+    ensures { λ _. ⌜ now (seen .exit) ≡ withoutMark (now (seen .entry)) (rankSlot (setupOf s) rank) ⌝ }
+{
+    let i = slot(s, rank);
+    seen[i] = 0;
 }
 
 // A frame's place is marked. 01, 16: "that station and r" are shelved already.

@@ -28,9 +28,9 @@ pub fn place_for(
     frame: &[u8],
 ) -> Place
     requires { ⌜ (inLimits (setupOf s) ≡ true) × (v < s .modulus) ⌝ }
-    requires { ⌜ (soundHoldback (setupOf s) v (now buf) ≡ true) × ((2 ≤ length (now buf)) × (count ≡ twoAt (now buf) 0)) ⌝ }
+    requires { ⌜ (soundHoldback (setupOf s) v (s .modulus) (now buf) ≡ true) × ((2 ≤ length (now buf)) × (count ≡ twoAt (now buf) 0)) ⌝ }
     requires { ⌜ now starts ≡ startsOf (setupOf s) v (now buf) ⌝ }
-    requires { ⌜ fits (setupOf s) v (now frame) ≡ true ⌝ }
+    requires { ⌜ fits (setupOf s) v (s .modulus) (now frame) ≡ true ⌝ }
     ensures { λ p. ⌜ Stands (s .epsilon) (now (buf .entry)) (placeFor (setupOf s) v (held (s .epsilon) (now (buf .entry))) (decode (s .epsilon) (now (frame .entry)))) (p .index) (p .at) ⌝ }
 {
     let epsilon = s.epsilon as usize;

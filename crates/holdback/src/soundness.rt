@@ -8,7 +8,7 @@ use crate::starts::FRONT;
 use crate::starts::START_PLACES;
 use crate::starts::START_UNIT;
 use crate::starts::fill;
-use crate::timing::rank_place;
+use crate::timing::places_to;
 use crate::timing::timely;
 use setup::Setup;
 use setup::depth;
@@ -21,7 +21,7 @@ ghost use Rattle.model.specs.Setup.{inLimits};
 ghost use Rattle.setup.specs.Views.{setupOf};
 ghost use Rattle.holdback.specs.Seen.{tableLength};
 ghost use Rattle.holdback.specs.Starts.{allFront};
-ghost use Rattle.holdback.specs.Sound.{emptied, noRank, rankFollows, Compared, unsound, judgedAt, Walking, Starting, Walked};
+ghost use Rattle.holdback.specs.Sound.{emptied, noRank, rankFollows, Compared, unsound, judgedAt, Recent, Walking, Starting, Walked};
 
 // What the walk answers: sound or not, how many frames, and where they end, of an unsound queue as of an empty one.
 pub struct Walk {
@@ -95,6 +95,7 @@ fn follows(
 fn judge_at(
     s: Setup,
     v: usize,
+    least: usize,
     buf: &[u8],
     seen: &[u8],
     i: usize,
@@ -103,8 +104,8 @@ fn judge_at(
     at: usize,
 ) -> Judged
     requires { ⌜ (inLimits (setupOf s) ≡ true) × (v < s .modulus) ⌝ }
-    requires { ⌜ Walking (setupOf s) v (now buf) (now seen) i prev last at ⌝ }
-    ensures { λ r. ⌜ r ≡ judgedAt (setupOf s) v (now (buf .entry)) i ⌝ }
+    requires { ⌜ Recent (setupOf s) least × Walking (setupOf s) v least (now buf) (now seen) i prev last at ⌝ }
+    ensures { λ r. ⌜ r ≡ judgedAt (setupOf s) v least (now (buf .entry)) i ⌝ }
 {
     let epsilon = s.epsilon as usize;
     let next = at + frame::frame_end(epsilon, &buf[at..]);
@@ -115,7 +116,7 @@ fn judge_at(
         return unsound();
     }
     let rank = rank_of(s, v, &buf[at..next]);
-    if !timely(s, rank) {
+    if !timely(s, least, rank) {
         return unsound();
     }
     if !follows(epsilon, buf, i, prev, last, at, rank) {
@@ -128,19 +129,20 @@ fn judge_at(
 }
 
 // The walk. The table of origins gets those of the frames so far, and the table of starts where the frames of each sum start: the places
-// up to that of a frame's sum that are not filled yet get the frame, and the last ones the end. At a frame that is not sound the tables
-// of origins and of starts become what they were.
+// up to that of a frame's sum that are not filled yet get the frame, and the last ones the end. (A frame that is due before v fills none.)
+// At a frame that is not sound the tables of origins and of starts become what they were.
 fn walk_frames(
     s: Setup,
     v: usize,
+    least: usize,
     buf: &[u8],
     count: usize,
     seen: &mut [u8],
     starts: &mut [u32],
 ) -> Walk
     requires { ⌜ (inLimits (setupOf s) ≡ true) × (v < s .modulus) ⌝ }
-    requires { ⌜ Starting (setupOf s) v (now buf) (now seen) (now starts) count ⌝ }
-    ensures { λ w. ⌜ Walked (setupOf s) v (now (buf .entry)) (w .sound) (w .count) (w .end) (now (seen .exit)) (now (starts .exit)) ⌝ }
+    requires { ⌜ Recent (setupOf s) least × Starting (setupOf s) v (now buf) (now seen) (now starts) count ⌝ }
+    ensures { λ w. ⌜ Walked (setupOf s) v least (now (buf .entry)) (w .sound) (w .count) (w .end) (now (seen .exit)) (now (starts .exit)) ⌝ }
 {
     let slots = seen.len();
     let mut i = 0;
@@ -149,7 +151,7 @@ fn walk_frames(
     let mut last = no_rank();
     let mut filled = 0;
     while i < count {
-        let judged = judge_at(s, v, buf, seen, i, prev, last, at);
+        let judged = judge_at(s, v, least, buf, seen, i, prev, last, at);
         let next = judged.end;
         if next == 0 {
             splice::clear(seen, 0, slots);
@@ -158,7 +160,7 @@ fn walk_frames(
         }
         last = judged.rank;
         set_mark(s, last, seen);
-        let k = rank_place(s, last) + 1;
+        let k = places_to(s, last);
         fill(starts, filled, k, (i * START_UNIT + at) as u32);
         filled = k;
         prev = at;
@@ -179,16 +181,24 @@ fn walk_frames(
 }
 
 // 01: "It is sound if it holds at most n(δ + 3ε) frames that pass 10 to 12, strictly in order, no station and r twice, each
-// sum at most ε − 1 past v and each sum + δ + ε not before v." The tables of origins and of starts are lent, the one empty and the
-// other with the front in each place, and come back for the frames with which the tick starts.
-pub fn sound(s: Setup, v: usize, buf: &[u8], seen: &mut [u8], starts: &mut [u32]) -> Walk
-    requires { ⌜ (inLimits (setupOf s) ≡ true) × (v < s .modulus) ⌝ }
+// sum at most ε − 1 past v and each sum + δ + ε not before v", here not before the least due clock allowed. The tables of origins
+// and of starts are lent, the one empty and the other with the front in each place, and come back for the frames of the queue, or
+// of an empty one.
+pub fn sound(
+    s: Setup,
+    v: usize,
+    least: usize,
+    buf: &[u8],
+    seen: &mut [u8],
+    starts: &mut [u32],
+) -> Walk
+    requires { ⌜ (inLimits (setupOf s) ≡ true) × ((v < s .modulus) × Recent (setupOf s) least) ⌝ }
     requires { ⌜ (2 ≤ length (now buf)) × ((now seen ≡ replicate tableLength 0) × (now starts ≡ allFront)) ⌝ }
-    ensures { λ w. ⌜ Walked (setupOf s) v (now (buf .entry)) (w .sound) (w .count) (w .end) (now (seen .exit)) (now (starts .exit)) ⌝ }
+    ensures { λ w. ⌜ Walked (setupOf s) v least (now (buf .entry)) (w .sound) (w .count) (w .end) (now (seen .exit)) (now (starts .exit)) ⌝ }
 {
     let count = splice::two_at(buf, 0);
     if depth(s.n as usize, s.epsilon as usize, s.delta as usize) < count {
         return emptied();
     }
-    walk_frames(s, v, buf, count, seen, starts)
+    walk_frames(s, v, least, buf, count, seen, starts)
 }

@@ -13,7 +13,7 @@ ghost use Rattle.model.specs.Holdback.{passes};
 ghost use Rattle.model.specs.Tick.{dueNow};
 ghost use Rattle.setup.specs.Views.{setupOf};
 ghost use Rattle.holdback.specs.Sound.{fits, timely, Summed};
-ghost use Rattle.holdback.specs.Starts.{rankPlace, sumPlace};
+ghost use Rattle.holdback.specs.Starts.{rankPlace, placesTo, sumPlace};
 
 // The reading of a frame's r near v.
 pub fn reading_of(s: Setup, v: usize, frame: &[u8]) -> usize
@@ -38,11 +38,11 @@ fn sum_of(s: Setup, v: usize, frame: &[u8]) -> usize
     reading_of(s, v, frame) + frame::c_of(frame)
 }
 
-// 01: "each sum at most ε − 1 past v and each sum + δ + ε not before v", of one frame.
-pub fn timely(s: Setup, rank: Rank) -> bool
+// 01: "each sum at most ε − 1 past v", and its due clock, sum + δ + ε, not before the least allowed, of one frame.
+pub fn timely(s: Setup, least: usize, rank: Rank) -> bool
     requires { ⌜ inLimits (setupOf s) ≡ true ⌝ }
     requires { ⌜ (rank .reading ≤ 2 ^ 17) × (rank .c < s .epsilon) ⌝ }
-    ensures { λ b. ⌜ b ≡ timely (setupOf s) rank ⌝ }
+    ensures { λ b. ⌜ b ≡ timely (setupOf s) least rank ⌝ }
 {
     let sum = rank.reading + rank.c;
     let modulus = s.modulus as usize;
@@ -50,7 +50,7 @@ pub fn timely(s: Setup, rank: Rank) -> bool
     if modulus + (epsilon - 1) < sum {
         return false;
     }
-    modulus <= sum + s.delta as usize + epsilon
+    least <= sum + s.delta as usize + epsilon
 }
 
 // 01, tick 6: "whose sum + δ + ε (its due clock) equals v", which reads B.
@@ -65,16 +65,30 @@ pub fn is_due(s: Setup, v: usize, frame: &[u8]) -> bool
 // The place of a sum in the table of starts: how far its due clock lies past v.
 pub fn rank_place(s: Setup, rank: Rank) -> usize
     requires { ⌜ inLimits (setupOf s) ≡ true ⌝ }
-    requires { ⌜ (rank .reading ≤ 2 ^ 17) × ((rank .c < s .epsilon) × (timely (setupOf s) rank ≡ true)) ⌝ }
+    requires { ⌜ (rank .reading ≤ 2 ^ 17) × ((rank .c < s .epsilon) × (timely (setupOf s) (s .modulus) rank ≡ true)) ⌝ }
     ensures { λ r. ⌜ r ≡ rankPlace (setupOf s) rank ⌝ }
 {
     rank.reading + rank.c + s.delta as usize + s.epsilon as usize - s.modulus as usize
 }
 
-// The same, of a frame.
+// The places up to that of a sum: none where it is due before v.
+pub fn places_to(s: Setup, rank: Rank) -> usize
+    requires { ⌜ inLimits (setupOf s) ≡ true ⌝ }
+    requires { ⌜ (rank .reading ≤ 2 ^ 17) × (rank .c < s .epsilon) ⌝ }
+    ensures { λ r. ⌜ r ≡ placesTo (setupOf s) rank ⌝ }
+{
+    let next = rank.reading + rank.c + s.delta as usize + s.epsilon as usize + 1;
+    let modulus = s.modulus as usize;
+    if next < modulus {
+        return 0;
+    }
+    next - modulus
+}
+
+// The place of a frame's sum.
 pub fn sum_place(s: Setup, v: usize, frame: &[u8]) -> usize
     requires { ⌜ (inLimits (setupOf s) ≡ true) × (v < s .modulus) ⌝ }
-    requires { ⌜ fits (setupOf s) v (now frame) ≡ true ⌝ }
+    requires { ⌜ fits (setupOf s) v (s .modulus) (now frame) ≡ true ⌝ }
     ensures { λ r. ⌜ r ≡ sumPlace (setupOf s) v (decode (s .epsilon) (now (frame .entry))) ⌝ }
 {
     rank_place(s, rank_of(s, v, frame))

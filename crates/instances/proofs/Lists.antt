@@ -1,28 +1,30 @@
 -- The premises can be met: a list of calls from damage in every memory, and one from fresh stations, by computation.
 -- Assumes nothing.
-use Prim.Native.Nat.{ℕ, _-_, _%_}
+use Prim.Native.Nat.{ℕ, _+_, _-_, _%_}
 use mathlib.Core.Path.{_≡_, refl}
 use mathlib.Core.Bool.{Bool, true, false}
 use mathlib.Core.List.{List, [], _∷_, _++_, map}
 use mathlib.Core.Option.{Option, none, some}
-use lib.ListN.{length, take, replicate, getElem?}
-use Rattle.laws.specs.Lists.{largest, select, sameList, joined}
+use lib.ListN.{length, take, drop, replicate, getElem?}
+use Rattle.laws.specs.Lists.{largest, select, sortBy, sameList, joined}
 use Rattle.model.specs.Setup.{Setup}
 use Rattle.model.specs.Timestamp.{Timestamp}
 use Rattle.model.specs.Frame.{encode}
 use Rattle.model.specs.Holdback.{heldBytes}
 use Rattle.model.specs.Tick.{holdbackSize}
+use Rattle.model.specs.Published.{Condition, Process, known, beyond, initial, eventC, eventKn, counted, nextEvent, rank, less, deliverable, deliverableBy, inOrder, sameMessage, newOnes, eventOf, buffered, deliveredAt, advanced, messageOf, started}
 use Rattle.model.specs.Run.{Node, Source, sentBy, stale, Call, Done, inputOf, isAccepted, movedClock, nodeAfter, outputOf, doneOf, act, atStart, runFrom, sends, messageBytes}
 use Rattle.model.proofs.Computing.{computing}
-use Rattle.theory.specs.Premises.{sameSetup, together, distinct, validFor, exactHoldback, goodStart, largestClock, staleUntil, entriesAllowed, oneSetup, trueClock, hearsAllowed, acceptedWell, allowed, keeps, noneStale, isSent, sameTimestamp, isFresh, allFresh}
-use Rattle.theory.specs.Demand2.{publishAll, publishedStart, Matched}
+use Rattle.theory.specs.Premises.{sameSetup, together, distinct, validFor, exactHoldback, goodStart, largestClock, staleUntil, entriesAllowed, oneSetup, trueClock, stepAllowed, hearsAllowed, acceptedWell, allowed, keeps, noneStale, stepsOfOne, isSent, sameTimestamp, isFresh, allFresh}
+use Rattle.theory.specs.Demand2.{messagesHeard, outcomeOf, publish, publishAll, publishedStart, publishedAfter, Matched}
 use Rattle.theory.specs.Demand3.{coveredFrom, coveredFrame, Promised}
 use Rattle.theory.proofs.Demand2.{demand2-fresh}
+use Rattle.theory.proofs.OneProgram.{demand2-ones}
 use Rattle.theory.proofs.Demand3.{demand3}
 
--- every definition of the runs and the premises, opened at once
+-- every definition of the runs, the premises and the published program, opened at once
 unfoldable running : Unit {0}
-unfolding keeps allowed acceptedWell oneSetup trueClock hearsAllowed sameSetup together distinct validFor exactHoldback goodStart entriesAllowed staleUntil largestClock largest sameList noneStale isSent sameTimestamp isFresh allFresh coveredFrame coveredFrom act atStart runFrom doneOf outputOf nodeAfter movedClock isAccepted inputOf sends messageBytes computing
+unfolding keeps allowed acceptedWell oneSetup trueClock stepAllowed hearsAllowed sameSetup together distinct validFor exactHoldback goodStart entriesAllowed staleUntil largestClock largest sameList noneStale stepsOfOne isSent sameTimestamp isFresh allFresh coveredFrame coveredFrom act atStart runFrom doneOf outputOf nodeAfter movedClock isAccepted inputOf sends messageBytes known beyond initial eventC eventKn counted nextEvent rank less deliverable deliverableBy inOrder sortBy sameMessage newOnes eventOf buffered deliveredAt advanced messageOf started messagesHeard outcomeOf publish publishAll publishedStart computing
 running = tt
 
 -- n 2, ε 2, δ 1 and the least B
@@ -41,9 +43,9 @@ badTables = record { r = 5; c = 9; kn = replicate 32 77 }
 abbrev badQueue : List ℕ
 badQueue = replicate (holdbackSize group) 170
 
--- tables that were never written by a tick, but look sound for clock 13, and a queue that does for clock 11
+-- tables that were never written by a tick, but look sound for clock 13, two clocks after theirs, and a queue that does for clock 12
 abbrev likelyTables : Timestamp
-likelyTables = record { r = 12; c = 0; kn = 2 ∷ 1 ∷ 2 ∷ 0 ∷ replicate 28 255 }
+likelyTables = record { r = 11; c = 0; kn = 2 ∷ 1 ∷ 2 ∷ 0 ∷ replicate 28 255 }
 
 abbrev forged : List ℕ
 forged = bytesOf 1 11 0 (0 ∷ 1 ∷ 1 ∷ 0 ∷ []) (9 ∷ [])
@@ -66,14 +68,15 @@ pub record Sourced : Type 0 where
 abbrev batchOf : List Sourced → List ℕ
 batchOf entries = length entries ∷ joined (λ (e : Sourced). length (e .bytes) ∷ e .bytes) entries
 
--- a call of the node for a true clock
-abbrev calling : ℕ → ℕ → Bool → List ℕ → List Sourced → Call
-calling node clock send payload entries =
+-- a call of the node that moves its true clock by a step to this one
+abbrev stepping : ℕ → ℕ → ℕ → Bool → List ℕ → List Sourced → Call
+stepping step node clock send payload entries =
     record {
       node = node;
       setup = group;
       own = node;
       clock = clock % 14;
+      step = step;
       batch = batchOf entries;
       sources = map (λ (e : Sourced). e .source) entries;
       send = send;
@@ -83,8 +86,16 @@ calling node clock send payload entries =
       delivery = replicate (holdbackSize group) 3;
     }
 
+-- by one
+abbrev calling : ℕ → ℕ → Bool → List ℕ → List Sourced → Call
+calling node clock send payload entries = stepping 1 node clock send payload entries
+
 abbrev quiet : ℕ → ℕ → Call
 quiet node clock = calling node clock false [] []
+
+-- a quiet call that moves the clock by ε
+abbrev nudged : ℕ → ℕ → Call
+nudged node clock = stepping 2 node clock false [] []
 
 -- a call that sends one byte and hears these
 abbrev sending : ℕ → ℕ → ℕ → List Sourced → Call
@@ -101,6 +112,7 @@ failing node s clock =
       setup = s;
       own = node;
       clock = clock;
+      step = 7;
       batch = [];
       sources = [];
       send = true;
@@ -146,26 +158,32 @@ haunted = bytesOf 1 2 0 (2 ∷ 2 ∷ 2 ∷ 0 ∷ []) (2 ∷ [])
 
 -- a covered message of node 1 at 20, and one of node 0 at 19, sent because of it: the effect has the smaller r
 abbrev cause : List ℕ
-cause = bytesOf 1 6 0 (1 ∷ 1 ∷ 1 ∷ 0 ∷ []) (66 ∷ [])
+cause = bytesOf 1 6 0 (1 ∷ 0 ∷ 1 ∷ 0 ∷ []) (66 ∷ [])
 
 abbrev effect : List ℕ
-effect = bytesOf 0 5 1 (1 ∷ 1 ∷ 2 ∷ 1 ∷ []) (65 ∷ [])
+effect = bytesOf 0 5 1 (1 ∷ 1 ∷ 1 ∷ 1 ∷ []) (65 ∷ [])
 
--- the calls; B wraps at clock 14, two calls fail a check (clock 99; a setup of no nodes), and the last message sent is lost
+-- and one of node 0 at 21, due one clock after these
+abbrev third : List ℕ
+third = bytesOf 0 7 0 (1 ∷ 2 ∷ 1 ∷ 0 ∷ []) (67 ∷ [])
+
+-- the calls; B wraps at clock 14, two calls fail a check (clock 99; a setup of no nodes), and the last message sent is lost. Steps are of 1, and four
+-- of 2, which is ε: from damage, past the due clock of a junk frame, to the due clock of covered messages, and past it
 abbrev damagedCalls : List Call
 damagedCalls =
-    sending 0 11 1 (old ∷ scrap ∷ [])
+    stepping 2 0 12 true (1 ∷ []) (old ∷ scrap ∷ [])
     ∷ hearing 1 13 (old ∷ tooLate ∷ tooEarly ∷ tooFull ∷ [])
     ∷ failing 0 group 99
-    ∷ quiet 0 12 ∷ quiet 0 13 ∷ quiet 1 14
+    ∷ quiet 0 13 ∷ quiet 1 14
     ∷ failing 1 (record { n = 0; epsilon = 2; delta = 1; modulus = 14 }) 1
     ∷ hearing 1 15 (ghost ∷ []) ∷ quiet 0 14 ∷ hearing 0 15 (ghost′ ∷ [])
-    ∷ sending 1 16 2 [] ∷ hearing 0 16 (from 10 haunted ∷ [])
-    ∷ quiet 1 17 ∷ quiet 0 17 ∷ quiet 1 18 ∷ quiet 0 18 ∷ quiet 1 19
-    ∷ sending 1 20 66 [] ∷ sending 0 19 65 (from 17 cause ∷ [])
-    ∷ hearing 0 20 (from 17 cause ∷ from 18 effect ∷ [])
-    ∷ hearing 1 21 (from 18 effect ∷ from 17 cause ∷ from 18 effect ∷ [])
-    ∷ sending 0 21 67 [] ∷ quiet 1 22 ∷ quiet 0 22 ∷ quiet 1 23 ∷ quiet 0 23
+    ∷ sending 1 16 2 [] ∷ hearing 0 16 (from 9 haunted ∷ [])
+    ∷ quiet 1 17 ∷ quiet 0 17 ∷ quiet 1 18 ∷ quiet 0 18
+    ∷ stepping 2 1 20 true (66 ∷ []) [] ∷ sending 0 19 65 (from 15 cause ∷ [])
+    ∷ hearing 0 20 (from 15 cause ∷ from 16 effect ∷ [])
+    ∷ hearing 1 21 (from 16 effect ∷ from 15 cause ∷ from 16 effect ∷ [])
+    ∷ sending 0 21 67 [] ∷ hearing 1 22 (from 19 third ∷ [])
+    ∷ stepping 2 0 23 true (68 ∷ []) [] ∷ nudged 1 24
     ∷ []
 
 pub damaged-start : goodStart group damagedNodes ≡ true
@@ -185,10 +203,9 @@ figures d =
 -- damage is mended, older frames are taken and refused, calls are refused, repeats are passed over
 pub damaged-figures :
     map figures (runFrom (atStart damagedNodes) damagedCalls .past)
-    ≡ (11 ∷ 0 ∷ 1 ∷ 1 ∷ 0 ∷ 12 ∷ 0 ∷ 10 ∷ [])
+    ≡ (12 ∷ 0 ∷ 1 ∷ 1 ∷ 0 ∷ 12 ∷ 0 ∷ 10 ∷ [])
     ∷ (13 ∷ 0 ∷ 2 ∷ 1 ∷ 0 ∷ 0 ∷ 0 ∷ 13 ∷ 14 ∷ 15 ∷ [])
-    ∷ (11 ∷ 2 ∷ 0 ∷ 0 ∷ 0 ∷ 0 ∷ [])
-    ∷ (12 ∷ 0 ∷ 0 ∷ 0 ∷ 0 ∷ 0 ∷ [])
+    ∷ (12 ∷ 2 ∷ 0 ∷ 0 ∷ 0 ∷ 0 ∷ [])
     ∷ (13 ∷ 0 ∷ 0 ∷ 0 ∷ 0 ∷ 0 ∷ [])
     ∷ (14 ∷ 0 ∷ 0 ∷ 0 ∷ 0 ∷ 0 ∷ [])
     ∷ (14 ∷ 1 ∷ 0 ∷ 0 ∷ 0 ∷ 0 ∷ [])
@@ -201,31 +218,37 @@ pub damaged-figures :
     ∷ (17 ∷ 0 ∷ 0 ∷ 0 ∷ 0 ∷ 0 ∷ [])
     ∷ (18 ∷ 0 ∷ 0 ∷ 0 ∷ 0 ∷ 0 ∷ [])
     ∷ (18 ∷ 0 ∷ 0 ∷ 0 ∷ 0 ∷ 0 ∷ [])
-    ∷ (19 ∷ 0 ∷ 0 ∷ 0 ∷ 1 ∷ 0 ∷ [])
-    ∷ (20 ∷ 0 ∷ 0 ∷ 0 ∷ 0 ∷ 12 ∷ [])
+    ∷ (20 ∷ 0 ∷ 0 ∷ 0 ∷ 1 ∷ 12 ∷ [])
     ∷ (19 ∷ 0 ∷ 0 ∷ 1 ∷ 1 ∷ 12 ∷ 0 ∷ [])
     ∷ (20 ∷ 0 ∷ 0 ∷ 1 ∷ 0 ∷ 0 ∷ 16 ∷ 0 ∷ [])
     ∷ (21 ∷ 0 ∷ 0 ∷ 2 ∷ 0 ∷ 0 ∷ 0 ∷ 0 ∷ 16 ∷ [])
     ∷ (21 ∷ 0 ∷ 0 ∷ 0 ∷ 0 ∷ 12 ∷ [])
-    ∷ (22 ∷ 0 ∷ 0 ∷ 0 ∷ 0 ∷ 0 ∷ [])
-    ∷ (22 ∷ 0 ∷ 0 ∷ 0 ∷ 0 ∷ 0 ∷ [])
-    ∷ (23 ∷ 0 ∷ 0 ∷ 0 ∷ 2 ∷ 0 ∷ [])
-    ∷ (23 ∷ 0 ∷ 0 ∷ 0 ∷ 2 ∷ 0 ∷ [])
+    ∷ (22 ∷ 0 ∷ 0 ∷ 1 ∷ 0 ∷ 0 ∷ 0 ∷ [])
+    ∷ (23 ∷ 0 ∷ 0 ∷ 0 ∷ 2 ∷ 12 ∷ [])
+    ∷ (24 ∷ 0 ∷ 0 ∷ 0 ∷ 3 ∷ 0 ∷ [])
     ∷ []
 unfolding running
 damaged-figures = refl
 
--- the covered frames that a call for a clock handed out
-abbrev coveredAt : ℕ → Option Done → List (List ℕ)
-coveredAt v none = []
-coveredAt v (some d) = select (coveredFrame group 12 v) (heldBytes 2 (d .output .delivery))
+-- the covered frames that a call handed out
+abbrev coveredIn : Option Done → List (List ℕ)
+coveredIn none = []
+coveredIn (some d) = select (coveredFrame group 12 (d .clock)) (heldBytes 2 (d .output .delivery))
 
--- both boards hand out both covered messages at clock 23, the cause first
+-- both boards hand out both messages that are due at 23, the cause first: node 0 at 23, and node 1, whose clock goes from 22 to 24, at 24, and in the
+-- same hand-out then what is due at 24
 pub damaged-delivers :
-    map (λ k. coveredAt 23 (getElem? (runFrom (atStart damagedNodes) damagedCalls .past) k)) (24 ∷ 25 ∷ [])
-    ≡ (cause ∷ effect ∷ []) ∷ (cause ∷ effect ∷ []) ∷ []
+    map (λ k. coveredIn (getElem? (runFrom (atStart damagedNodes) damagedCalls .past) k)) (21 ∷ 22 ∷ [])
+    ≡ (cause ∷ effect ∷ []) ∷ (cause ∷ effect ∷ third ∷ []) ∷ []
 unfolding running
 damaged-delivers = refl
+
+-- 02, 2.2: "A step of 1 to ε": the premises rule out a first call of node 0 with a step of 0 or above ε
+pub damaged-steps :
+    map (λ k. keeps group (largestClock damagedNodes) (atStart damagedNodes) (stepping k 0 (10 + k) false [] [] ∷ [])) (0 ∷ 1 ∷ 2 ∷ 3 ∷ [])
+    ≡ false ∷ true ∷ true ∷ false ∷ []
+unfolding running
+damaged-steps = refl
 
 -- so demand 3 holds of this list
 pub damaged-promised : Promised group (largestClock damagedNodes) (runFrom (atStart damagedNodes) damagedCalls .past)
@@ -251,15 +274,22 @@ freshCause = bytesOf 1 0 0 (0 ∷ 1 ∷ 1 ∷ 0 ∷ []) (66 ∷ [])
 abbrev freshEffect : List ℕ
 freshEffect = bytesOf 0 13 1 (1 ∷ 1 ∷ 2 ∷ 1 ∷ []) (65 ∷ [])
 
--- both are heard on both boards, some of them again, and handed out when due; a refused call between
-abbrev freshCalls : List Call
-freshCalls =
+-- both are heard on both boards, some of them again; a refused call between
+abbrev freshHeard : List Call
+freshHeard =
     quiet 0 12 ∷ sending 1 14 66 [] ∷ sending 0 13 65 (from 1 freshCause ∷ [])
     ∷ hearing 1 15 (from 2 freshEffect ∷ from 1 freshCause ∷ from 2 freshEffect ∷ [])
     ∷ failing 1 group 14
     ∷ hearing 0 14 (from 1 freshCause ∷ from 2 freshEffect ∷ [])
-    ∷ quiet 1 16 ∷ quiet 0 15 ∷ quiet 1 17 ∷ quiet 0 16 ∷ quiet 0 17
-    ∷ []
+    ∷ quiet 1 16 ∷ []
+
+-- and handed out when due, at 17, by steps of one
+abbrev freshCalls : List Call
+freshCalls = freshHeard ++ (quiet 0 15 ∷ quiet 1 17 ∷ quiet 0 16 ∷ quiet 0 17 ∷ [])
+
+-- or by steps of ε, of which one goes past it
+abbrev nudgedCalls : List Call
+nudgedCalls = freshHeard ++ (nudged 0 16 ∷ nudged 1 18 ∷ quiet 0 17 ∷ [])
 
 pub fresh-start : goodStart group freshNodes ≡ true
 unfolding running
@@ -276,6 +306,10 @@ fresh-keeps = refl
 pub fresh-none-stale : noneStale (runFrom (atStart freshNodes) freshCalls .past) ≡ true
 unfolding running
 fresh-none-stale = refl
+
+pub fresh-ones : stepsOfOne (runFrom (atStart freshNodes) freshCalls .past) ≡ true
+unfolding running
+fresh-ones = refl
 
 pub fresh-figures :
     map figures (runFrom (atStart freshNodes) freshCalls .past)
@@ -294,8 +328,41 @@ pub fresh-figures :
 unfolding running
 fresh-figures = refl
 
--- so demand 2 holds of this list
+-- so demand 2 holds of this list, with Equation 4.11's program
 pub fresh-matched :
     (j : ℕ) (d : Done) → getElem? (runFrom (atStart freshNodes) freshCalls .past) j ≡ some d → isAccepted (d .output) ≡ true
-    → Matched group (publishAll group (publishedStart group freshNodes) (take j (runFrom (atStart freshNodes) freshCalls .past))) d
-fresh-matched = demand2-fresh group freshNodes freshCalls fresh-start fresh-nodes fresh-keeps fresh-none-stale
+    → Matched deliverable group (publishedAfter deliverable group freshNodes freshCalls j) d
+fresh-matched = demand2-ones group freshNodes freshCalls fresh-start fresh-nodes fresh-keeps fresh-none-stale fresh-ones
+
+pub nudged-keeps : keeps group (largestClock freshNodes) (atStart freshNodes) nudgedCalls ≡ true
+unfolding running
+nudged-keeps = refl
+
+pub nudged-none-stale : noneStale (runFrom (atStart freshNodes) nudgedCalls .past) ≡ true
+unfolding running
+nudged-none-stale = refl
+
+-- the clock and the hand-out of the last calls
+pub nudged-figures :
+    map (λ (d : Done). d .clock ∷ d .output .answer .delivered ∷ []) (drop 7 (runFrom (atStart freshNodes) nudgedCalls .past))
+    ≡ (16 ∷ 0 ∷ []) ∷ (18 ∷ 2 ∷ []) ∷ (17 ∷ 2 ∷ []) ∷ []
+unfolding running
+nudged-figures = refl
+
+-- demand 2 holds of it with the program that delivers at or past a due clock
+pub nudged-matched :
+    (j : ℕ) (d : Done) → getElem? (runFrom (atStart freshNodes) nudgedCalls .past) j ≡ some d → isAccepted (d .output) ≡ true
+    → Matched deliverableBy group (publishedAfter deliverableBy group freshNodes nudgedCalls j) d
+nudged-matched = demand2-fresh group freshNodes nudgedCalls fresh-start fresh-nodes nudged-keeps nudged-none-stale
+
+-- how many messages a process delivers at 18, hearing nothing
+abbrev deliveredAt18 : Condition → Option Process → ℕ
+deliveredAt18 delcond none = 0
+deliveredAt18 delcond (some p) = length (deliveredAt delcond 2 1 18 p [])
+
+-- Equation 4.11's program delivers nothing there: it is another one where a step goes past a due clock
+pub nudged-missed :
+    map (λ (delcond : Condition). deliveredAt18 delcond (getElem? (publishedAfter delcond group freshNodes nudgedCalls 8 .processes) 1)) (deliverable ∷ deliverableBy ∷ [])
+    ≡ 0 ∷ 2 ∷ []
+unfolding running
+nudged-missed = refl

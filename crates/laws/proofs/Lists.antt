@@ -266,6 +266,12 @@ module _ {A : Type 0} where
   select-none p (x ∷ xs) h =
       rw (or-false-left (p x) (any p xs) h) (select-none p xs (or-false-right (p x) (any p xs) h))
 
+  pub select-ext : (p q : A → Bool) (l : List A) → ((x : A) → List·Memᴰ x l → p x ≡ q x) → select p l ≡ select q l
+  unfolding select
+  select-ext p q [] h = refl
+  select-ext p q (x ∷ l) h =
+      ap₂ (λ (b : Bool) (r : List A). cond b (x ∷ r) r) (h x (List·Memᴰ·head refl)) (select-ext p q l (λ y m. h y (List·Memᴰ·tail m)))
+
   pub select-length-le : (p : A → Bool) (l : List A) → length (select p l) ≤ length l
   unfolding select
   select-length-le p [] = zero-le

@@ -47,10 +47,10 @@ pub record FrameOk (s : Setup) (f : Frame) : Type 0 where
   pub sound : Sound (s .n) (s .epsilon) (f .stamp)
   pub short : length (f .payload) ≤ 32
 
--- a queue that is sound for the modular clock v
-pub record QueueOk (s : Setup) (v : ℕ) (queue : List Frame) : Type 0 where
+-- a queue that is sound for the modular clock v, with the least due clock that is allowed
+pub record QueueOk (s : Setup) (v least : ℕ) (queue : List Frame) : Type 0 where
   pub frames : (f : Frame) → List·Memᴰ f queue → FrameOk s f
   pub ordered : chained (before s v) queue ≡ true
   pub single : apart sameOrigin queue ≡ true
   pub early : every (notEarly s v) queue ≡ true
-  pub overdue : every (notOverdue s v) queue ≡ true
+  pub overdue : every (notOverdue s v least) queue ≡ true

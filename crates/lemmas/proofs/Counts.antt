@@ -1,22 +1,21 @@
 -- What a tick does to the counts, by true clocks. The clock w is named w + ε, so that none is negative: the count of a timestamp at the true
 -- clock R for the clock w, countAt ε R kn w, is what stands at w + ε where kn is laid down from R on, placedAt R kn (w + ε).
 -- Assumes nothing.
-use Prim.Native.Nat.{ℕ, _+_, _-_, _%_, _≤_, _<_, max}
+use Prim.Native.Nat.{ℕ, _+_, _-_, _≤_, _<_, max}
 use native.Mathlib.Omega.{arith}
-use native.Mathlib.Nat.{mod-lt, mod-add-mod}
 use mathlib.Core.Path.{_≡_, refl, sym, ap, subst, _∙_}
 use mathlib.Core.Logic.{_⊎_, inl, inr}
 use mathlib.Core.Bool.{true, _&&_}
 use mathlib.Core.List.{List, _++_}
 use lib.ListN.{length, drop, getD, set, replicate, length-append, length-drop, length-set, length-replicate, List·getD-eq-default}
-use lib.Dec.{leb, ltb, eqb}
+use lib.Dec.{leb, ltb}
 use lib.Seq.{getD-drop, getD-set-same, getD-set-other}
-use borrow.Author.Tests.{le-leb, lt-leb, leb-true, lt-ltb, eq-eqb}
-use Rattle.laws.specs.Lists.{tab, placedAt, padded}
+use borrow.Author.Tests.{le-leb, lt-leb, leb-true, lt-ltb, ltb-true}
+use Rattle.laws.specs.Lists.{within, tab, placedAt, padded}
 use Rattle.laws.proofs.Numbers.{lt-or-ge, eq-or-ne, and-intro, and-left, and-right}
 use Rattle.laws.proofs.Lists.{length-tab, getD-tab, getD-tab-out, tab-getD, tab-ext, every-index, every-of-index, getD-zeros, getD-append-zeros, getD-padded}
 use Rattle.model.specs.Setup.{width, widest}
-use Rattle.model.specs.Timestamp.{Timestamp, countAt, countsFrom, sum, atMost, soundTimestamp, soundTables, shift, step, replaced, absorb, countOwn, trimmed, widened, fresh}
+use Rattle.model.specs.Timestamp.{Timestamp, countAt, countsFrom, sum, atMost, soundTimestamp, clockStep, soundTables, shift, step, replaced, absorb, countOwn, trimmed, widened, fresh}
 use Rattle.model.specs.Order.{countsDown}
 use Rattle.lemmas.proofs.Bounds.{Sound, Opened}
 
@@ -156,7 +155,7 @@ sound-to n epsilon t s =
     (at-most-past-to 0 epsilon 0 (t .kn) (t .c + 1) (λ i h. let z : placedAt 0 (t .kn) i ≡ 0 = s .above i (omega arith) in omega arith))))
 
 -- the tests that tables pass besides
-tables-rest : (n epsilon B v : ℕ) (t : Timestamp) → soundTables n epsilon B v t ≡ true → (ltb (t .r) B && (eqb ((t .r + 1) % B) v && atMost (n - 1) (countsFrom epsilon 0 (t .kn) 1))) ≡ true
+tables-rest : (n epsilon B v : ℕ) (t : Timestamp) → soundTables n epsilon B v t ≡ true → (ltb (t .r) B && (within 1 epsilon (clockStep B (t .r) v) && atMost (n - 1) (countsFrom epsilon 0 (t .kn) 1))) ≡ true
 unfolding soundTables
 tables-rest n epsilon B v t h = and-right (soundTimestamp n epsilon t) _ h
 
@@ -164,11 +163,21 @@ pub tables-sound : (n epsilon B v : ℕ) (t : Timestamp) → soundTables n epsil
 unfolding soundTables
 tables-sound n epsilon B v t h = and-left (soundTimestamp n epsilon t) _ h
 
+-- the step of sound tables is 1 to ε
+pub tables-step : (n epsilon B v : ℕ) (t : Timestamp) → soundTables n epsilon B v t ≡ true → (1 ≤ clockStep B (t .r) v) × (clockStep B (t .r) v ≤ epsilon)
+unfolding within
+tables-step n epsilon B v t h =
+    let w = and-left (leb 1 (clockStep B (t .r) v) && leb (clockStep B (t .r) v) epsilon) _ (and-right (ltb (t .r) B) _ (tables-rest n epsilon B v t h)) in
+    (leb-true 1 (clockStep B (t .r) v) (and-left _ _ w), leb-true (clockStep B (t .r) v) epsilon (and-right (leb 1 (clockStep B (t .r) v)) _ w))
+
+pub tables-below : (n epsilon B v : ℕ) (t : Timestamp) → soundTables n epsilon B v t ≡ true → t .r < B
+tables-below n epsilon B v t h = ltb-true (t .r) B (and-left (ltb (t .r) B) _ (tables-rest n epsilon B v t h))
+
 -- no count of sound tables past their clock is full
 pub tables-room : (n epsilon B v : ℕ) (t : Timestamp) → soundTables n epsilon B v t ≡ true → (i : ℕ) → epsilon < i → placedAt 0 (t .kn) i ≤ n - 1
 tables-room n epsilon B v t h i k =
     at-most-past (n - 1) epsilon 0 (t .kn) 1
-    (and-right (eqb ((t .r + 1) % B) v) _ (and-right (ltb (t .r) B) _ (tables-rest n epsilon B v t h))) i (omega arith)
+    (and-right (within 1 epsilon (clockStep B (t .r) v)) _ (and-right (ltb (t .r) B) _ (tables-rest n epsilon B v t h))) i (omega arith)
 
 pub trimmed-wide : (epsilon : ℕ) (t : Timestamp) → length (trimmed epsilon t .kn) ≡ width epsilon
 unfolding trimmed
@@ -428,12 +437,15 @@ own-left n epsilon v t n-pos e o =
       room = unfold countOwn in (λ i k. rw (own-at (t .kn) epsilon i (λ q. omega arith)) (let z : placedAt 0 (t .kn) i < n = o .room i (omega arith) in omega arith));
     }
 
--- such tables are sound for the clock one after theirs
-pub left-tables : (n epsilon B : ℕ) (t : Timestamp) → Left n epsilon t → t .r < B → (v : ℕ) → (t .r + 1) % B ≡ v → soundTables n epsilon B v t ≡ true
-unfolding soundTables
-left-tables n epsilon B t left below v e =
+-- such tables are sound for the clocks 1 to ε after theirs
+pub left-tables : (n epsilon B : ℕ) (t : Timestamp) → Left n epsilon t → t .r < B → (v k : ℕ) → clockStep B (t .r) v ≡ k → 1 ≤ k → k ≤ epsilon → soundTables n epsilon B v t ≡ true
+unfolding soundTables within
+left-tables n epsilon B t left below v k e pos few =
     and-intro (sound-to n epsilon t (left .sound)) (and-intro (lt-ltb (t .r) B below)
-    (and-intro (eq-eqb ((t .r + 1) % B) v e) (at-most-past-to (n - 1) epsilon 0 (t .kn) 1 (λ i k. left .room i (omega arith)))))
+    (and-intro steps (at-most-past-to (n - 1) epsilon 0 (t .kn) 1 (λ i k. left .room i (omega arith)))))
+  where
+    steps : (leb 1 (clockStep B (t .r) v) && leb (clockStep B (t .r) v) epsilon) ≡ true
+    steps = rw e (and-intro (le-leb 1 k pos) (le-leb k epsilon few))
 
 -- fresh tables are replaced ones after their own event
 pub fresh-own : (epsilon clock : ℕ) → fresh epsilon clock ≡ countOwn epsilon clock (replaced epsilon clock)

@@ -2,10 +2,11 @@
 -- Assumes nothing.
 use Prim.Native.Nat.{ℕ, zero, suc, _+_, _*_, _-_, _%_, _≤_, _<_}
 use native.Mathlib.Omega.{arith}
-use native.Mathlib.Nat.{mod-lt, mod-eq-of-lt, mul-le-mul-right, add-zero, zero-add}
+use native.Mathlib.Nat.{mod-eq-of-lt, add-zero, zero-add}
 use mathlib.Core.Path.{_≡_, refl, sym, ap, subst, _∙_}
-use mathlib.Core.Bool.{Bool, true, false, _&&_, not, cond}
-use mathlib.Core.List.{List, [], _∷_, _++_, map, List·Memᴰ, append-nil, append-assoc}
+use mathlib.Core.Logic.{_⊎_, inl, inr}
+use mathlib.Core.Bool.{Bool, true, false, _&&_, cond}
+use mathlib.Core.List.{List, [], _∷_, _++_, map, List·Memᴰ, List·Memᴰ·append-cases, append-nil, append-assoc}
 use mathlib.Core.Option.{some}
 use lib.Dec.{leb, ltb, eqb}
 use lib.ListN.{length, take, drop, getD, getElem?, length-append, List·getD-append}
@@ -13,23 +14,24 @@ use lib.Seq.{getD-append-seam}
 use borrow.Author.Tests.{leb-true, ltb-true}
 use Rattle.laws.specs.Lists.{select, overlay}
 use Rattle.laws.proofs.Numbers.{and-left}
-use Rattle.laws.proofs.Lists.{mem-of-select, take-overlay, select-append, select-length-le, getElem?-lt}
+use Rattle.laws.proofs.Lists.{mem-of-select, take-overlay, select-append, getElem?-lt}
+use Rattle.laws.proofs.Sorted.{Sorted}
 use Rattle.model.specs.Setup.{Setup, width, longestFrame, inLimits, isMember, depth}
-use Rattle.model.specs.Timestamp.{Timestamp, sum, trimmed, step, widened, replaced, absorb, countOwn, soundTables}
-use Rattle.model.specs.Order.{readingOf}
+use Rattle.model.specs.Timestamp.{Timestamp, sum, trimmed, step, widened, replaced, absorb, countOwn, clockStep, soundTables}
+use Rattle.model.specs.Order.{readingOf, keyNear}
 use Rattle.model.specs.Frame.{Frame, encode, decode}
 use Rattle.model.specs.Batch.{batchEntries, exactBatch}
 use Rattle.model.specs.Holdback.{heldBytes, held, notEarly, soundHoldback, encodeFrames, encodeHoldback}
 use Rattle.model.specs.Question.{askSetup, firstNo}
 use Rattle.model.specs.Codec.{askPayload}
-use Rattle.model.specs.Judge.{Heard, taken, verdictBy, judge, hearBy, hear, hearOne, judgeQuestions, placeFor, absorbBy, absorbAll}
-use Rattle.model.specs.Tick.{Input, Output, holdbackSize, roomy, callQuestions, tablesSound, openingStamp, openingQueue, opening, heardOf, heardStamp, newStamp, sentBytes, takenCount, deliveredOf, keptOf, dueNow, repairOf, acceptance, refusal, tickBy, tick}
+use Rattle.model.specs.Judge.{Heard, verdictBy, judge, hearBy, hear, hearOne, judgeQuestions, placeFor, absorbBy, absorbAll}
+use Rattle.model.specs.Tick.{Input, Output, holdbackSize, roomy, callQuestions, tablesSound, stepOf, leastDue, openingStamp, openedQueue, dueBefore, earlyOf, opening, heardOf, heardStamp, newStamp, sentBytes, takenCount, deliveredOf, keptOf, dueNow, acceptance, refusal, tickBy, tick}
 use Rattle.lemmas.proofs.Bounds.{Limits, Sound, Opened, FrameOk, QueueOk}
 use Rattle.lemmas.proofs.Questions.{first-yes, other-yes, setup-from}
-use Rattle.lemmas.proofs.Counts.{Left, tables-left, left-tables, opened-step, opened-replaced, opened-absorb, own-left, trimmed-wide, trimmed-widened}
-use Rattle.lemmas.proofs.Reading.{near-high}
+use Rattle.lemmas.proofs.Counts.{Left, tables-step, tables-left, left-tables, opened-step, opened-replaced, opened-absorb, own-left, trimmed-wide, trimmed-widened}
+use Rattle.lemmas.proofs.Reading.{step-true, near-high}
 use Rattle.lemmas.proofs.RoundTrip.{held-encode, held-holdback}
-use Rattle.lemmas.proofs.Queue.{Passed, judged-passed, opening-queue, queue-take, queue-room, queue-sound, QueueLeft, queue-left, left-later, left-ok}
+use Rattle.lemmas.proofs.Queue.{Passed, judged-passed, opening-queue, queue-rest, queue-take, early-few, due-few, both-few, due-sorted, queue-sound, QueueLeft, queue-left, left-later, left-ok, left-room, depth-small}
 
 -- the tick by the number of the first question that gets a no
 pub tick-by : (i : Input) (k : ℕ) → firstNo (callQuestions i) ≡ k → tick i ≡ tickBy k i
@@ -83,6 +85,22 @@ pub record Absorbing (s : Setup) (v : ℕ) (t : Timestamp) : Type 0 where
   pub opened : Opened (s .n) (s .epsilon) t
   pub r-is : t .r ≡ v
 
+-- the step of sound tables is 1 to ε
+pub step-bounds : (s : Setup) (v : ℕ) (tables : Timestamp) → tablesSound s v tables ≡ true → (1 ≤ stepOf s v tables) × (stepOf s v tables ≤ s .epsilon)
+unfolding tablesSound stepOf trimmed
+step-bounds s v tables e = tables-step (s .n) (s .epsilon) (s .modulus) v (trimmed (s .epsilon) tables) e
+
+-- so the least due clock allowed lies less than ε before v, and not past it
+pub least-bounds : (s : Setup) (v : ℕ) (tables : Timestamp) → Limits s → (leastDue s v tables ≤ s .modulus) × (s .modulus + 1 ≤ leastDue s v tables + s .epsilon)
+unfolding leastDue
+least-bounds s v tables limits = go (tablesSound s v tables) refl
+  where
+    go : (b : Bool) → tablesSound s v tables ≡ b → (cond b (s .modulus + 1 - stepOf s v tables) (s .modulus) ≤ s .modulus) × (s .modulus + 1 ≤ cond b (s .modulus + 1 - stepOf s v tables) (s .modulus) + s .epsilon)
+    go true e =
+        let steps = step-bounds s v tables e in
+        (omega (arith, steps .0), omega (arith, steps .1, limits .modulus-least))
+    go false e = (omega arith, omega (arith, limits .epsilon-pos))
+
 pub opening-stamp : (s : Setup) (v : ℕ) (tables : Timestamp) → Limits s → Absorbing s v (openingStamp s v tables)
 unfolding openingStamp tablesSound width
 opening-stamp s v tables limits = go (tablesSound s v tables) refl
@@ -90,11 +108,12 @@ opening-stamp s v tables limits = go (tablesSound s v tables) refl
     own : Timestamp
     own = trimmed (s .epsilon) tables
 
-    go : (b : Bool) → tablesSound s v tables ≡ b → Absorbing s v (cond b (step 1 v own) (replaced (s .epsilon) v))
+    go : (b : Bool) → tablesSound s v tables ≡ b → Absorbing s v (cond b (step (stepOf s v tables) v own) (replaced (s .epsilon) v))
     go true e =
+        let steps = step-bounds s v tables e in
         record {
           opened =
-              opened-step (s .n) (s .epsilon) 1 v own (limits .n-pos) (omega arith) (omega (arith, limits .epsilon-pos))
+              opened-step (s .n) (s .epsilon) (stepOf s v tables) v own (limits .n-pos) (steps .0) (omega (arith, steps .1))
               (tables-left (s .n) (s .epsilon) (s .modulus) v own (limits .epsilon-pos) (trimmed-wide (s .epsilon) tables) e);
           r-is = unfold step in refl;
         }
@@ -117,7 +136,7 @@ absorbing-taken s v queue t f lim hg p =
     }
 
 -- the half that goes on the queue: one entry, one step of the hearing
-pub hearing-one : (s : Setup) (v : ℕ) (h : Heard) (bytes : List ℕ) → Limits s → v < s .modulus → QueueOk s v (h .queue) → QueueOk s v (hearOne s v (judgeQuestions s v) h bytes .queue)
+pub hearing-one : (s : Setup) (v : ℕ) (h : Heard) (bytes : List ℕ) → Limits s → v < s .modulus → QueueOk s v (s .modulus) (h .queue) → QueueOk s v (s .modulus) (hearOne s v (judgeQuestions s v) h bytes .queue)
 unfolding hearOne judge
 hearing-one s v h bytes lim below hg = go (firstNo (judgeQuestions s v (h .queue) bytes)) refl
   where
@@ -127,7 +146,7 @@ hearing-one s v h bytes lim below hg = go (firstNo (judgeQuestions s v (h .queue
     place : ℕ
     place = placeFor s v (h .queue) f
 
-    go : (k : ℕ) → firstNo (judgeQuestions s v (h .queue) bytes) ≡ k → QueueOk s v (hearBy (verdictBy k place) f h .queue)
+    go : (k : ℕ) → firstNo (judgeQuestions s v (h .queue) bytes) ≡ k → QueueOk s v (s .modulus) (hearBy (verdictBy k place) f h .queue)
     go zero e = queue-take s v (h .queue) f lim below hg (judged-passed s v (h .queue) bytes lim e)
     go (suc k) e = hg
 
@@ -140,7 +159,7 @@ absorbing-one s v queue t bytes lim hg = go (firstNo (judgeQuestions s v queue b
     go zero e = absorbing-taken s v queue t (decode (s .epsilon) bytes) lim hg (judged-passed s v queue bytes lim e)
     go (suc k) e = hg
 
-pub hearing-all : (s : Setup) (v : ℕ) (h : Heard) (entries : List (List ℕ)) → Limits s → v < s .modulus → QueueOk s v (h .queue) → QueueOk s v (hear s v (judgeQuestions s v) h entries .queue)
+pub hearing-all : (s : Setup) (v : ℕ) (h : Heard) (entries : List (List ℕ)) → Limits s → v < s .modulus → QueueOk s v (s .modulus) (h .queue) → QueueOk s v (s .modulus) (hear s v (judgeQuestions s v) h entries .queue)
 unfolding hear
 hearing-all s v h [] lim below hg = hg
 hearing-all s v h (bytes ∷ rest) lim below hg =
@@ -177,11 +196,16 @@ absorbing-all s v h t (bytes ∷ rest) lim hg =
     absorbing-all s v (hearOne s v (judgeQuestions s v) h bytes)
     (absorbBy (firstNo (judgeQuestions s v (h .queue) bytes)) s v (decode (s .epsilon) bytes) t) rest lim (absorbing-one s v (h .queue) t bytes lim hg)
 
-pub hearing-end : (i : Input) → Accepted i → QueueOk (i .setup) (i .clock) (heardOf i .queue)
+-- the queue as the call found it, or emptied
+pub opened-ok : (i : Input) → Accepted i → QueueOk (i .setup) (i .clock) (leastDue (i .setup) (i .clock) (i .tables)) (openedQueue i)
+unfolding openedQueue
+opened-ok i a = opening-queue (i .setup) (i .clock) (leastDue (i .setup) (i .clock) (i .tables)) (i .holdback) (a .limits)
+
+pub hearing-end : (i : Input) → Accepted i → QueueOk (i .setup) (i .clock) (i .setup .modulus) (heardOf i .queue)
 unfolding heardOf
 hearing-end i a =
     hearing-all (i .setup) (i .clock) (opening i) (batchEntries (i .batch)) (a .limits) (a .clock-below)
-    (opening-queue (i .setup) (i .clock) (i .holdback) (a .limits))
+    (queue-rest (i .setup) (i .clock) (leastDue (i .setup) (i .clock) (i .tables)) (openedQueue i) (opened-ok i a))
 
 pub heard-verdicts : (i : Input) → heardOf i .verdicts ≡ numbersOf (i .setup) (i .clock) (opening i) (batchEntries (i .batch))
 unfolding heardOf
@@ -207,10 +231,16 @@ pub new-r : (i : Input) → newStamp i .r ≡ i .clock
 unfolding newStamp countOwn
 new-r i = refl
 
-pub new-tables : (i : Input) → Accepted i → soundTables (i .setup .n) (i .setup .epsilon) (i .setup .modulus) ((i .clock + 1) % i .setup .modulus) (newStamp i) ≡ true
-new-tables i a =
+-- the step to the clock k later
+step-later : (i : Input) (k : ℕ) → Accepted i → k ≤ i .setup .epsilon → clockStep (i .setup .modulus) (i .clock) ((i .clock + k) % i .setup .modulus) ≡ k
+step-later i k a few =
+    ap (λ (r : ℕ). clockStep (i .setup .modulus) r ((i .clock + k) % i .setup .modulus)) (sym (mod-eq-of-lt (a .clock-below)))
+    ∙ step-true (i .setup .modulus) (i .clock) k (omega (arith, few, a .limits .modulus-least, a .limits .epsilon-pos))
+
+pub new-tables : (i : Input) (k : ℕ) → Accepted i → 1 ≤ k → k ≤ i .setup .epsilon → soundTables (i .setup .n) (i .setup .epsilon) (i .setup .modulus) ((i .clock + k) % i .setup .modulus) (newStamp i) ≡ true
+new-tables i k a pos few =
     left-tables (i .setup .n) (i .setup .epsilon) (i .setup .modulus) (newStamp i) (new-left i a) (rw (new-r i) (a .clock-below))
-    ((i .clock + 1) % i .setup .modulus) (rw (new-r i) refl)
+    ((i .clock + k) % i .setup .modulus) k (rw (new-r i) (step-later i k a few)) pos few
 
 -- what stays on the queue, at the tick's own clock
 pub kept-left : (i : Input) → Accepted i → QueueLeft (i .setup) (i .clock) 0 (keptOf i)
@@ -224,9 +254,9 @@ kept-later i k a few =
     (left-later (i .setup) (i .clock) 0 k (keptOf i) (a .limits) (omega (arith, few))
     (subst (λ (v : ℕ). QueueLeft (i .setup) v 0 (keptOf i)) (sym (mod-eq-of-lt (a .clock-below))) (kept-left i a)))
 
-pub kept-sound : (i : Input) → Accepted i → QueueOk (i .setup) ((i .clock + 1) % i .setup .modulus) (keptOf i)
-kept-sound i a =
-    left-ok (i .setup) ((i .clock + 1) % i .setup .modulus) (keptOf i) (kept-later i 1 a (a .limits .epsilon-pos))
+pub kept-sound : (i : Input) (k : ℕ) → Accepted i → k ≤ i .setup .epsilon → QueueOk (i .setup) ((i .clock + k) % i .setup .modulus) (i .setup .modulus + 1 - k) (keptOf i)
+kept-sound i k a few =
+    left-ok (i .setup) ((i .clock + k) % i .setup .modulus) k (keptOf i) (kept-later i k a few)
 
 -- the answer's tables and buffers, of an accepted call
 pub tables-are : (i : Input) → Accepted i → tick i .answer .tables ≡ widened (newStamp i)
@@ -259,25 +289,13 @@ own-next i a =
     ap (trimmed (i .setup .epsilon)) (tables-are i a)
     ∙ trimmed-widened (i .setup .epsilon) (newStamp i) (a .limits .epsilon-most) (new-sound i a .wide)
 
-pub tables-next : (i : Input) → Accepted i → tablesSound (i .setup) ((i .clock + 1) % i .setup .modulus) (tick i .answer .tables) ≡ true
+-- sound for every next clock 1 to ε ahead
+pub tables-next : (i : Input) (k : ℕ) → Accepted i → 1 ≤ k → k ≤ i .setup .epsilon → tablesSound (i .setup) ((i .clock + k) % i .setup .modulus) (tick i .answer .tables) ≡ true
 unfolding tablesSound
-tables-next i a = rw (own-next i a) (new-tables i a)
+tables-next i k a pos few = rw (own-next i a) (new-tables i k a pos few)
 
 kept-most : (i : Input) → Accepted i → length (keptOf i) < depth (i .setup .n) (i .setup .epsilon) (i .setup .delta)
-unfolding keptOf
-kept-most i a =
-    omega (
-      arith,
-      select-length-le (λ f. not (dueNow (i .setup) (i .clock) f)) (heardOf i .queue),
-      queue-room (i .setup) (i .clock) (heardOf i .queue) (a .limits) (a .clock-below) (hearing-end i a),
-    )
-
--- no queue is longer than two bytes can say
-pub depth-small : (s : Setup) → Limits s → depth (s .n) (s .epsilon) (s .delta) < 65536
-unfolding depth
-depth-small s lim =
-    let a : s .n * (s .delta + 3 * s .epsilon) ≤ 16 * (s .delta + 3 * s .epsilon) = mul-le-mul-right (s .delta + 3 * s .epsilon) (lim .n-most) in
-    omega (arith, a, lim .epsilon-most, lim .delta-most)
+kept-most i a = left-room (i .setup) (i .clock) (keptOf i) (a .limits) (a .clock-below) (kept-left i a)
 
 -- the frames of the shelf that a tick leaves
 pub kept-held : (i : Input) → Accepted i → held (i .setup .epsilon) (tick i .holdback) ≡ keptOf i
@@ -286,26 +304,44 @@ kept-held i a =
     ∙ held-holdback (i .setup .epsilon) (holdbackSize (i .setup)) (keptOf i) (λ f m. kept-left i a .frames f m .sound .wide)
     (omega (arith, kept-most i a, depth-small (i .setup) (a .limits)))
 
--- the shelf that a tick leaves is sound for the next clock
-pub shelf-sound : (i : Input) → Accepted i → soundHoldback (i .setup) ((i .clock + 1) % i .setup .modulus) (tick i .holdback) ≡ true
-shelf-sound i a =
-    ap (λ (x : List ℕ). soundHoldback (i .setup) ((i .clock + 1) % i .setup .modulus) x) (holdback-is i a)
-    ∙ queue-sound (i .setup) ((i .clock + 1) % i .setup .modulus) (keptOf i) (a .limits) (mod-lt (i .clock + 1) (omega (arith, a .clock-below))) (kept-sound i a)
+-- the shelf that a tick leaves is sound for every next clock 1 to ε ahead, each frame due after the tick's own
+pub shelf-sound : (i : Input) (k : ℕ) → Accepted i → k ≤ i .setup .epsilon → soundHoldback (i .setup) ((i .clock + k) % i .setup .modulus) (i .setup .modulus + 1 - k) (tick i .holdback) ≡ true
+shelf-sound i k a few =
+    ap (λ (x : List ℕ). soundHoldback (i .setup) ((i .clock + k) % i .setup .modulus) (i .setup .modulus + 1 - k) x) (holdback-is i a)
+    ∙ queue-sound (i .setup) ((i .clock + k) % i .setup .modulus) (i .setup .modulus + 1 - k) (keptOf i) (a .limits) (omega (arith, kept-most i a)) (kept-sound i k a few)
 
 -- what it wrote
 pub delivered-frames : (i : Input) → Accepted i → (f : Frame) → List·Memᴰ f (deliveredOf i) → FrameOk (i .setup) f
-unfolding deliveredOf
-delivered-frames i a f m = hearing-end i a .frames f (mem-of-select (dueNow (i .setup) (i .clock)) (heardOf i .queue) m .0)
+unfolding deliveredOf earlyOf
+delivered-frames i a f m = go (List·Memᴰ·append-cases (select (dueBefore (i .setup) (i .clock)) (openedQueue i)) m)
+  where
+    go :
+        List·Memᴰ f (select (dueBefore (i .setup) (i .clock)) (openedQueue i)) ⊎ List·Memᴰ f (select (dueNow (i .setup) (i .clock)) (heardOf i .queue))
+        → FrameOk (i .setup) f
+    go (inl e) = opened-ok i a .frames f (mem-of-select (dueBefore (i .setup) (i .clock)) (openedQueue i) e .0)
+    go (inr e) = hearing-end i a .frames f (mem-of-select (dueNow (i .setup) (i .clock)) (heardOf i .queue) e .0)
 
-pub delivered-most : (i : Input) → Accepted i → length (deliveredOf i) < 65536
-unfolding deliveredOf
-delivered-most i a =
+-- it is in order
+pub delivered-sorted : (i : Input) → Accepted i → Sorted (keyNear (i .setup) (i .clock)) (deliveredOf i)
+unfolding deliveredOf earlyOf
+delivered-sorted i a =
+    due-sorted (i .setup) (i .clock) (leastDue (i .setup) (i .clock) (i .tables)) (openedQueue i) (heardOf i .queue) (opened-ok i a) (hearing-end i a)
+
+-- n(3ε − 2) frames at most: a hand-out always has room
+pub delivered-few : (i : Input) → Accepted i → length (deliveredOf i) ≤ depth (i .setup .n) (i .setup .epsilon) (i .setup .delta)
+unfolding deliveredOf earlyOf
+delivered-few i a =
     omega (
       arith,
-      select-length-le (dueNow (i .setup) (i .clock)) (heardOf i .queue),
-      queue-room (i .setup) (i .clock) (heardOf i .queue) (a .limits) (a .clock-below) (hearing-end i a),
-      depth-small (i .setup) (a .limits),
+      length-append (select (dueBefore (i .setup) (i .clock)) (openedQueue i)) (select (dueNow (i .setup) (i .clock)) (heardOf i .queue)),
+      early-few (i .setup) (i .clock) (leastDue (i .setup) (i .clock) (i .tables)) (openedQueue i) (a .limits) (a .clock-below)
+          (least-bounds (i .setup) (i .clock) (i .tables) (a .limits) .1) (opened-ok i a),
+      due-few (i .setup) (i .clock) (heardOf i .queue) (a .limits) (a .clock-below) (hearing-end i a),
+      both-few (i .setup),
     )
+
+pub delivered-most : (i : Input) → Accepted i → length (deliveredOf i) < 65536
+delivered-most i a = omega (arith, delivered-few i a, depth-small (i .setup) (a .limits))
 
 pub delivered-bytes : (i : Input) → Accepted i → heldBytes (i .setup .epsilon) (tick i .delivery) ≡ map encode (deliveredOf i)
 unfolding overlay

@@ -2,21 +2,21 @@
 -- Assumes nothing.
 use Prim.Native.Nat.{ℕ, suc, _+_, _-_, _*_, _%_, _≤_, _<_}
 use native.Mathlib.Omega.{arith}
-use native.Mathlib.Nat.{mul-le-mul-right, mul-suc}
+use native.Mathlib.Nat.{mul-le-mul-left, mul-le-mul-right, mul-suc, mul-add}
 use mathlib.Core.Path.{_≡_, refl, sym, ap, ap₂, _∙_}
 use mathlib.Core.Bool.{Bool, true, false, not, _&&_, cond}
 use mathlib.Core.Logic.{_⊎_, inl, inr}
 use mathlib.Core.List.{List, [], _∷_, _++_, List·Memᴰ, List·Memᴰ·not-nil, Memᴰ·of-map}
-use lib.Dec.{leb, eqb}
+use lib.Dec.{leb, ltb, eqb}
 use lib.ListN.{length, drop}
 use lib.Seq.{drop-at}
-use borrow.Author.Tests.{le-leb, lt-ltb, eq-eqb, leb-true, eqb-false}
+use borrow.Author.Tests.{le-leb, lt-ltb, eq-eqb, leb-true, ltb-true, ltb-false, eqb-true, eqb-false}
 use Rattle.laws.specs.Lists.{any, every, chained, apart, insertAt, select, padded}
 use Rattle.laws.specs.Lex.{lexCompare}
 use Rattle.laws.proofs.Numbers.{clash, and-intro, and-left, and-right, false-of-not, eqb-sym}
-use Rattle.laws.proofs.Lists.{length-tab, every-mem, every-of-mem, every-map, every-insertAt, any-false, mem-of-insertAt, mem-of-select}
-use Rattle.laws.proofs.Lex.{lex-shift}
-use Rattle.laws.proofs.Sorted.{Sorted, sorted-of-chained, chained-of-sorted, sorted-select, sorted-insert, sorted-rekey, apart-select, apart-insertAt, pigeonhole-pairs}
+use Rattle.laws.proofs.Lists.{every-mem, every-of-mem, every-map, every-insertAt, any-false, mem-of-insertAt, mem-of-select}
+use Rattle.laws.proofs.Lex.{lt-isLess, lex-head-lt, lex-shift}
+use Rattle.laws.proofs.Sorted.{lessBy, Sorted, pairwise-append, sorted-of-chained, chained-of-sorted, sorted-select, sorted-insert, sorted-rekey, apart-select, apart-insertAt, pigeonhole-pairs}
 use Rattle.model.specs.Setup.{Setup, width, depth}
 use Rattle.model.specs.Timestamp.{sum, countsFrom, atMost}
 use Rattle.model.specs.Frame.{Frame, encode, decode, twoAt}
@@ -24,7 +24,7 @@ use Rattle.model.specs.Order.{readingOf, countsDown, keyBy, key, keyNear, compa
 use Rattle.model.specs.Holdback.{sameOrigin, passes, notEarly, notOverdue, heldBytes, held, soundHoldback, encodeFrames, encodeHoldback}
 use Rattle.model.specs.Question.{firstNo}
 use Rattle.model.specs.Judge.{askLate, askEarly, askCounts, askRepeat, askRoom, placeQuestions, judgeQuestions, placeFor}
-use Rattle.model.specs.Tick.{openingQueue, dueNow, holdbackSize}
+use Rattle.model.specs.Tick.{openingQueue, dueBefore, dueNow, holdbackSize}
 use Rattle.lemmas.proofs.Bounds.{Limits, FrameOk, QueueOk}
 use Rattle.lemmas.proofs.Reading.{near-true, near-high, near-later, near-injective}
 use Rattle.lemmas.proofs.Counts.{length-down}
@@ -39,13 +39,13 @@ pub early-to : (s : Setup) (v : ℕ) (f : Frame) → readingOf s v f + f .stamp 
 unfolding notEarly sum
 early-to s v f h = le-leb (readingOf s v f + f .stamp .c) (s .modulus + (s .epsilon - 1)) h
 
-pub overdue-from : (s : Setup) (v : ℕ) (f : Frame) → notOverdue s v f ≡ true → s .modulus ≤ readingOf s v f + f .stamp .c + s .delta + s .epsilon
+pub overdue-from : (s : Setup) (v least : ℕ) (f : Frame) → notOverdue s v least f ≡ true → least ≤ readingOf s v f + f .stamp .c + s .delta + s .epsilon
 unfolding notOverdue dueNear due sum
-overdue-from s v f h = leb-true (s .modulus) (readingOf s v f + f .stamp .c + s .delta + s .epsilon) h
+overdue-from s v least f h = leb-true least (readingOf s v f + f .stamp .c + s .delta + s .epsilon) h
 
-pub overdue-to : (s : Setup) (v : ℕ) (f : Frame) → s .modulus ≤ readingOf s v f + f .stamp .c + s .delta + s .epsilon → notOverdue s v f ≡ true
+pub overdue-to : (s : Setup) (v least : ℕ) (f : Frame) → least ≤ readingOf s v f + f .stamp .c + s .delta + s .epsilon → notOverdue s v least f ≡ true
 unfolding notOverdue dueNear due sum
-overdue-to s v f h = le-leb (s .modulus) (readingOf s v f + f .stamp .c + s .delta + s .epsilon) h
+overdue-to s v least f h = le-leb least (readingOf s v f + f .stamp .c + s .delta + s .epsilon) h
 
 -- a frame that is due at no moment but later
 pub not-due : (s : Setup) (v : ℕ) (f : Frame) → not (dueNow s v f) ≡ true → readingOf s v f + f .stamp .c + s .delta + s .epsilon ≡ s .modulus → ⊥
@@ -53,6 +53,22 @@ unfolding dueNow dueNear due sum
 not-due s v f h =
     eqb-false (readingOf s v f + f .stamp .c + s .delta + s .epsilon) (s .modulus)
     (false-of-not (eqb (readingOf s v f + f .stamp .c + s .delta + s .epsilon) (s .modulus)) h)
+
+-- a frame that is due before v, or is not
+pub due-before : (s : Setup) (v : ℕ) (f : Frame) → dueBefore s v f ≡ true → readingOf s v f + f .stamp .c + s .delta + s .epsilon < s .modulus
+unfolding dueBefore dueNear due sum
+due-before s v f h = ltb-true (readingOf s v f + f .stamp .c + s .delta + s .epsilon) (s .modulus) h
+
+pub due-not-before : (s : Setup) (v : ℕ) (f : Frame) → not (dueBefore s v f) ≡ true → s .modulus ≤ readingOf s v f + f .stamp .c + s .delta + s .epsilon
+unfolding dueBefore dueNear due sum
+due-not-before s v f h =
+    ltb-false (readingOf s v f + f .stamp .c + s .delta + s .epsilon) (s .modulus)
+    (false-of-not (ltb (readingOf s v f + f .stamp .c + s .delta + s .epsilon) (s .modulus)) h)
+
+-- one that is due at v
+pub due-now : (s : Setup) (v : ℕ) (f : Frame) → dueNow s v f ≡ true → readingOf s v f + f .stamp .c + s .delta + s .epsilon ≡ s .modulus
+unfolding dueNow dueNear due sum
+due-now s v f h = eqb-true (readingOf s v f + f .stamp .c + s .delta + s .epsilon) (s .modulus) h
 
 pub reading-high : (s : Setup) (v : ℕ) (f : Frame) → Limits s → readingOf s v f < s .modulus + s .epsilon
 unfolding readingOf
@@ -64,13 +80,13 @@ unfolding readingOf
 reading-true s v R f limits is hi lo = rw is (near-true (s .epsilon) (s .modulus) v R (limits .epsilon-pos) (omega arith) hi lo)
 
 -- where the readings of a queue's frames lie
-pub record InWindow (s : Setup) (v : ℕ) (f : Frame) : Type 0 where
-  pub low : s .modulus < readingOf s v f + (s .delta + 2 * s .epsilon)
+pub record InWindow (s : Setup) (v least : ℕ) (f : Frame) : Type 0 where
+  pub low : least < readingOf s v f + (s .delta + 2 * s .epsilon)
   pub high : readingOf s v f < s .modulus + s .epsilon
 
-pub in-window : (s : Setup) (v : ℕ) (f : Frame) → Limits s → FrameOk s f → notOverdue s v f ≡ true → InWindow s v f
-in-window s v f limits ok h =
-    let o = overdue-from s v f h in
+pub in-window : (s : Setup) (v least : ℕ) (f : Frame) → Limits s → FrameOk s f → notOverdue s v least f ≡ true → InWindow s v least f
+in-window s v least f limits ok h =
+    let o = overdue-from s v least f h in
     let c = ok .sound .close in
     record { low = omega arith; high = reading-high s v f limits }
 
@@ -168,15 +184,15 @@ key-near-origin s v f g limits below okf okg e =
     let t = key-origin s (readingOf s v f) (readingOf s v g) f g e in
     reading-origin s v f g limits below okf okg (t .0) (t .1)
 
-pub queue-none : (s : Setup) (v : ℕ) → QueueOk s v []
+pub queue-none : (s : Setup) (v least : ℕ) → QueueOk s v least []
 unfolding chained apart every
-queue-none s v =
+queue-none s v least =
     record { frames = λ f m. absurd (List·Memᴰ·not-nil m); ordered = refl; single = refl; early = refl; overdue = refl }
 
 -- the test of a queue's bytes, as facts
-pub sound-queue : (s : Setup) (v : ℕ) (bytes : List ℕ) → Limits s → soundHoldback s v bytes ≡ true → QueueOk s v (held (s .epsilon) bytes)
+pub sound-queue : (s : Setup) (v least : ℕ) (bytes : List ℕ) → Limits s → soundHoldback s v least bytes ≡ true → QueueOk s v least (held (s .epsilon) bytes)
 unfolding soundHoldback held
-sound-queue s v bytes limits h =
+sound-queue s v least bytes limits h =
     let queue = held (s .epsilon) bytes in
     let h₁ = and-right (leb (twoAt bytes 0) (depth (s .n) (s .epsilon) (s .delta))) _ h in
     let h₂ = and-right (every (passes s) (heldBytes (s .epsilon) bytes)) _ h₁ in
@@ -193,15 +209,34 @@ sound-queue s v bytes limits h =
     one : (f : Frame) → (a : List ℕ) × List·Memᴰ a (heldBytes (s .epsilon) bytes) × (decode (s .epsilon) a ≡ f) → every (passes s) (heldBytes (s .epsilon) bytes) ≡ true → FrameOk s f
     one f t p = rw (← t .2) (passes-decode s (t .0) limits (every-mem (passes s) p (t .1)))
 
-pub opening-queue : (s : Setup) (v : ℕ) (bytes : List ℕ) → Limits s → QueueOk s v (openingQueue s v bytes)
+pub opening-queue : (s : Setup) (v least : ℕ) (bytes : List ℕ) → Limits s → QueueOk s v least (openingQueue s v least bytes)
 unfolding openingQueue
-opening-queue s v bytes limits = go (soundHoldback s v bytes) refl
+opening-queue s v least bytes limits = go (soundHoldback s v least bytes) refl
   where
-    go : (b : Bool) → soundHoldback s v bytes ≡ b → QueueOk s v (cond b (held (s .epsilon) bytes) [])
-    go true e = sound-queue s v bytes limits e
-    go false e = queue-none s v
+    go : (b : Bool) → soundHoldback s v least bytes ≡ b → QueueOk s v least (cond b (held (s .epsilon) bytes) [])
+    go true e = sound-queue s v least bytes limits e
+    go false e = queue-none s v least
 
-pub queue-take : (s : Setup) (v : ℕ) (queue : List Frame) (f : Frame) → Limits s → v < s .modulus → QueueOk s v queue → Passed s v queue f → QueueOk s v (insertAt (placeFor s v queue f) f queue)
+-- a part of a sound queue, with another least due clock that its frames keep
+pub queue-part :
+    (s : Setup) (v least least′ : ℕ) (p : Frame → Bool) (queue : List Frame) → QueueOk s v least queue
+    → ((f : Frame) → List·Memᴰ f queue → p f ≡ true → least′ ≤ readingOf s v f + f .stamp .c + s .delta + s .epsilon) → QueueOk s v least′ (select p queue)
+queue-part s v least least′ p queue ok h =
+    record {
+      frames = λ f m. ok .frames f (mem-of-select p queue m .0);
+      ordered = sorted-ordered s v (select p queue) (sorted-select (keyNear s v) p queue (ordered-sorted s v queue (ok .ordered)));
+      single = apart-select sameOrigin p queue (ok .single);
+      early = every-of-mem (notEarly s v) (select p queue) (λ f m. every-mem (notEarly s v) (ok .early) (mem-of-select p queue m .0));
+      overdue =
+          every-of-mem (notOverdue s v least′) (select p queue)
+          (λ f m. overdue-to s v least′ f (h f (mem-of-select p queue m .0) (mem-of-select p queue m .1)));
+    }
+
+-- 02, 2.2: without what is due before v no due clock is before v
+pub queue-rest : (s : Setup) (v least : ℕ) (queue : List Frame) → QueueOk s v least queue → QueueOk s v (s .modulus) (select (λ f. not (dueBefore s v f)) queue)
+queue-rest s v least queue ok = queue-part s v least (s .modulus) (λ f. not (dueBefore s v f)) queue ok (λ f m e. due-not-before s v f e)
+
+pub queue-take : (s : Setup) (v : ℕ) (queue : List Frame) (f : Frame) → Limits s → v < s .modulus → QueueOk s v (s .modulus) queue → Passed s v queue f → QueueOk s v (s .modulus) (insertAt (placeFor s v queue f) f queue)
 unfolding placeFor before compareFrames
 queue-take s v queue f limits below ok p =
     let late = p .late in
@@ -213,7 +248,7 @@ queue-take s v queue f limits below ok p =
           (sorted-insert (keyNear s v) f queue (ordered-sorted s v queue (ok .ordered)) other);
       single = apart-insertAt sameOrigin origin-sym at f queue (p .new) (ok .single);
       early = every-insertAt (notEarly s v) at f queue ∙ and-intro (p .early) (ok .early);
-      overdue = every-insertAt (notOverdue s v) at f queue ∙ and-intro (overdue-to s v f (omega arith)) (ok .overdue);
+      overdue = every-insertAt (notOverdue s v (s .modulus)) at f queue ∙ and-intro (overdue-to s v (s .modulus) f (omega arith)) (ok .overdue);
     }
   where
     one : (g : Frame) → (g ≡ f) ⊎ List·Memᴰ g queue → FrameOk s g
@@ -223,23 +258,81 @@ queue-take s v queue f limits below ok p =
     other : (g : Frame) → List·Memᴰ g queue → keyNear s v g ≡ keyNear s v f → ⊥
     other g m e = clash (key-near-origin s v f g limits below (p .frame) (ok .frames g m) (sym e)) (any-false (sameOrigin f) (p .new) m)
 
--- 01: n(δ + 3ε − 1) frames at most, so 17 never gets a no
-pub queue-window : (s : Setup) (v : ℕ) (queue : List Frame) → Limits s → QueueOk s v queue → (f : Frame) → List·Memᴰ f queue → InWindow s v f
-queue-window s v queue limits ok f m = in-window s v f limits (ok .frames f m) (every-mem (notOverdue s v) (ok .overdue) m)
+-- where the readings of a sound queue's frames lie
+pub queue-window : (s : Setup) (v least : ℕ) (queue : List Frame) → Limits s → QueueOk s v least queue → (f : Frame) → List·Memᴰ f queue → InWindow s v least f
+queue-window s v least queue limits ok f m = in-window s v least f limits (ok .frames f m) (every-mem (notOverdue s v least) (ok .overdue) m)
 
-pub queue-bound : (s : Setup) (v : ℕ) (queue : List Frame) → Limits s → v < s .modulus → QueueOk s v queue → length queue ≤ s .n * (s .delta + 3 * s .epsilon - 1)
-queue-bound s v queue limits below ok =
-    pigeonhole-pairs sameOrigin (λ f. f .station) (readingOf s v) (s .n) (s .modulus + 1 - (s .delta + 2 * s .epsilon)) (s .delta + 3 * s .epsilon - 1) queue
-    (ok .single) (λ f g m k e h. reading-origin s v f g limits below (ok .frames f m) (ok .frames g k) e h) (λ f m. ok .frames f m .station-below)
-    (λ f m. omega (arith, queue-window s v queue limits ok f m .low)) (λ f m. omega (arith, queue-window s v queue limits ok f m .high))
+-- frames of a sound queue whose readings are among m from lo on: n m at most
+pub part-few :
+    (s : Setup) (v least : ℕ) (queue : List Frame) (lo m : ℕ) → Limits s → v < s .modulus → QueueOk s v least queue
+    → ((f : Frame) → List·Memᴰ f queue → lo ≤ readingOf s v f) → ((f : Frame) → List·Memᴰ f queue → readingOf s v f < lo + m) → length queue ≤ s .n * m
+part-few s v least queue lo m limits below ok low high =
+    pigeonhole-pairs sameOrigin (λ f. f .station) (readingOf s v) (s .n) lo m queue
+    (ok .single) (λ f g x y e h. reading-origin s v f g limits below (ok .frames f x) (ok .frames g y) e h) (λ f x. ok .frames f x .station-below)
+    low high
 
-pub queue-room : (s : Setup) (v : ℕ) (queue : List Frame) → Limits s → v < s .modulus → QueueOk s v queue → length queue < depth (s .n) (s .epsilon) (s .delta)
+-- 01: n(δ + 3ε − 1) frames at most where none is due before v, so 17 never gets a no
+pub queue-bound : (s : Setup) (v least : ℕ) (queue : List Frame) → Limits s → v < s .modulus → s .modulus ≤ least → QueueOk s v least queue → length queue ≤ s .n * (s .delta + 3 * s .epsilon - 1)
+queue-bound s v least queue limits below late ok =
+    part-few s v least queue (s .modulus + 1 - (s .delta + 2 * s .epsilon)) (s .delta + 3 * s .epsilon - 1) limits below ok
+    (λ f m. omega (arith, queue-window s v least queue limits ok f m .low)) (λ f m. omega (arith, queue-window s v least queue limits ok f m .high))
+
+pub queue-room : (s : Setup) (v least : ℕ) (queue : List Frame) → Limits s → v < s .modulus → s .modulus ≤ least → QueueOk s v least queue → length queue < depth (s .n) (s .epsilon) (s .delta)
 unfolding depth
-queue-room s v queue limits below ok =
-    omega (arith, queue-bound s v queue limits below ok, mul-suc (s .n) (s .delta + 3 * s .epsilon - 1), ap (λ (k : ℕ). s .n * k) (pred-suc (s .delta) (s .epsilon) (limits .epsilon-pos)))
+queue-room s v least queue limits below late ok =
+    omega (arith, queue-bound s v least queue limits below late ok, mul-suc (s .n) (s .delta + 3 * s .epsilon - 1), ap (λ (k : ℕ). s .n * k) (pred-suc (s .delta) (s .epsilon) (limits .epsilon-pos)))
   where
     pred-suc : (d e : ℕ) → 1 ≤ e → suc (d + 3 * e - 1) ≡ d + 3 * e
     pred-suc d e h = omega arith
+
+-- 02, 2.2: few are due before v, after a last clock at most ε before it, and few at v
+pub early-few :
+    (s : Setup) (v least : ℕ) (queue : List Frame) → Limits s → v < s .modulus → s .modulus + 1 ≤ least + s .epsilon → QueueOk s v least queue
+    → length (select (dueBefore s v) queue) ≤ s .n * (2 * s .epsilon - 2)
+early-few s v least queue limits below few ok =
+    part-few s v least (select (dueBefore s v) queue) (s .modulus + 2 - (s .delta + 3 * s .epsilon)) (2 * s .epsilon - 2) limits below
+    (queue-part s v least least (dueBefore s v) queue ok (λ f m e. overdue-from s v least f (every-mem (notOverdue s v least) (ok .overdue) m)))
+    (λ f m. omega (arith, queue-window s v least queue limits ok f (mem-of-select (dueBefore s v) queue m .0) .low))
+    (λ f m.
+    omega (
+      arith,
+      queue-window s v least queue limits ok f (mem-of-select (dueBefore s v) queue m .0) .low,
+      due-before s v f (mem-of-select (dueBefore s v) queue m .1),
+      limits .modulus-least,
+    ))
+
+pub due-few :
+    (s : Setup) (v : ℕ) (queue : List Frame) → Limits s → v < s .modulus → QueueOk s v (s .modulus) queue
+    → length (select (dueNow s v) queue) ≤ s .n * s .epsilon
+due-few s v queue limits below ok =
+    part-few s v (s .modulus) (select (dueNow s v) queue) (s .modulus + 1 - (s .delta + 2 * s .epsilon)) (s .epsilon) limits below
+    (queue-part s v (s .modulus) (s .modulus) (dueNow s v) queue ok (λ f m e. overdue-from s v (s .modulus) f (every-mem (notOverdue s v (s .modulus)) (ok .overdue) m)))
+    (λ f m. omega (arith, queue-window s v (s .modulus) queue limits ok f (mem-of-select (dueNow s v) queue m .0) .low))
+    (λ f m. omega (arith, due-now s v f (mem-of-select (dueNow s v) queue m .1), limits .modulus-least))
+
+-- so both have room in a delivery
+pub both-few : (s : Setup) → s .n * (2 * s .epsilon - 2) + s .n * s .epsilon ≤ depth (s .n) (s .epsilon) (s .delta)
+unfolding depth
+both-few s = omega (arith, mul-le-mul-left (s .n) most, mul-add (s .n) (2 * s .epsilon - 2) (s .epsilon))
+  where
+    most : 2 * s .epsilon - 2 + s .epsilon ≤ s .delta + 3 * s .epsilon
+    most = omega arith
+
+-- what is due before v, and then what is due at v, is in order: the sums of the first are smaller
+pub due-sorted :
+    (s : Setup) (v least : ℕ) (opened queue : List Frame) → QueueOk s v least opened → QueueOk s v (s .modulus) queue
+    → Sorted (keyNear s v) (select (dueBefore s v) opened ++ select (dueNow s v) queue)
+unfolding keyNear key keyBy sum
+due-sorted s v least opened queue first ok =
+    pairwise-append (lessBy (keyNear s v)) (select (dueBefore s v) opened) (select (dueNow s v) queue)
+    (sorted-select (keyNear s v) (dueBefore s v) opened (ordered-sorted s v opened (first .ordered)))
+    (sorted-select (keyNear s v) (dueNow s v) queue (ordered-sorted s v queue (ok .ordered)))
+    (λ f g m h. smaller f g (due-before s v f (mem-of-select (dueBefore s v) opened m .1)) (due-now s v g (mem-of-select (dueNow s v) queue h .1)))
+  where
+    smaller :
+        (f g : Frame) → readingOf s v f + f .stamp .c + s .delta + s .epsilon < s .modulus → readingOf s v g + g .stamp .c + s .delta + s .epsilon ≡ s .modulus
+        → lessBy (keyNear s v) f g ≡ true
+    smaller f g p q = lt-isLess (lex-head-lt (readingOf s v f + f .stamp .c) (readingOf s v g + g .stamp .c) _ _ (omega arith))
 
 -- keys whose readings are both k less are in the same order
 pub key-lower : (s : Setup) (k a a′ b b′ : ℕ) (f g : Frame) → a′ + k ≡ a → b′ + k ≡ b → lexCompare (key s a f) (key s b g) ≡ lexCompare (key s a′ f) (key s b′ g)
@@ -276,7 +369,7 @@ left-none s v k =
     }
 
 -- what a tick leaves: the queue without what is due
-pub queue-left : (s : Setup) (v : ℕ) (queue : List Frame) → QueueOk s v queue → QueueLeft s v 0 (select (λ f. not (dueNow s v f)) queue)
+pub queue-left : (s : Setup) (v : ℕ) (queue : List Frame) → QueueOk s v (s .modulus) queue → QueueLeft s v 0 (select (λ f. not (dueNow s v f)) queue)
 queue-left s v queue ok =
     record {
       frames = λ f m. ok .frames f (mem-of-select kept queue m .0);
@@ -284,7 +377,7 @@ queue-left s v queue ok =
       single = apart-select sameOrigin kept queue (ok .single);
       early = λ f m. let o = early-from s v f (every-mem (notEarly s v) (ok .early) (mem-of-select kept queue m .0)) in omega arith;
       later = λ f m.
-          let o = overdue-from s v f (every-mem (notOverdue s v) (ok .overdue) (mem-of-select kept queue m .0)) in
+          let o = overdue-from s v (s .modulus) f (every-mem (notOverdue s v (s .modulus)) (ok .overdue) (mem-of-select kept queue m .0)) in
           omega (arith, not-due s v f (mem-of-select kept queue m .1));
     }
   where
@@ -315,47 +408,52 @@ left-later s v j k queue limits few left =
         key-lower s k (readingOf s (v % s .modulus) f) (readingOf s ((v + k) % s .modulus) f) (readingOf s (v % s .modulus) g) (readingOf s ((v + k) % s .modulus) g)
         f g (moved f m) (moved g h)
 
--- 01's step is one: such a queue is sound for its clock
-pub left-ok : (s : Setup) (v : ℕ) (queue : List Frame) → QueueLeft s v 1 queue → QueueOk s v queue
-left-ok s v queue left =
+-- such a queue is sound for its clock, where the least due clock allowed is the one after that at which it was left
+pub left-ok : (s : Setup) (v k : ℕ) (queue : List Frame) → QueueLeft s v k queue → QueueOk s v (s .modulus + 1 - k) queue
+left-ok s v k queue left =
     record {
       frames = left .frames;
       ordered = left .ordered;
       single = left .single;
       early = every-of-mem (notEarly s v) queue (λ f m. early-to s v f (omega (arith, left .early f m)));
-      overdue = every-of-mem (notOverdue s v) queue (λ f m. overdue-to s v f (omega (arith, left .later f m)));
+      overdue = every-of-mem (notOverdue s v (s .modulus + 1 - k)) queue (λ f m. overdue-to s v (s .modulus + 1 - k) f (omega (arith, left .later f m)));
     }
 
--- so few frames fit into a two-byte count
-pub queue-few : (s : Setup) (v : ℕ) (queue : List Frame) → Limits s → v < s .modulus → QueueOk s v queue → length queue < 65536
-queue-few s v queue limits below ok =
-    omega (arith, queue-bound s v queue limits below ok, mul-le-mul-right (s .delta + 3 * s .epsilon - 1) (limits .n-most))
+-- what a tick leaves is never full
+pub left-room : (s : Setup) (v : ℕ) (queue : List Frame) → Limits s → v < s .modulus → QueueLeft s v 0 queue → length queue < depth (s .n) (s .epsilon) (s .delta)
+left-room s v queue limits below left = queue-room s v (s .modulus + 1 - 0) queue limits below (omega arith) (left-ok s v 0 queue left)
 
--- bytes of which each frame passes 10 to 12 are a sound shelf where their frames are a sound queue
-pub bytes-sound : (s : Setup) (v : ℕ) (bytes : List ℕ) → Limits s → v < s .modulus → every (passes s) (heldBytes (s .epsilon) bytes) ≡ true → QueueOk s v (held (s .epsilon) bytes) → soundHoldback s v bytes ≡ true
+-- no queue is longer than two bytes can say
+pub depth-small : (s : Setup) → Limits s → depth (s .n) (s .epsilon) (s .delta) < 65536
+unfolding depth
+depth-small s lim =
+    let a : s .n * (s .delta + 3 * s .epsilon) ≤ 16 * (s .delta + 3 * s .epsilon) = mul-le-mul-right (s .delta + 3 * s .epsilon) (lim .n-most) in
+    omega (arith, a, lim .epsilon-most, lim .delta-most)
+
+-- bytes of which each frame passes 10 to 12 are a sound shelf where their frames are a sound queue, and not too many
+pub bytes-sound : (s : Setup) (v least : ℕ) (bytes : List ℕ) → length (held (s .epsilon) bytes) ≤ depth (s .n) (s .epsilon) (s .delta) → every (passes s) (heldBytes (s .epsilon) bytes) ≡ true → QueueOk s v least (held (s .epsilon) bytes) → soundHoldback s v least bytes ≡ true
 unfolding soundHoldback
-bytes-sound s v bytes limits below passed ok =
-    let few : twoAt bytes 0 ≤ depth (s .n) (s .epsilon) (s .delta) =
-    omega (arith, length-held (s .epsilon) bytes, queue-room s v (held (s .epsilon) bytes) limits below ok) in
-    and-intro (le-leb (twoAt bytes 0) (depth (s .n) (s .epsilon) (s .delta)) few)
+bytes-sound s v least bytes few passed ok =
+    and-intro (le-leb (twoAt bytes 0) (depth (s .n) (s .epsilon) (s .delta)) (omega (arith, length-held (s .epsilon) bytes, few)))
     (and-intro passed (and-intro (ok .ordered) (and-intro (ok .single) (and-intro (ok .early) (ok .overdue)))))
 
-pub bytes-passed : (s : Setup) (v : ℕ) (bytes : List ℕ) → soundHoldback s v bytes ≡ true → every (passes s) (heldBytes (s .epsilon) bytes) ≡ true
+pub bytes-passed : (s : Setup) (v least : ℕ) (bytes : List ℕ) → soundHoldback s v least bytes ≡ true → every (passes s) (heldBytes (s .epsilon) bytes) ≡ true
 unfolding soundHoldback
-bytes-passed s v bytes h =
+bytes-passed s v least bytes h =
     and-left (every (passes s) (heldBytes (s .epsilon) bytes)) _ (and-right (leb (twoAt bytes 0) (depth (s .n) (s .epsilon) (s .delta))) _ h)
 
 -- the frames of a queue in a buffer, with anything behind them
-pub frames-sound : (s : Setup) (v : ℕ) (queue : List Frame) (rest : List ℕ) → Limits s → v < s .modulus → QueueOk s v queue → soundHoldback s v (encodeFrames queue ++ rest) ≡ true
-frames-sound s v queue rest limits below ok =
+pub frames-sound : (s : Setup) (v least : ℕ) (queue : List Frame) (rest : List ℕ) → Limits s → length queue ≤ depth (s .n) (s .epsilon) (s .delta) → QueueOk s v least queue → soundHoldback s v least (encodeFrames queue ++ rest) ≡ true
+frames-sound s v least queue rest limits few ok =
     let wide : (f : Frame) → List·Memᴰ f queue → length (f .stamp .kn) ≡ width (s .epsilon) = λ f m. ok .frames f m .sound .wide in
-    let few = queue-few s v queue limits below ok in
-    bytes-sound s v (encodeFrames queue ++ rest) limits below
-    (rw (held-encode (s .epsilon) queue rest wide few)
+    let small : length queue < 65536 = omega (arith, few, depth-small s limits) in
+    bytes-sound s v least (encodeFrames queue ++ rest)
+    (rw (held-frames (s .epsilon) queue rest wide small) few)
+    (rw (held-encode (s .epsilon) queue rest wide small)
     (every-map (passes s) encode queue ∙ every-of-mem (λ f. passes s (encode f)) queue (λ f m. passes-encode s f limits (ok .frames f m))))
-    (rw (held-frames (s .epsilon) queue rest wide few) ok)
+    (rw (held-frames (s .epsilon) queue rest wide small) ok)
 
 -- and with zeros
-pub queue-sound : (s : Setup) (v : ℕ) (queue : List Frame) → Limits s → v < s .modulus → QueueOk s v queue → soundHoldback s v (encodeHoldback (holdbackSize s) queue) ≡ true
+pub queue-sound : (s : Setup) (v least : ℕ) (queue : List Frame) → Limits s → length queue ≤ depth (s .n) (s .epsilon) (s .delta) → QueueOk s v least queue → soundHoldback s v least (encodeHoldback (holdbackSize s) queue) ≡ true
 unfolding encodeHoldback padded
-queue-sound s v queue limits below ok = frames-sound s v queue _ limits below ok
+queue-sound s v least queue limits few ok = frames-sound s v least queue _ limits few ok

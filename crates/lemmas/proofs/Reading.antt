@@ -7,12 +7,17 @@ use mathlib.Core.Path.{_≡_, sym, ap, _∙_}
 use mathlib.Core.Logic.{_⊎_, inl, inr}
 use borrow.Author.Tests.{le-leb, lt-leb}
 use Rattle.laws.proofs.Numbers.{lt-or-ge, eq-in-window, ahead-ge, ahead-lt}
-use Rattle.model.specs.Timestamp.{ahead, near}
+use Rattle.model.specs.Timestamp.{ahead, clockStep, near}
 
 -- the distance ahead is a remainder
 pub ahead-below : (B v r : ℕ) → 0 < B → ahead B v r < B
 unfolding ahead
 ahead-below B v r h = mod-lt (r + (B - v)) h
+
+-- the step between two true clocks that are less than B apart
+pub step-true : (B x k : ℕ) → k < B → clockStep B (x % B) ((x + k) % B) ≡ k
+unfolding clockStep ahead
+step-true B x k h = ahead-ge B x (x + k) (omega arith) (omega arith) ∙ (let e : x + k - x ≡ k = omega arith in e)
 
 -- a reading by the distance ahead
 pub near-ahead : (epsilon B v r : ℕ) → 1 ≤ epsilon → ahead B v r < epsilon → near epsilon B v r ≡ B + ahead B v r

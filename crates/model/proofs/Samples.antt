@@ -6,7 +6,7 @@ use Rattle.model.proofs.Computing.{computing}
 use mathlib.Core.Bool.{Bool, true, false}
 use mathlib.Core.List.{List, [], _∷_, _++_, map}
 use lib.Dec.{leb, ltb}
-use lib.ListN.{length, take, replicate}
+use lib.ListN.{length, take, set, replicate}
 use Rattle.laws.specs.Lists.{every, chained, apart}
 use Rattle.model.specs.Setup.{Setup, depth}
 use Rattle.model.specs.Timestamp.{Timestamp, sum, widened, near, fresh}
@@ -14,7 +14,7 @@ use Rattle.model.specs.Frame.{Frame, twoAt, encode, decode}
 use Rattle.model.specs.Order.{readingOf, before, decidedAt, dueNear}
 use Rattle.model.specs.Holdback.{heldBytes, held, sameOrigin, passes, notEarly, notOverdue, encodeHoldback}
 use Rattle.model.specs.Judge.{verdictNumber, judgeQuestions, judge}
-use Rattle.model.specs.Tick.{Input, Output, holdbackSize, tick}
+use Rattle.model.specs.Tick.{Input, Output, holdbackSize, leastDue, tick}
 
 -- "n 2, ε 2, δ 1, B 14 unless said"
 abbrev usual : Setup
@@ -23,6 +23,10 @@ usual = record { n = 2; epsilon = 2; delta = 1; modulus = 14 }
 -- ★l: "n 1, ε 1, δ 0, B 7"
 abbrev single : Setup
 single = record { n = 1; epsilon = 1; delta = 0; modulus = 7 }
+
+-- n stations with ε 3, δ 0, B 19
+abbrev wide : ℕ → Setup
+wide n = record { n = n; epsilon = 3; delta = 0; modulus = 19 }
 
 abbrev stamp : ℕ → ℕ → List ℕ → Timestamp
 stamp r c kn = record { r = r; c = c; kn = kn }
@@ -93,7 +97,7 @@ pub record Case : Type 0 where
 abbrev says : List ℕ → List ℕ → Case
 says computed stated = record { computed = computed; stated = stated }
 
--- the ★ cases, a to l
+-- the ★ cases, a to l, and the step
 pub stars : List Case
 stars =
     -- ★a: A is taken; "tables c 1, counts 0,1,2,1"
@@ -118,15 +122,27 @@ stars =
     ∷ says (verdictAt 1 (frame 2 0 (1 ∷ 1 ∷ 0 ∷ 0 ∷ []))) (12 ∷ [])
     -- ★j: "At v 0, r 13 is one behind"
     ∷ says ((14 - near 2 14 0 13) ∷ []) (1 ∷ [])
-    -- ★k: "Tables with r 3 at clock 5 are replaced": mend 1, c 0 and no count but the own event's
+    -- ★k under 02's 2.2, a step above ε: tables with r 2 at clock 5 are replaced, mend 1, c 0 and no count but the own event's
+    ∷ says (outcome 4 (tick (call usual 5 (widened (fresh 2 2)) (replicate (holdbackSize usual) 0) false [] silent)))
+    (1 ∷ 0 ∷ 0 ∷ 0 ∷ 1 ∷ 0 ∷ [])
+    -- "A step of 1 to ε is no longer damage (★k's step of 2 isn't)": tables with r 3 at clock 5 stay, and their counts move by two
     ∷ says (outcome 4 (tick (call usual 5 (widened (fresh 2 3)) (replicate (holdbackSize usual) 0) false [] silent)))
+    (0 ∷ 0 ∷ 1 ∷ 0 ∷ 1 ∷ 0 ∷ [])
+    -- "c drops by the step": ★a's tables at clock 3, where c was 1
+    ∷ says (outcome 4 (tick (call usual 3 (first .answer .tables) (replicate (holdbackSize usual) 0) false [] silent)))
+    (0 ∷ 0 ∷ 2 ∷ 1 ∷ 1 ∷ 0 ∷ [])
+    -- the same with ε 3, where c was 2: it is 0 after a step of 2
+    ∷ says (outcome 6 (tick (call (wide 2) 5 (widened (stamp 3 2 (0 ∷ 0 ∷ 0 ∷ 1 ∷ 0 ∷ 1 ∷ []))) (replicate (holdbackSize (wide 2)) 0) false [] silent)))
+    (0 ∷ 0 ∷ 0 ∷ 1 ∷ 0 ∷ 2 ∷ 0 ∷ 0 ∷ [])
+    -- a step of 0 "still replaces the tables"
+    ∷ says (outcome 4 (tick (call usual 5 (widened (fresh 2 5)) (replicate (holdbackSize usual) 0) false [] silent)))
     (1 ∷ 0 ∷ 0 ∷ 0 ∷ 1 ∷ 0 ∷ [])
     -- ★l: "n 1, ε 1, δ 0, B 7, fresh at 0, empty tick 1: counts 1,1"
     ∷ says (outcome 2 (tick (call single 1 (widened (fresh 1 0)) (replicate (holdbackSize single) 0) false [] silent)))
     (0 ∷ 0 ∷ 1 ∷ 1 ∷ [])
     ∷ []
 
--- every ★ case is as 01 says
+-- every ★ case is as 01 and 02 say
 pub stars-hold : map (λ (k : Case). k .computed) stars ≡ map (λ (k : Case). k .stated) stars
 unfolding stars computing
 stars-hold = refl
@@ -177,7 +193,7 @@ refusals-hold = refl
 abbrev stored : List Frame → List ℕ
 stored queue = encodeHoldback (holdbackSize usual) queue
 
--- a silent tick at a clock, from fresh tables one before it, with these frames on the shelf
+-- a silent tick at a clock, from fresh tables at a clock before it, with these frames on the shelf
 abbrev holding : ℕ → ℕ → List Frame → Output
 holding before clock queue = tick (call usual clock (widened (fresh 2 before)) (stored queue) false [] silent)
 
@@ -185,8 +201,32 @@ holding before clock queue = tick (call usual clock (widened (fresh 2 before)) (
 abbrev A′ : Frame
 A′ = frame 2 0 (1 ∷ 2 ∷ 1 ∷ 0 ∷ [])
 
+-- a frame due one clock after A
+abbrev L : Frame
+L = frame 3 0 (1 ∷ 1 ∷ 1 ∷ 0 ∷ [])
+
+-- an output's mend, how many are taken, and how many handed out
+abbrev tallies : Output → List ℕ
+tallies o = o .answer .repair ∷ o .answer .taken ∷ o .answer .delivered ∷ []
+
+-- a frame of a group of one with ε 3, whose shelf is for nine frames; its one event is at r + c
+abbrev alone : ℕ → ℕ → Frame
+alone r c = record { station = 0; stamp = stamp r c (set (replicate 6 0) (3 + c) 1); payload = [] }
+
+-- frames of r 2 to 7, of which the first four are due before 9; and of r 9 to 11
+abbrev lower-six : List Frame
+lower-six = alone 2 2 ∷ alone 3 1 ∷ alone 4 0 ∷ alone 5 0 ∷ alone 6 0 ∷ alone 7 0 ∷ []
+
+abbrev upper-three : List Frame
+upper-three = alone 9 0 ∷ alone 10 0 ∷ alone 11 0 ∷ []
+
+-- its tick at 9 with a step of 3, with these frames on the shelf and this batch: the mend, how many are taken, how many handed out
+abbrev crowded : List Frame → List ℕ → List ℕ
+crowded queue batch =
+    tallies (tick (call (wide 1) 9 (widened (fresh 3 6)) (encodeHoldback (holdbackSize (wide 1)) queue) false [] batch))
+
 -- the mend of such a tick, and the clauses of "It is sound if" that the shelf meets (1) or not (0): at most n(δ + 3ε) frames;
--- 10 to 12; in order; no station and r twice; each sum not past v + ε − 1; each due clock not before v
+-- 10 to 12; in order; no station and r twice; each sum not past v + ε − 1; each due clock past the clock of the tables
 abbrev judged : ℕ → ℕ → List Frame → List ℕ
 judged before-it v queue =
     holding before-it v queue .answer .repair
@@ -195,7 +235,7 @@ judged before-it v queue =
     ∷ one-if (chained (before usual v) (held 2 (stored queue)))
     ∷ one-if (apart sameOrigin (held 2 (stored queue)))
     ∷ one-if (every (notEarly usual v) (held 2 (stored queue)))
-    ∷ one-if (every (notOverdue usual v) (held 2 (stored queue)))
+    ∷ one-if (every (notOverdue usual v (leastDue usual v (widened (fresh 2 before-it)))) (held 2 (stored queue)))
     ∷ []
 
 -- the mend of a tick, its c and counts, and how many frames it leaves on the shelf
@@ -204,7 +244,7 @@ mended o = outcome 4 o ++ (twoAt (o .holdback) 0 ∷ [])
 
 -- what a shelf must be: each shelf with mend 2 fails the clause that it is for, and no other, but for the one that holds the same
 -- frame twice; what each mend leaves; and when a frame is handed out.
--- (No shelf fails the first clause alone: the others leave room for n(δ + 3ε − 1) frames, `queue-bound` in lemmas.)
+-- (The others leave room for n(δ + 4ε − 2) frames, which is n(δ + 3ε) where ε is 2: the first clause has a group with ε 3.)
 pub queues : List Case
 queues =
     -- A before the frame sent at ★a's tick
@@ -223,6 +263,18 @@ queues =
     ∷ says (judged 5 6 (A ∷ [])) (2 ∷ 1 ∷ 1 ∷ 1 ∷ 1 ∷ 1 ∷ 0 ∷ [])
     -- a frame is handed out in the tick for its due clock, and not before
     ∷ says (holding 3 4 (A ∷ []) .answer .delivered ∷ holding 4 5 (A ∷ []) .answer .delivered ∷ []) (0 ∷ 1 ∷ [])
+    -- 02, 2.2: after a step of 2 a frame due at the clock that was passed is handed out, one due at the last clock is not sound
+    ∷ says (judged 4 6 (A ∷ [])) (0 ∷ 1 ∷ 1 ∷ 1 ∷ 1 ∷ 1 ∷ 1 ∷ [])
+    ∷ says (holding 4 6 (A ∷ []) .answer .delivered ∷ holding 5 7 (A ∷ []) .answer .delivered ∷ holding 5 7 (A ∷ []) .answer .repair ∷ []) (1 ∷ 0 ∷ 2 ∷ [])
+    -- "both make one hand-out": first what was due at 5, then what is due at 6
+    ∷ says (holding 4 6 (A ∷ L ∷ []) .answer .delivered ∷ map (λ f. f .stamp .r) (held 2 (holding 4 6 (A ∷ L ∷ []) .delivery))) (2 ∷ 2 ∷ 3 ∷ [])
+    -- "When the tables themselves are replaced, no due clock before v is accepted"
+    ∷ says (mended (holding 3 6 (A ∷ [])) ++ mended (holding 3 6 (L ∷ []))) (3 ∷ 0 ∷ 0 ∷ 0 ∷ 1 ∷ 0 ∷ 0 ∷ 1 ∷ 0 ∷ 0 ∷ 0 ∷ 1 ∷ 0 ∷ 0 ∷ [])
+    -- "Frames whose due clock lies before v go out before the bundle is judged": a shelf of nine
+    -- leaves room for one that is heard. (A repeat of one of them gets 13 before 16, so 17 alone shows this.)
+    ∷ says (crowded (lower-six ++ upper-three) (one (encode (alone 8 0)))) (0 ∷ 1 ∷ 5 ∷ [])
+    -- "at most n(δ + 3ε) frames": one more, in a shelf that meets every other clause
+    ∷ says (crowded (lower-six ++ (alone 8 0 ∷ upper-three)) silent) (2 ∷ 0 ∷ 0 ∷ [])
     -- mend 1: tables of another clock are replaced, and a sound shelf stays: A is still there. Mend, c, counts, the shelf's count
     ∷ says (mended (holding 3 1 (A ∷ []))) (1 ∷ 0 ∷ 0 ∷ 0 ∷ 1 ∷ 0 ∷ 1 ∷ [])
     -- mend 2: an unsound shelf is emptied, and sound tables keep their counts, one offset further down

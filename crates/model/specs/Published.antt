@@ -72,6 +72,15 @@ less epsilon m m′ = isLess (lexCompare (rank epsilon m) (rank epsilon m′))
 unfoldable pub deliverable : ℕ → ℕ → ℕ → Message → Bool
 deliverable epsilon delta rt m = eqb rt (m .event .r + m .event .c + delta + epsilon)
 
+-- 02, 2.2: "A message is handed out at the first tick at or past its due clock": a clock that moves by more than one may pass r + c + δ + ε.
+-- (What is delivered leaves the buffer, so the first such event delivers it.)
+unfoldable pub deliverableBy : ℕ → ℕ → ℕ → Message → Bool
+deliverableBy epsilon delta rt m = leb (m .event .r + m .event .c + delta + epsilon) rt
+
+-- such a condition: ε, δ, the clock of the event, the message
+abbrev pub Condition : Type 0
+Condition = ℕ → ℕ → ℕ → Message → Bool
+
 -- messages put in the order of `less`
 unfoldable pub inOrder : ℕ → List Message → List Message
 inOrder epsilon messages = sortBy (less epsilon) messages
@@ -94,17 +103,17 @@ eventOf epsilon rt p messages =
 unfoldable pub buffered : Process → List Message → List Message
 buffered p messages = p .buffer ++ newOnes (p .received) messages
 
--- what it delivers then, at rt
-unfoldable pub deliveredAt : ℕ → ℕ → ℕ → Process → List Message → List Message
-deliveredAt epsilon delta rt p messages = inOrder epsilon (select (deliverable epsilon delta rt) (buffered p messages))
+-- what it delivers then, at rt, by a condition; in the order of `less` what was due before comes first
+unfoldable pub deliveredAt : Condition → ℕ → ℕ → ℕ → Process → List Message → List Message
+deliveredAt delcond epsilon delta rt p messages = inOrder epsilon (select (delcond epsilon delta rt) (buffered p messages))
 
 -- the process after a clock at which it heard these messages
-unfoldable pub advanced : ℕ → ℕ → ℕ → Process → List Message → Process
-advanced epsilon delta rt p messages =
+unfoldable pub advanced : Condition → ℕ → ℕ → ℕ → Process → List Message → Process
+advanced delcond epsilon delta rt p messages =
     record {
       number = p .number;
       last = eventOf epsilon rt p messages;
-      buffer = select (λ m. not (deliverable epsilon delta rt m)) (buffered p messages);
+      buffer = select (λ m. not (delcond epsilon delta rt m)) (buffered p messages);
       received = p .received ++ newOnes (p .received) messages;
     }
 

@@ -1,5 +1,5 @@
 -- 01, "Premises of demands 2 and 3" and "Demand 3 in full": stations, lists of calls, and what a call does to the stations.
-use Prim.Native.Nat.{ℕ, suc}
+use Prim.Native.Nat.{ℕ, _+_}
 use mathlib.Core.Bool.{Bool, _&&_, cond}
 use mathlib.Core.List.{List, [], _∷_, _++_}
 use mathlib.Core.Option.{Option, none, some}
@@ -34,6 +34,8 @@ pub record Call : Type 0 where
   pub own : ℕ
   -- 01: the clock modulo B
   pub clock : ℕ
+  -- 02, 2.2: by how many ticks the true clock moves in this call
+  pub step : ℕ
   -- 01: the bundle, and where each of its entries comes from
   pub batch : List ℕ
   pub sources : List Source
@@ -66,11 +68,12 @@ inputOf node call =
 unfoldable pub isAccepted : Output → Bool
 isAccepted o = eqb (o .answer .number) 0
 
--- a call that has been made: by which node (its position and own number), the node's true clock after it (which a refused call does
--- not move), the call, and what came of it
+-- a call that has been made: by which node (its position and own number), the node's true clock before it and after it (which a refused
+-- call does not move), the call, and what came of it
 pub record Done : Type 0 where
   pub node : ℕ
   pub own : ℕ
+  pub last : ℕ
   pub clock : ℕ
   pub call : Call
   pub output : Output
@@ -80,16 +83,16 @@ pub record World : Type 0 where
   pub nodes : List Node
   pub past : List Done
 
--- 01: "a clock moves to v in its call for v, not before"; a refused call "moves no clock"
-unfoldable pub movedClock : Output → ℕ → ℕ
-movedClock o clock = cond (isAccepted o) (suc clock) clock
+-- 01: "a clock moves to v in its call for v, not before", by the call's step; a refused call "moves no clock"
+unfoldable pub movedClock : Output → ℕ → ℕ → ℕ
+movedClock o step clock = cond (isAccepted o) (clock + step) clock
 
 -- a node after its call; a refused call "leaves both" tables and shelf, as the tick's answer has them
-unfoldable pub nodeAfter : Node → Output → Node
-nodeAfter node o =
+unfoldable pub nodeAfter : Node → ℕ → Output → Node
+nodeAfter node step o =
     record {
       own = node .own;
-      clock = movedClock o (node .clock);
+      clock = movedClock o step (node .clock);
       tables = o .answer .tables;
       holdback = o .holdback;
     }
@@ -104,7 +107,8 @@ doneOf node call =
     record {
       node = call .node;
       own = node .own;
-      clock = movedClock (outputOf node call) (node .clock);
+      last = node .clock;
+      clock = movedClock (outputOf node call) (call .step) (node .clock);
       call = call;
       output = outputOf node call;
     }
@@ -114,7 +118,7 @@ abbrev pub actOn : Option Node → World → Call → World
 actOn none w call = w
 actOn (some node) w call =
     record {
-      nodes = set (w .nodes) (call .node) (nodeAfter node (outputOf node call));
+      nodes = set (w .nodes) (call .node) (nodeAfter node (call .step) (outputOf node call));
       past = w .past ++ (doneOf node call ∷ []);
     }
 

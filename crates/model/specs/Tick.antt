@@ -1,12 +1,12 @@
 -- 01, "One tick at clock v": the call's questions, the answer, and every buffer after the call.
-use Prim.Native.Nat.{ℕ, zero, suc, _+_}
+use Prim.Native.Nat.{ℕ, zero, suc, _+_, _-_}
 use mathlib.Core.Bool.{Bool, _&&_, not, cond}
-use mathlib.Core.List.{List, [], _∷_}
+use mathlib.Core.List.{List, [], _∷_, _++_}
 use lib.Dec.{leb, ltb, eqb}
 use lib.ListN.{length}
 use Rattle.laws.specs.Lists.{select, overlay}
 use Rattle.model.specs.Setup.{Setup, longestFrame, holdbackLength, verdictLength}
-use Rattle.model.specs.Timestamp.{Timestamp, trimmed, widened, soundTables, replaced, step, countOwn}
+use Rattle.model.specs.Timestamp.{Timestamp, trimmed, widened, clockStep, soundTables, replaced, step, countOwn}
 use Rattle.model.specs.Frame.{Frame, encode}
 use Rattle.model.specs.Order.{dueNear}
 use Rattle.model.specs.Batch.{exactBatch, batchEntries}
@@ -95,22 +95,47 @@ refusal i number =
 unfoldable pub tablesSound : Setup → ℕ → Timestamp → Bool
 tablesSound s v tables = soundTables (s .n) (s .epsilon) (s .modulus) v (trimmed (s .epsilon) tables)
 
+-- 02, 2.2: the step of a call: from the clock of its tables to v
+unfoldable pub stepOf : Setup → ℕ → Timestamp → ℕ
+stepOf s v tables = clockStep (s .modulus) (tables .r) v
+
+-- 02, 2.2: the least due clock that the shelf may have, as a reading, in which v stands at B: one past "the last clock, r of the tables";
+-- "When the tables themselves are replaced, no due clock before v is accepted"
+unfoldable pub leastDue : Setup → ℕ → Timestamp → ℕ
+leastDue s v tables = cond (tablesSound s v tables) (s .modulus + 1 - stepOf s v tables) (s .modulus)
+
+-- the shelf is sound for v, after these tables
+unfoldable pub shelfSound : Setup → ℕ → Timestamp → List ℕ → Bool
+shelfSound s v tables holdback = soundHoldback s v (leastDue s v tables) holdback
+
 -- 01, tick 1: "(mend 1)", "(mend 2; both, mend 3)"
 unfoldable pub repairOf : Setup → ℕ → Timestamp → List ℕ → ℕ
-repairOf s v tables holdback = cond (tablesSound s v tables) 0 1 + cond (soundHoldback s v holdback) 0 2
+repairOf s v tables holdback = cond (tablesSound s v tables) 0 1 + cond (shelfSound s v tables holdback) 0 2
 
 -- 01, tick 1 and 2: the stamp with which hearing starts
 unfoldable pub openingStamp : Setup → ℕ → Timestamp → Timestamp
 openingStamp s v tables =
-    cond (tablesSound s v tables) (step 1 v (trimmed (s .epsilon) tables)) (replaced (s .epsilon) v)
+    cond (tablesSound s v tables) (step (stepOf s v tables) v (trimmed (s .epsilon) tables)) (replaced (s .epsilon) v)
 
--- 01, tick 1: "An unsound shelf is emptied"
-unfoldable pub openingQueue : Setup → ℕ → List ℕ → List Frame
-openingQueue s v holdback = cond (soundHoldback s v holdback) (held (s .epsilon) holdback) []
+-- 01, tick 1: "An unsound shelf is emptied". The least due clock allowed is given
+unfoldable pub openingQueue : Setup → ℕ → ℕ → List ℕ → List Frame
+openingQueue s v least holdback = cond (soundHoldback s v least holdback) (held (s .epsilon) holdback) []
 
--- what hearing starts from, on the shelf
+-- the same in a call
+unfoldable pub openedQueue : Input → List Frame
+openedQueue i = openingQueue (i .setup) (i .clock) (leastDue (i .setup) (i .clock) (i .tables)) (i .holdback)
+
+-- 02, 2.2: a frame's "due clock lies before v", which reads B
+unfoldable pub dueBefore : Setup → ℕ → Frame → Bool
+dueBefore s v f = ltb (dueNear s v f) (s .modulus)
+
+-- 02, 2.2: "Frames whose due clock lies before v go out before the bundle is judged"
+unfoldable pub earlyOf : Input → List Frame
+earlyOf i = select (dueBefore (i .setup) (i .clock)) (openedQueue i)
+
+-- what hearing starts from, on the shelf: all others
 abbrev pub opening : Input → Heard
-opening i = record { queue = openingQueue (i .setup) (i .clock) (i .holdback); verdicts = [] }
+opening i = record { queue = select (λ f. not (dueBefore (i .setup) (i .clock) f)) (openedQueue i); verdicts = [] }
 
 -- 01, tick 3: the shelf and the verdicts
 unfoldable pub heardOf : Input → Heard
@@ -135,9 +160,9 @@ sentBytes i = cond (i .send) (encode (frameOf (i .setup .epsilon) (i .own) (newS
 unfoldable pub dueNow : Setup → ℕ → Frame → Bool
 dueNow s v f = eqb (dueNear s v f) (s .modulus)
 
--- 01, tick 6: "is handed out, in order"
+-- 01, tick 6: "is handed out, in order". 02, 2.2: those due before v and those due at v: "both make one hand-out"
 unfoldable pub deliveredOf : Input → List Frame
-deliveredOf i = select (dueNow (i .setup) (i .clock)) (heardOf i .queue)
+deliveredOf i = earlyOf i ++ select (dueNow (i .setup) (i .clock)) (heardOf i .queue)
 
 -- 01, tick 6: "and leaves the shelf"
 unfoldable pub keptOf : Input → List Frame

@@ -2,9 +2,9 @@
 use Prim.Native.Nat.{ℕ, _+_, _-_, _%_, max}
 use mathlib.Core.Bool.{Bool, _&&_, cond}
 use mathlib.Core.List.{List, _++_}
-use lib.Dec.{leb, ltb, eqb}
+use lib.Dec.{leb, ltb}
 use lib.ListN.{length, drop, getD, set, replicate}
-use Rattle.laws.specs.Lists.{tab, every, placedAt, padded}
+use Rattle.laws.specs.Lists.{tab, every, placedAt, padded, within}
 use Rattle.model.specs.Setup.{width, widest}
 
 -- 01: the stamp. r is "the clock at the event", c "how far the largest known clock lies ahead of r", kn the counts, from offset −ε up
@@ -38,10 +38,19 @@ soundTimestamp n epsilon t =
     leb (t .c) (epsilon - 1) && (atMost n (t .kn) && (leb 1 (countAt epsilon 0 (t .kn) (t .c))
     && atMost 0 (countsFrom epsilon 0 (t .kn) (t .c + 1))))
 
--- 01: "sound for a new clock v if the stamp is sound, r is below B and one before v modulo B, and counts at offsets 1 and up are at most n − 1"
+-- 01: "u is (r − v) modulo B"
+unfoldable pub ahead : ℕ → ℕ → ℕ → ℕ
+ahead modulus v r = (r + (modulus - v)) % modulus
+
+-- 02, 2.2: the step from the clock r of the tables to a new clock v: (v − r) modulo B
+unfoldable pub clockStep : ℕ → ℕ → ℕ → ℕ
+clockStep modulus r v = ahead modulus r v
+
+-- 01: "sound for a new clock v if the stamp is sound, r is below B and one before v modulo B, and counts at offsets 1 and up are at most n − 1".
+-- 02, 2.2: "A step of 1 to ε is no longer damage": r lies 1 to ε before v
 unfoldable pub soundTables : ℕ → ℕ → ℕ → ℕ → Timestamp → Bool
 soundTables n epsilon modulus v t =
-    soundTimestamp n epsilon t && (ltb (t .r) modulus && (eqb ((t .r + 1) % modulus) v
+    soundTimestamp n epsilon t && (ltb (t .r) modulus && (within 1 epsilon (clockStep modulus (t .r) v)
     && atMost (n - 1) (countsFrom epsilon 0 (t .kn) 1)))
 
 -- the 2ε counts alone. 01: "Places past the 2ε counts are ignored"
@@ -51,10 +60,6 @@ trimmed epsilon t = record { r = t .r; c = t .c; kn = tab (width epsilon) (λ i.
 -- 01: they "come back 0"
 unfoldable pub widened : Timestamp → Timestamp
 widened t = record { r = t .r; c = t .c; kn = padded widest (t .kn) }
-
--- 01: "u is (r − v) modulo B"
-unfoldable pub ahead : ℕ → ℕ → ℕ → ℕ
-ahead modulus v r = (r + (modulus - v)) % modulus
 
 -- 01: "If u ≤ ε − 1, r is u ahead. Otherwise it is B − u behind." v itself reads B, so that no reading is negative
 unfoldable pub near : ℕ → ℕ → ℕ → ℕ → ℕ
@@ -73,8 +78,8 @@ replaced epsilon v = record { r = v; c = 0; kn = replicate (width epsilon) 0 }
 unfoldable pub shift : ℕ → List ℕ → List ℕ
 shift k kn = drop k kn ++ replicate k 0
 
--- 01, tick 2: "In sound tables c drops by one, not below 0, and counts move one offset down", where the clock moves by k, in 01 by one;
--- they are placed relative to v from here on
+-- 01, tick 2: "In sound tables c drops by one, not below 0, and counts move one offset down". 02, 2.2: "c drops by the step and counts
+-- move down by it". They are placed relative to v from here on
 unfoldable pub step : ℕ → ℕ → Timestamp → Timestamp
 step k v t = record { r = v; c = t .c - k; kn = shift k (t .kn) }
 

@@ -161,10 +161,10 @@ taken-located {place} h = record { stands = λ place′ e. let same : place ≡ 
 -- ---- a frame that has passed 10 to 14 fits
 
 pub fits-when : (s : Setup) (v : ℕ) (bytes : List ℕ) → firstNo (frameQuestions s bytes) ≡ 0 → s .modulus ≤ readingOf s v (decode (s .epsilon) bytes) + (s .delta + s .epsilon)
-    → notEarly s v (decode (s .epsilon) bytes) ≡ true → fits s v bytes ≡ true
+    → notEarly s v (decode (s .epsilon) bytes) ≡ true → fits s v (s .modulus) bytes ≡ true
 unfolding fits passes
 fits-when s v bytes form late early =
-    and-intro (eq-eqb (firstNo (frameQuestions s bytes)) 0 form) (and-intro early (overdue-to s v (decode (s .epsilon) bytes) (omega arith)))
+    and-intro (eq-eqb (firstNo (frameQuestions s bytes)) 0 form) (and-intro early (overdue-to s v (s .modulus) (decode (s .epsilon) bytes) (omega arith)))
 
 pub judged-form : (s : Setup) (v : ℕ) (queue : List Frame) (bytes : List ℕ) → firstNo (judgeQuestions s v queue bytes) ≡ 0 → firstNo (frameQuestions s bytes) ≡ 0
 unfolding judgeQuestions
@@ -176,7 +176,7 @@ taken-readable s v queue bytes place t e = record { timed = t; passed = judged-f
 
 -- ---- the table of origins
 
-pub placeable-of : (s : Setup) (v : ℕ) (f : Frame) → InWindow s v f → FrameOk s f → Placeable s v f
+pub placeable-of : (s : Setup) (v : ℕ) (f : Frame) → InWindow s v (s .modulus) f → FrameOk s f → Placeable s v f
 placeable-of s v f w ok = record { station-below = ok .station-below; r-below = ok .r-below; not-before = omega (arith, w .low) }
 
 -- a frame that has passed 13 has a place in the table of origins
@@ -203,7 +203,7 @@ pub marked-is : (s : Setup) (v : ℕ) (buffer table starts : List ℕ) (f : Fram
 unfolding isMarked
 marked-is s v buffer table starts f t q w =
     let lim : Limits s = limits-from s (t .limits) in
-    let ok : QueueOk s v (held (s .epsilon) buffer) = sound-queue s v buffer lim (q .sound) in
+    let ok : QueueOk s v (s .modulus) (held (s .epsilon) buffer) = sound-queue s v (s .modulus) buffer lim (q .sound) in
     ap (λ (l : List ℕ). eqb (getD l (slotOf s v f) 0) 1) (q .table-is)
-    ∙ (ap (λ (x : ℕ). eqb x 1) (seen-at s v (limits-from s (t .limits)) (t .below) (held (s .epsilon) buffer) f (λ g m. placeable-of s v g (queue-window s v (held (s .epsilon) buffer) lim ok g m) (ok .frames g m)) w)
+    ∙ (ap (λ (x : ℕ). eqb x 1) (seen-at s v (limits-from s (t .limits)) (t .below) (held (s .epsilon) buffer) f (λ g m. placeable-of s v g (queue-window s v (s .modulus) (held (s .epsilon) buffer) lim ok g m) (ok .frames g m)) w)
     ∙ marked-by (any (sameOrigin f) (held (s .epsilon) buffer)))

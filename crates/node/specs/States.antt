@@ -1,9 +1,9 @@
 -- What the functions of a tick ask of their arguments, and what they leave.
 -- Assumes nothing.
-use Prim.Native.Nat.{ℕ, _+_, _≤_, _<_}
+use Prim.Native.Nat.{ℕ, _+_, _*_, _-_, _≤_, _<_}
 use mathlib.Core.Path.{_≡_}
 use mathlib.Core.Bool.{Bool, true, not, cond}
-use mathlib.Core.List.{List, []}
+use mathlib.Core.List.{List, [], _++_}
 use lib.ListN.{length}
 use Rattle.laws.specs.Lists.{select, overlay, insertAt}
 use Rattle.model.specs.Setup.{Setup, inLimits, verdictLength}
@@ -14,10 +14,11 @@ use Rattle.model.specs.Holdback.{held, soundHoldback, encodeFrames, encodeHoldb
 use Rattle.model.specs.Question.{firstNo, frameQuestions}
 use Rattle.model.specs.Codec.{frameOf}
 use Rattle.model.specs.Judge.{Heard, judge, judgeQuestions, taken, hear, absorbAll}
-use Rattle.model.specs.Tick.{holdbackSize, tablesSound, openingStamp, openingQueue, dueNow, takenCount}
-use Rattle.holdback.specs.Queue.{frameStart, endOf}
+use Rattle.model.specs.Tick.{holdbackSize, tablesSound, leastDue, openingStamp, openingQueue, dueBefore, dueNow, takenCount}
+use Rattle.holdback.specs.Queue.{frameStart, endOf, Spans}
 use Rattle.holdback.specs.Seen.{seenTable}
 use Rattle.holdback.specs.Starts.{startsOf}
+use Rattle.holdback.specs.Early.{SoundBy, releasedBuffer}
 
 -- a call that has passed 1 and 2
 pub record Timed (s : Setup) (v : ℕ) : Type 0 where
@@ -34,10 +35,10 @@ pub record Stored (s : Setup) (buffer : List ℕ) : Type 0 where
   pub limits : inLimits s ≡ true
   pub size : length buffer ≡ holdbackSize s
 
--- the buffer has a sound queue, and the tables of origins and of starts are those of its frames
+-- the buffer has a sound queue of which no frame is due before v, and the tables of origins and of starts are those of its frames
 pub record Queued (s : Setup) (v : ℕ) (buffer table starts : List ℕ) : Type 0 where
   pub size : length buffer ≡ holdbackSize s
-  pub sound : soundHoldback s v buffer ≡ true
+  pub sound : soundHoldback s v (s .modulus) buffer ≡ true
   pub table-is : table ≡ seenTable s v (held (s .epsilon) buffer)
   pub starts-is : starts ≡ startsOf s v buffer
 
@@ -52,7 +53,7 @@ pub record Extent (epsilon : ℕ) (buffer : List ℕ) (count stop : ℕ) : Type 
 pub record Taking (s : Setup) (v : ℕ) (buffer : List ℕ) (place at : ℕ) (bytes : List ℕ) : Type 0 where
   pub timed : Timed s v
   pub size : length buffer ≡ holdbackSize s
-  pub sound : soundHoldback s v buffer ≡ true
+  pub sound : soundHoldback s v (s .modulus) buffer ≡ true
   pub judged : judge s v (judgeQuestions s v) (held (s .epsilon) buffer) bytes ≡ taken place
   pub starts : at ≡ frameStart (s .epsilon) buffer place
 
@@ -93,46 +94,76 @@ pub record HeardStamp (s : Setup) (v : ℕ) (t : Timestamp) (batch buffer : List
 
 -- ---- the opening
 
--- 01, tick 1 and 2: the tables judged, and the stamp with which hearing starts
-pub record StampOpened (s : Setup) (v : ℕ) (t t′ : Timestamp) (repair : ℕ) : Type 0 where
+-- 01, tick 1 and 2: the tables judged, the stamp with which hearing starts, and 02's least due clock that the queue may have after them
+pub record StampOpened (s : Setup) (v : ℕ) (t t′ : Timestamp) (least repair : ℕ) : Type 0 where
   pub stamp : t′ ≡ widened (openingStamp s v t)
+  pub least-is : least ≡ leastDue s v t
   pub repaired : repair ≡ cond (tablesSound s v t) 0 1
 
--- 01, tick 1: the queue judged, and emptied if it is unsound
-unfoldable pub openedBuffer : Setup → ℕ → List ℕ → List ℕ
-openedBuffer s v buffer = cond (soundHoldback s v buffer) buffer (encodeHoldback (length buffer) [])
+-- 01, tick 1: the queue judged by the least due clock allowed, and emptied if it is unsound
+unfoldable pub keptBuffer : Setup → ℕ → ℕ → List ℕ → List ℕ
+keptBuffer s v least buffer = cond (soundHoldback s v least buffer) buffer (encodeHoldback (length buffer) [])
 
-pub record QueueOpened (s : Setup) (v : ℕ) (buffer : List ℕ) (repair count stop : ℕ) (buffer′ table′ starts′ : List ℕ) : Type 0 where
-  pub repaired : repair ≡ cond (soundHoldback s v buffer) 0 2
+pub record QueueJudged (s : Setup) (v least : ℕ) (buffer : List ℕ) (repair count stop : ℕ) (buffer′ table′ starts′ : List ℕ) : Type 0 where
+  pub repaired : repair ≡ cond (soundHoldback s v least buffer) 0 2
+  pub size : length buffer′ ≡ holdbackSize s
+  pub sound : SoundBy s v buffer′
+  pub table-is : table′ ≡ seenTable s v (held (s .epsilon) buffer′)
+  pub starts-is : starts′ ≡ startsOf s v buffer′
+  pub extent : Extent (s .epsilon) buffer′ count stop
+  pub buffer-is : buffer′ ≡ keptBuffer s v least buffer
+  pub queue : held (s .epsilon) buffer′ ≡ openingQueue s v least buffer
+
+-- 02, 2.2: "Frames whose due clock lies before v go out before the bundle is judged": those, and the others
+abbrev pub earlyOnes : Setup → ℕ → ℕ → List ℕ → List Frame
+earlyOnes s v least buffer = select (dueBefore s v) (openingQueue s v least buffer)
+
+abbrev pub otherOnes : Setup → ℕ → ℕ → List ℕ → List Frame
+otherOnes s v least buffer = select (λ f. not (dueBefore s v f)) (openingQueue s v least buffer)
+
+-- the buffer with which hearing starts
+abbrev pub openedBuffer : Setup → ℕ → ℕ → List ℕ → List ℕ
+openedBuffer s v least buffer = releasedBuffer s v (keptBuffer s v least buffer)
+
+-- what is handed out early: how many frames, where they end in the delivery, and the delivery
+pub record HandedEarly (s : Setup) (v least : ℕ) (buffer delivery : List ℕ) (index at : ℕ) (delivery′ : List ℕ) : Type 0 where
+  pub number : index ≡ length (earlyOnes s v least buffer)
+  pub ends : at ≡ length (encodeFrames (earlyOnes s v least buffer))
+  pub given : delivery′ ≡ overlay (encodeFrames (earlyOnes s v least buffer)) delivery
+
+-- the queue opened: judged, and without what is handed out early
+pub record QueueOpened (s : Setup) (v least : ℕ) (buffer : List ℕ) (repair count stop : ℕ) (buffer′ table′ starts′ : List ℕ) : Type 0 where
+  pub repaired : repair ≡ cond (soundHoldback s v least buffer) 0 2
   pub queued : Queued s v buffer′ table′ starts′
   pub extent : Extent (s .epsilon) buffer′ count stop
-  pub buffer-is : buffer′ ≡ openedBuffer s v buffer
-  pub queue : held (s .epsilon) buffer′ ≡ openingQueue s v buffer
+  pub buffer-is : buffer′ ≡ openedBuffer s v least buffer
+  pub queue : held (s .epsilon) buffer′ ≡ otherOnes s v least buffer
 
 -- ---- the first three steps
 
 -- what they ask, of a call that has passed 1 and 2
-pub record Attending (s : Setup) (batch buffer verdicts : List ℕ) : Type 0 where
+pub record Attending (s : Setup) (batch buffer verdicts delivery : List ℕ) : Type 0 where
   pub size : length buffer ≡ holdbackSize s
   pub exact : exactBatch batch ≡ true
   pub room : verdictLength ≤ length verdicts
+  pub delivery-room : holdbackSize s ≤ length delivery
 
 -- what they leave: the queue and the verdicts
-abbrev pub listenedAll : Setup → ℕ → List ℕ → List ℕ → Heard
-listenedAll s v batch buffer = heardWith s v (openingQueue s v buffer) batch
+abbrev pub listenedAll : Setup → ℕ → ℕ → List ℕ → List ℕ → Heard
+listenedAll s v least batch buffer = heardWith s v (otherOnes s v least buffer) batch
 
-pub record ListenedQueue (s : Setup) (v : ℕ) (batch buffer verdicts : List ℕ) (took count stop : ℕ) (buffer′ verdicts′ : List ℕ) : Type 0 where
+pub record ListenedQueue (s : Setup) (v least : ℕ) (batch buffer verdicts : List ℕ) (took count stop : ℕ) (buffer′ verdicts′ : List ℕ) : Type 0 where
   pub size : length buffer′ ≡ holdbackSize s
-  pub sound : soundHoldback s v buffer′ ≡ true
+  pub sound : soundHoldback s v (s .modulus) buffer′ ≡ true
   pub extent : Extent (s .epsilon) buffer′ count stop
-  pub buffer-is : buffer′ ≡ overlay (encodeFrames (listenedAll s v batch buffer .queue)) (openedBuffer s v buffer)
-  pub queue : held (s .epsilon) buffer′ ≡ listenedAll s v batch buffer .queue
-  pub numbers : verdicts′ ≡ overlay (listenedAll s v batch buffer .verdicts) verdicts
-  pub taken-is : took ≡ takenCount (listenedAll s v batch buffer .verdicts)
+  pub buffer-is : buffer′ ≡ overlay (encodeFrames (listenedAll s v least batch buffer .queue)) (openedBuffer s v least buffer)
+  pub queue : held (s .epsilon) buffer′ ≡ listenedAll s v least batch buffer .queue
+  pub numbers : verdicts′ ≡ overlay (listenedAll s v least batch buffer .verdicts) verdicts
+  pub taken-is : took ≡ takenCount (listenedAll s v least batch buffer .verdicts)
 
 -- and the stamp
-pub record ListenedStamp (s : Setup) (v : ℕ) (t : Timestamp) (batch buffer : List ℕ) (t′ : Timestamp) : Type 0 where
-  pub stamp : t′ ≡ widened (absorbAll s v (openingStamp s v t) (batchEntries batch) (listenedAll s v batch buffer .verdicts))
+pub record ListenedStamp (s : Setup) (v least : ℕ) (t : Timestamp) (batch buffer : List ℕ) (t′ : Timestamp) : Type 0 where
+  pub stamp : t′ ≡ widened (absorbAll s v (openingStamp s v t) (batchEntries batch) (listenedAll s v least batch buffer .verdicts))
 
 -- ---- sending and delivering
 
@@ -144,15 +175,17 @@ pub record Sent (epsilon own : ℕ) (t : Timestamp) (send : Bool) (payload buffe
   pub long : size ≡ length (bytesToSend epsilon own t send payload)
   pub bytes : buffer′ ≡ overlay (bytesToSend epsilon own t send payload) buffer
 
--- 01, tick 6: what delivering asks, and leaves
-pub record Closing (s : Setup) (v count stop : ℕ) (buffer delivery : List ℕ) : Type 0 where
+-- 01, tick 6: what delivering asks, and leaves. `index` frames are handed out already, and end at `at`
+pub record Closing (s : Setup) (v count stop index at : ℕ) (buffer delivery : List ℕ) : Type 0 where
   pub timed : Timed s v
   pub size : length buffer ≡ holdbackSize s
-  pub sound : soundHoldback s v buffer ≡ true
+  pub sound : soundHoldback s v (s .modulus) buffer ≡ true
   pub extent : Extent (s .epsilon) buffer count stop
   pub room : holdbackSize s ≤ length delivery
+  pub before : Spans (s .epsilon) delivery index at index at
+  pub few : index ≤ s .n * (2 * s .epsilon - 2)
 
-pub record Delivered (s : Setup) (v : ℕ) (buffer delivery : List ℕ) (count : ℕ) (buffer′ delivery′ : List ℕ) : Type 0 where
-  pub count-is : count ≡ length (select (dueNow s v) (held (s .epsilon) buffer))
+pub record Delivered (s : Setup) (v index : ℕ) (buffer delivery : List ℕ) (count : ℕ) (buffer′ delivery′ : List ℕ) : Type 0 where
+  pub count-is : count ≡ index + length (select (dueNow s v) (held (s .epsilon) buffer))
   pub kept : buffer′ ≡ encodeHoldback (holdbackSize s) (select (λ f. not (dueNow s v f)) (held (s .epsilon) buffer))
-  pub given : delivery′ ≡ overlay (encodeFrames (select (dueNow s v) (held (s .epsilon) buffer))) delivery
+  pub given : delivery′ ≡ overlay (encodeFrames (held (s .epsilon) delivery ++ select (dueNow s v) (held (s .epsilon) buffer))) delivery

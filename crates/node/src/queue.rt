@@ -1,14 +1,60 @@
 // The hold-back queue (01: the shelf) within one tick: opened, and what is due delivered.
+use holdback::Place;
 use holdback::cut_due;
 use holdback::empty;
+use holdback::release;
 use holdback::sound;
 use setup::Setup;
 ghost use mathlib.Core.Path.{_≡_};
-ghost use lib.ListN.{replicate};
+ghost use Prim.Native.Nat.{_≤_};
+ghost use lib.ListN.{length, replicate};
 ghost use Rattle.setup.specs.Views.{setupOf};
+ghost use Rattle.model.specs.Tick.{holdbackSize};
 ghost use Rattle.holdback.specs.Seen.{tableLength};
+ghost use Rattle.holdback.specs.Sound.{Recent};
 ghost use Rattle.holdback.specs.Starts.{allFront};
-ghost use Rattle.node.specs.States.{Timed, Stored, Closing, QueueOpened, Delivered};
+ghost use Rattle.node.specs.States.{Timed, Stored, Closing, QueueJudged, QueueOpened, HandedEarly, Delivered};
+
+// What judging the queue answers beside the buffers.
+struct JudgedQueue {
+    // 2 where it was emptied
+    repair: u8,
+    // how many frames it has
+    count: usize,
+    // where they end
+    end: usize,
+}
+
+// 01, tick 1: "An unsound shelf is emptied (mend 2; both, mend 3)". The table of origins gets those of the frames, and the table of
+// starts where the frames of each sum start.
+fn judge_queue(
+    setup: Setup,
+    clock: usize,
+    least: usize,
+    holdback: &mut [u8],
+    seen: &mut [u8],
+    starts: &mut [u32],
+) -> JudgedQueue
+    requires { ⌜ Timed (setupOf setup) clock × Recent (setupOf setup) least ⌝ }
+    requires { ⌜ Stored (setupOf setup) (now holdback) ⌝ }
+    requires { ⌜ (now seen ≡ replicate tableLength 0) × (now starts ≡ allFront) ⌝ }
+    ensures { λ r. ⌜ QueueJudged (setupOf setup) clock least (now (holdback .entry)) (r .repair) (r .count) (r .end) (now (holdback .exit)) (now (seen .exit)) (now (starts .exit)) ⌝ }
+{
+    let walk = sound(setup, clock, least, holdback, seen, starts);
+    if walk.sound {
+        return JudgedQueue {
+            repair: 0,
+            count: walk.count,
+            end: walk.end,
+        };
+    }
+    empty(holdback);
+    JudgedQueue {
+        repair: 2,
+        count: walk.count,
+        end: walk.end,
+    }
+}
 
 // What opening the queue answers beside the buffers.
 pub struct OpenedQueue {
@@ -18,49 +64,51 @@ pub struct OpenedQueue {
     pub count: usize,
     // where they end
     pub end: usize,
+    // how many frames are handed out, and where they end in the delivery
+    pub early: Place,
 }
 
-// 01, tick 1: "An unsound shelf is emptied (mend 2; both, mend 3)". The table of origins gets those of the frames, and the table of
-// starts where the frames of each sum start.
+// The queue judged, and then 02, 2.2: "Frames whose due clock lies before v go out before the bundle is judged".
 pub fn open_queue(
     setup: Setup,
     clock: usize,
+    least: usize,
     holdback: &mut [u8],
     seen: &mut [u8],
     starts: &mut [u32],
+    delivery: &mut [u8],
 ) -> OpenedQueue
-    requires { ⌜ Timed (setupOf setup) clock ⌝ }
-    requires { ⌜ Stored (setupOf setup) (now holdback) ⌝ }
+    requires { ⌜ Timed (setupOf setup) clock × Recent (setupOf setup) least ⌝ }
+    requires { ⌜ Stored (setupOf setup) (now holdback) × (holdbackSize (setupOf setup) ≤ length (now delivery)) ⌝ }
     requires { ⌜ (now seen ≡ replicate tableLength 0) × (now starts ≡ allFront) ⌝ }
-    ensures { λ r. ⌜ QueueOpened (setupOf setup) clock (now (holdback .entry)) (r .repair) (r .count) (r .end) (now (holdback .exit)) (now (seen .exit)) (now (starts .exit)) ⌝ }
+    ensures { λ r. ⌜ QueueOpened (setupOf setup) clock least (now (holdback .entry)) (r .repair) (r .count) (r .end) (now (holdback .exit)) (now (seen .exit)) (now (starts .exit)) ⌝ }
+    ensures { λ r. ⌜ HandedEarly (setupOf setup) clock least (now (holdback .entry)) (now (delivery .entry)) (r .early .index) (r .early .at) (now (delivery .exit)) ⌝ }
 {
-    let walk = sound(setup, clock, holdback, seen, starts);
-    if walk.sound {
-        return OpenedQueue {
-            repair: 0,
-            count: walk.count,
-            end: walk.end,
-        };
-    }
-    empty(holdback);
+    let judged = judge_queue(setup, clock, least, holdback, seen, starts);
+    let count = judged.count;
+    let end = judged.end;
+    let early = release(setup, clock, holdback, count, end, seen, starts, delivery);
     OpenedQueue {
-        repair: 2,
-        count: walk.count,
-        end: walk.end,
+        repair: judged.repair,
+        count: count - early.index,
+        end: end + 2 - early.at,
+        early,
     }
 }
 
-// 01, tick 6: every frame that is due "is handed out, in order, and leaves the shelf". Answers how many.
+// 01, tick 6: every frame that is due "is handed out, in order, and leaves the shelf", behind those that were due before v. Answers how many
+// are handed out in all.
 pub fn deliver(
     setup: Setup,
     clock: usize,
     count: usize,
     end: usize,
+    early: Place,
     holdback: &mut [u8],
     delivery: &mut [u8],
 ) -> usize
-    requires { ⌜ Closing (setupOf setup) clock count end (now holdback) (now delivery) ⌝ }
-    ensures { λ r. ⌜ Delivered (setupOf setup) clock (now (holdback .entry)) (now (delivery .entry)) r (now (holdback .exit)) (now (delivery .exit)) ⌝ }
+    requires { ⌜ Closing (setupOf setup) clock count end (early .index) (early .at) (now holdback) (now delivery) ⌝ }
+    ensures { λ r. ⌜ Delivered (setupOf setup) clock (early .index) (now (holdback .entry)) (now (delivery .entry)) r (now (holdback .exit)) (now (delivery .exit)) ⌝ }
 {
-    cut_due(setup, clock, holdback, count, end, delivery)
+    early.index + cut_due(setup, clock, holdback, count, end, delivery, early)
 }

@@ -7,16 +7,15 @@ use mathlib.Core.Logic.{⊎-elim}
 use mathlib.Core.List.{List}
 use lib.ListN.{length, drop, length-append}
 use Rattle.laws.specs.Lists.{joined, overlay}
-use Rattle.laws.proofs.Lists.{length-joined-le, select-length-le}
+use Rattle.laws.proofs.Lists.{length-joined-le}
 use Rattle.laws.proofs.Numbers.{eq-or-ne}
 use Rattle.model.specs.Setup.{Setup, width, longestFrame, depth, holdbackLength}
 use Rattle.model.specs.Frame.{Frame}
 use Rattle.model.specs.Holdback.{held, encodeFrames}
-use Rattle.model.specs.Tick.{Input, Answer, holdbackSize, heardOf, deliveredOf, dueNow, tick}
+use Rattle.model.specs.Tick.{Input, Answer, holdbackSize, deliveredOf, tick}
 use Rattle.lemmas.proofs.Bounds.{Limits, FrameOk}
 use Rattle.lemmas.proofs.RoundTrip.{held-frames}
-use Rattle.lemmas.proofs.Queue.{queue-room}
-use Rattle.lemmas.proofs.OneTick.{Accepted, accepted-call, hearing-end, delivery-is, delivered-frames, delivered-most}
+use Rattle.lemmas.proofs.OneTick.{Accepted, accepted-call, delivery-is, delivered-frames, delivered-few, delivered-most}
 use Rattle.trace.specs.Text.{payloadText, giveLine, giveLines, tickLine, tickLines, linesOf}
 use Rattle.text.proofs.Numerals.{digitCount-le, digitCount-most}
 use Rattle.trace.proofs.Putting.{length-tick, length-give, length-hex, payload-empty, payload-hex}
@@ -55,15 +54,6 @@ delivered-are i a =
     ap (held (i .setup .epsilon)) (delivery-is i a)
     ∙ held-frames (i .setup .epsilon) (deliveredOf i) (drop (length (encodeFrames (deliveredOf i))) (i .delivery))
     (λ f m. delivered-frames i a f m .sound .wide) (delivered-most i a)
-
-delivered-few : (i : Input) → Accepted i → length (deliveredOf i) ≤ depth (i .setup .n) (i .setup .epsilon) (i .setup .delta)
-unfolding deliveredOf
-delivered-few i a =
-    omega (
-      arith,
-      select-length-le (dueNow (i .setup) (i .clock)) (heardOf i .queue),
-      queue-room (i .setup) (i .clock) (heardOf i .queue) (a .limits) (a .clock-below) (hearing-end i a),
-    )
 
 gives-short : (i : Input) → Accepted i → holdbackSize (i .setup) ≤ largestHoldback → length (giveLines (i .setup .epsilon) (tick i .delivery)) ≤ 126242
 unfolding giveLines

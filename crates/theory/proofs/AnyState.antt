@@ -10,7 +10,7 @@ use Rattle.laws.proofs.Lists.{take-overlay}
 use Rattle.model.specs.Timestamp.{trimmed, soundTables}
 use Rattle.model.specs.Holdback.{soundHoldback}
 use Rattle.model.specs.Batch.{batchEntries}
-use Rattle.model.specs.Tick.{Input, Output, tablesSound, repairOf, opening, heardOf, deliveredOf, takenCount, acceptance, tick}
+use Rattle.model.specs.Tick.{Input, Output, tablesSound, leastDue, shelfSound, repairOf, opening, heardOf, deliveredOf, takenCount, acceptance, tick}
 use Rattle.theory.specs.Demand2.{heardBefore, Demand2Any}
 use Rattle.lemmas.proofs.OneTick.{Accepted, accepted-call, hear-length, tables-next, shelf-sound, verdicts-are, verdict-byte, sent-is, delivered-bytes, sent-bytes}
 
@@ -22,8 +22,8 @@ repair-is :
     (i : Input) → Accepted i
     → tick i .answer .repair
     ≡ cond (soundTables (i .setup .n) (i .setup .epsilon) (i .setup .modulus) (i .clock) (trimmed (i .setup .epsilon) (i .tables))) 0 1
-    + cond (soundHoldback (i .setup) (i .clock) (i .holdback)) 0 2
-unfolding acceptance repairOf tablesSound
+    + cond (soundHoldback (i .setup) (i .clock) (leastDue (i .setup) (i .clock) (i .tables)) (i .holdback)) 0 2
+unfolding acceptance repairOf tablesSound shelfSound
 repair-is i a = ap (λ (o : Output). o .answer .repair) (a .accepted)
 
 delivered-is : (i : Input) → Accepted i → tick i .answer .delivered ≡ length (deliveredOf i)
@@ -51,6 +51,6 @@ demand2-any i h =
       delivery = delivered-bytes i a;
       sent = sent-is i a;
       outgoing = sent-bytes i a;
-      bounded = tables-next i a;
-      boundedQueue = shelf-sound i a;
+      bounded = λ k pos few. tables-next i k a pos few;
+      boundedQueue = λ k pos few. shelf-sound i k a few;
     }

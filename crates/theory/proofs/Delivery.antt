@@ -1,4 +1,4 @@
--- What is delivered at v is what is due at v, in order.
+-- What is delivered in a call is what has come due since the clock before it, in order.
 -- Assumes nothing.
 use Prim.Native.Nat.{ℕ, _+_, _%_, _≤_, _<_}
 use native.Mathlib.Omega.{arith}
@@ -8,28 +8,27 @@ use mathlib.Core.Logic.{inl, inr}
 use mathlib.Core.Bool.{Bool, true, _&&_, not}
 use mathlib.Core.List.{List, [], _∷_, _++_, map, List·Memᴰ}
 use mathlib.Core.Option.{some}
-use lib.Dec.{leb, eqb}
+use lib.Dec.{leb, ltb, eqb}
 use lib.ListN.{getElem?}
-use borrow.Author.Tests.{leb-true, le-leb, eqb-true, eq-eqb}
+use borrow.Author.Tests.{leb-true, le-leb, ltb-true, lt-ltb, eqb-true, eq-eqb}
 use Rattle.laws.specs.Lists.{any, select, sortBy, apart}
 use Rattle.laws.specs.Lex.{lexCompare}
 use Rattle.laws.proofs.Numbers.{and-intro, and-left, and-right, false-of-no, not-of-false}
 use Rattle.laws.proofs.Lists.{select-map, map-ext, map-map, mem-select, mem-of-select, mem-map, mem-of-map, mem-selectFrom-zero, mem-of-selectFrom-zero, getElem?-snoc-cases, getElem?-append, getElem?-lt}
-use Rattle.laws.proofs.Sorted.{Sorted, sorted-of-chained, sorted-select, sorted-unique, sorted-rekey, sorted-map, apart-of-pairwise, pairwise-selectFrom}
+use Rattle.laws.proofs.Sorted.{Sorted, sorted-select, sorted-unique, sorted-rekey, sorted-map, apart-of-pairwise, pairwise-selectFrom}
 use Rattle.laws.proofs.InsertionSort.{mem-sortBy, mem-of-sortBy, sorted-sortBy}
 use Rattle.model.specs.Setup.{Setup}
 use Rattle.model.specs.Timestamp.{sum}
 use Rattle.model.specs.Frame.{Frame, encode, decode}
-use Rattle.model.specs.Order.{readingOf, key, keyNear, compareFrames, before, due, dueNear}
-use Rattle.model.specs.Tick.{dueNow}
+use Rattle.model.specs.Order.{readingOf, key, keyNear, due, dueNear}
 use Rattle.model.specs.Run.{Done, isAccepted, sends, messageBytes, messageFrame}
-use Rattle.theory.specs.Demand3.{heardIn, earlier, dueAt, messageKey}
-use Rattle.lemmas.proofs.Bounds.{Limits, QueueOk}
+use Rattle.theory.specs.Demand3.{heardIn, earlier, dueClock, dueIn, messageKey}
+use Rattle.lemmas.proofs.Bounds.{Limits, FrameOk}
 use Rattle.lemmas.proofs.Queue.{key-origin, key-lower}
 use Rattle.theory.proofs.Event.{event-reads}
 use Rattle.lemmas.proofs.RoundTrip.{decode-encode}
 use Rattle.theory.proofs.HearLoop.{followed-sends, followed-from, event-station}
-use Rattle.theory.proofs.World.{eventFrame, followed, heardAt, Explained, AllExplained, AllPresent, CallEvent, dueFollowed, followedFrame}
+use Rattle.theory.proofs.World.{eventFrame, followed, heardAt, Explained, AllExplained, CallEvent, dueFollowed, followedFrame}
 
 -- all readings may be moved by the same
 key-moved :
@@ -40,24 +39,33 @@ key-moved s a b u u′ w w′ f f′ e e′ = sym (key-lower s a (u + a) u (u′
 same-call : Done → Done → Bool
 same-call a b = eqb (a .own) (b .own) && eqb (a .clock) (b .clock)
 
--- the calls past, then the call d for v, whose hearing left the queue
+-- the frames delivered in a call that moves a clock from `last` to v: in order, each explained and come due, and all of these that are followed
+pub record Delivers (s : Setup) (from : ℕ) (past : List Done) (heard : ℕ → Bool) (last v : ℕ) (frames : List Frame) : Type 0 where
+  pub ok : (f : Frame) → List·Memᴰ f frames → FrameOk s f
+  pub sorted : Sorted (keyNear s (v % s .modulus)) frames
+  pub members : AllExplained s from past heard v frames
+  pub not-before : (f : Frame) → List·Memᴰ f frames → s .modulus + from ≤ readingOf s (v % s .modulus) f + v → s .modulus + last < dueNear s (v % s .modulus) f + v
+  pub not-past : (f : Frame) → List·Memᴰ f frames → dueNear s (v % s .modulus) f ≤ s .modulus
+  pub all :
+      (k : ℕ) (m : Done) → getElem? past k ≡ some m → followed from m ≡ true → heard k ≡ true
+      → last < due s (m .clock) (eventFrame s m .stamp .c) → due s (m .clock) (eventFrame s m .stamp .c) ≤ v → List·Memᴰ (eventFrame s m) frames
+
+-- the calls past, then the call d, which delivers the frames
 module _
-    (s : Setup) (from v node : ℕ) (past : List Done) (d : Done) (queue : List Frame) (limits : Limits s)
-    (sound : QueueOk s (v % s .modulus) queue)
+    (s : Setup) (from last v node : ℕ) (past : List Done) (d : Done) (frames : List Frame) (limits : Limits s) (near : v ≤ last + s .epsilon)
     (events : (k : ℕ) (m : Done) → getElem? past k ≡ some m → isAccepted (m .output) ≡ true → CallEvent s m)
     (unique : (k l : ℕ) (a b : Done) → getElem? past k ≡ some a → getElem? past l ≡ some b → isAccepted (a .output) ≡ true → isAccepted (b .output) ≡ true
     → a .own ≡ b .own → a .clock ≡ b .clock → k ≡ l)
     (clock-is : d .clock ≡ v)
-    (members : AllExplained s from past (heardAt (past ++ (d ∷ [])) node) v queue)
-    (present : AllPresent s from past (heardAt (past ++ (d ∷ [])) node) v queue)
+    (delivers : Delivers s from past (heardAt (past ++ (d ∷ [])) node) last v frames)
   where
     abbrev list : List Done
-    list = dueFollowed s from (past ++ (d ∷ [])) node v
+    list = dueFollowed s from (past ++ (d ∷ [])) node last v
 
     -- a message of the list
     abbrev Found : ℕ → Done → Type 0
     Found k m =
-        (getElem? past k ≡ some m) × (followed from m ≡ true) × (due s (m .clock) (eventFrame s m .stamp .c) ≡ v)
+        (getElem? past k ≡ some m) × (followed from m ≡ true) × (last < due s (m .clock) (eventFrame s m .stamp .c)) × (due s (m .clock) (eventFrame s m .stamp .c) ≤ v)
         × (heardAt (past ++ (d ∷ [])) node k ≡ true)
 
     accepted : (m : Done) → followed from m ≡ true → isAccepted (m .output) ≡ true
@@ -69,42 +77,51 @@ module _
 
     -- the test of the list
     abbrev test : ℕ → Done → Bool
-    test k m = followed from m && (dueAt s v m && any (heardIn node k) (past ++ (d ∷ [])))
+    test k m = followed from m && (dueIn s last v m && any (heardIn node k) (past ++ (d ∷ [])))
 
-    due-of : (k : ℕ) (m : Done) → CallEvent s m → sends m ≡ true → dueAt s v m ≡ true → due s (m .clock) (eventFrame s m .stamp .c) ≡ v
-    unfolding dueAt
-    due-of k m ev sent e =
-        subst (λ (f : Frame). due s (m .clock) (f .stamp .c) ≡ v) (ev .message sent)
-        (eqb-true (due s (m .clock) (messageFrame m .stamp .c)) v e)
+    due-of :
+        (m : Done) → CallEvent s m → sends m ≡ true → dueIn s last v m ≡ true
+        → (last < due s (m .clock) (eventFrame s m .stamp .c)) × (due s (m .clock) (eventFrame s m .stamp .c) ≤ v)
+    unfolding dueIn dueClock
+    due-of m ev sent e =
+        let at = due s (m .clock) (messageFrame m .stamp .c) in
+        subst (λ (f : Frame). (last < due s (m .clock) (f .stamp .c)) × (due s (m .clock) (f .stamp .c) ≤ v)) (ev .message sent)
+        (ltb-true last at (and-left (ltb last at) (leb at v) e), leb-true at v (and-right (ltb last at) (leb at v) e))
 
-    of-due : (k : ℕ) (m : Done) → CallEvent s m → sends m ≡ true → due s (m .clock) (eventFrame s m .stamp .c) ≡ v → dueAt s v m ≡ true
-    unfolding dueAt
-    of-due k m ev sent e =
-        eq-eqb (due s (m .clock) (messageFrame m .stamp .c)) v
-        (subst (λ (f : Frame). due s (m .clock) (f .stamp .c) ≡ v) (sym (ev .message sent)) e)
+    of-due :
+        (m : Done) → CallEvent s m → sends m ≡ true → last < due s (m .clock) (eventFrame s m .stamp .c) → due s (m .clock) (eventFrame s m .stamp .c) ≤ v
+        → dueIn s last v m ≡ true
+    unfolding dueIn dueClock
+    of-due m ev sent lo hi =
+        rw (ev .message sent)
+        (and-intro (lt-ltb last (due s (m .clock) (eventFrame s m .stamp .c)) lo) (le-leb (due s (m .clock) (eventFrame s m .stamp .c)) v hi))
 
     -- the call itself is due later
-    not-itself : dueAt s v d ≡ true → ⊥
-    unfolding dueAt due sum
+    not-itself : dueIn s last v d ≡ true → ⊥
+    unfolding dueIn dueClock due sum
     not-itself e =
-        omega (arith, eqb-true (d .clock + messageFrame d .stamp .c + s .delta + s .epsilon) v e, limits .epsilon-pos)
+        let at = d .clock + messageFrame d .stamp .c + s .delta + s .epsilon in
+        omega (arith, leb-true at v (and-right (ltb last at) (leb at v) e), limits .epsilon-pos)
 
     found-at : (k : ℕ) (m : Done) → getElem? (past ++ (d ∷ [])) k ≡ some m → test k m ≡ true → Found k m
     unfolding heardAt
     found-at k m at e =
         elim (getElem?-snoc-cases past d k at) [
-          | inl q ↦ (q, fol, due-of k m (event k m q fol) (followed-sends from m fol) d-at, and-right (dueAt s v m) (any (heardIn node k) (past ++ (d ∷ []))) rest)
-          | inr q ↦ absurd (not-itself (subst (λ (y : Done). dueAt s v y ≡ true) (q .1) d-at))
+          | inl q ↦ (q, fol, here q .0, here q .1, and-right (dueIn s last v m) (any (heardIn node k) (past ++ (d ∷ []))) rest)
+          | inr q ↦ absurd (not-itself (subst (λ (y : Done). dueIn s last v y ≡ true) (q .1) d-at))
         ]
       where
         fol : followed from m ≡ true
-        fol = and-left (followed from m) (dueAt s v m && any (heardIn node k) (past ++ (d ∷ []))) e
+        fol = and-left (followed from m) (dueIn s last v m && any (heardIn node k) (past ++ (d ∷ []))) e
 
-        rest : (dueAt s v m && any (heardIn node k) (past ++ (d ∷ []))) ≡ true
-        rest = and-right (followed from m) (dueAt s v m && any (heardIn node k) (past ++ (d ∷ []))) e
+        rest : (dueIn s last v m && any (heardIn node k) (past ++ (d ∷ []))) ≡ true
+        rest = and-right (followed from m) (dueIn s last v m && any (heardIn node k) (past ++ (d ∷ []))) e
 
-        d-at : dueAt s v m ≡ true
-        d-at = and-left (dueAt s v m) (any (heardIn node k) (past ++ (d ∷ []))) rest
+        d-at : dueIn s last v m ≡ true
+        d-at = and-left (dueIn s last v m) (any (heardIn node k) (past ++ (d ∷ []))) rest
+
+        here : getElem? past k ≡ some m → (last < due s (m .clock) (eventFrame s m .stamp .c)) × (due s (m .clock) (eventFrame s m .stamp .c) ≤ v)
+        here q = due-of m (event k m q fol) (followed-sends from m fol) d-at
 
     found : (m : Done) → List·Memᴰ m list → (k : ℕ) × Found k m
     unfolding dueFollowed
@@ -114,14 +131,14 @@ module _
     unfolding dueFollowed heardAt
     listed k m f =
         mem-selectFrom-zero test (past ++ (d ∷ [])) k (getElem?-append past (d ∷ []) k (getElem?-lt past k (f .0)) ∙ f .0)
-        (and-intro (f .1) (and-intro (of-due k m (event k m (f .0) (f .1)) (followed-sends from m (f .1)) (f .2)) (f .3)))
+        (and-intro (f .1) (and-intro (of-due m (event k m (f .0) (f .1)) (followed-sends from m (f .1)) (f .2) (f .3)) (f .4)))
 
     -- its reading is its true clock
     reading : (k : ℕ) (m : Done) → Found k m → readingOf s (v % s .modulus) (eventFrame s m) + v ≡ s .modulus + m .clock
     unfolding due sum
     reading k m f =
         let ev = event k m (f .0) (f .1) in
-        event-reads s v m limits ev (omega (arith, f .2, ev .frame .sound .close)) (omega (arith, f .2, ev .frame .sound .close, limits .modulus-least))
+        event-reads s v m limits ev (omega (arith, f .3, limits .epsilon-pos)) (omega (arith, f .2, near, ev .frame .sound .close, limits .modulus-least))
 
     -- the list has no call twice
     list-apart : apart same-call list ≡ true
@@ -179,40 +196,35 @@ module _
 
     -- what is delivered and followed
     abbrev chosen : List Frame
-    chosen = select (λ f. followedFrame s from v (encode f)) (select (dueNow s (v % s .modulus)) queue)
+    chosen = select (λ f. followedFrame s from v (encode f)) frames
 
     sorted-chosen : Sorted keyAt chosen
-    unfolding before compareFrames
-    sorted-chosen =
-        sorted-select keyAt (λ f. followedFrame s from v (encode f)) (select (dueNow s (v % s .modulus)) queue)
-        (sorted-select keyAt (dueNow s (v % s .modulus)) queue (sorted-of-chained keyAt queue (sound .ordered)))
+    sorted-chosen = sorted-select keyAt (λ f. followedFrame s from v (encode f)) frames (delivers .sorted)
 
-    decoded : (f : Frame) → List·Memᴰ f queue → decode (s .epsilon) (encode f) ≡ f
-    decoded f mem = decode-encode (s .epsilon) f (sound .frames f mem .sound .wide)
+    decoded : (f : Frame) → List·Memᴰ f frames → decode (s .epsilon) (encode f) ≡ f
+    decoded f mem = decode-encode (s .epsilon) f (delivers .ok f mem .sound .wide)
 
     into : (f : Frame) → List·Memᴰ f chosen → List·Memᴰ f (map (eventFrame s) sorted)
-    unfolding followedFrame dueNow dueNear due sum
+    unfolding followedFrame dueNear due sum
     into f mem =
-        let a = mem-of-select (λ g. followedFrame s from v (encode g)) (select (dueNow s (v % s .modulus)) queue) mem in
-        let b = mem-of-select (dueNow s (v % s .modulus)) queue (a .0) in
-        go (b .0) (members f (b .0))
-        (eqb-true (readingOf s (v % s .modulus) f + f .stamp .c + s .delta + s .epsilon) (s .modulus) (b .1))
+        let a = mem-of-select (λ g. followedFrame s from v (encode g)) frames mem in
+        go (a .0) (delivers .members f (a .0))
         (leb-true (s .modulus + from) (readingOf s (v % s .modulus) f + v)
-        (subst (λ (g : Frame). leb (s .modulus + from) (readingOf s (v % s .modulus) g + v) ≡ true) (decoded f (b .0)) (a .1)))
+        (subst (λ (g : Frame). leb (s .modulus + from) (readingOf s (v % s .modulus) g + v) ≡ true) (decoded f (a .0)) (a .1)))
       where
-        go : List·Memᴰ f queue → Explained s from past (heardAt (past ++ (d ∷ [])) node) v f
-            → readingOf s (v % s .modulus) f + f .stamp .c + s .delta + s .epsilon ≡ s .modulus
+        go : List·Memᴰ f frames → Explained s from past (heardAt (past ++ (d ∷ [])) node) v f
             → s .modulus + from ≤ readingOf s (v % s .modulus) f + v
             → List·Memᴰ f (map (eventFrame s) sorted)
-        go mq (inl h) due-now fol = let bad : ⊥ = omega arith in absurd bad
-        go mq (inr x) due-now fol =
+        go there (inl h) fol = let bad : ⊥ = omega arith in absurd bad
+        go there (inr x) fol =
             let c : f .stamp .c ≡ eventFrame s (x .1) .stamp .c = ap (λ (g : Frame). g .stamp .c) (x .5) in
-            let q : x .1 .clock + eventFrame s (x .1) .stamp .c + s .delta + s .epsilon ≡ v = omega (arith, x .6) in
+            let lo : last < x .1 .clock + eventFrame s (x .1) .stamp .c + s .delta + s .epsilon = omega (arith, x .6, delivers .not-before f there fol) in
+            let hi : x .1 .clock + eventFrame s (x .1) .stamp .c + s .delta + s .epsilon ≤ v = omega (arith, x .6, delivers .not-past f there) in
             subst (λ (g : Frame). List·Memᴰ g (map (eventFrame s) sorted)) (sym (x .5))
-            (mem-map (eventFrame s) (mem-sortBy (earlier s) (listed (x .0) (x .1) (x .2, x .3, q, x .4))))
+            (mem-map (eventFrame s) (mem-sortBy (earlier s) (listed (x .0) (x .1) (x .2, x .3, lo, hi, x .4))))
 
     back : (f : Frame) → List·Memᴰ f (map (eventFrame s) sorted) → List·Memᴰ f chosen
-    unfolding followedFrame dueNow dueNear due sum
+    unfolding followedFrame
     back f mem =
         let a = mem-of-map (eventFrame s) sorted mem in
         let b = found (a .0) (mem-of-sortBy (earlier s) list (a .1)) in
@@ -220,18 +232,16 @@ module _
       where
         go : (k : ℕ) (m : Done) → Found k m → List·Memᴰ (eventFrame s m) chosen
         go k m g =
-            let q : List·Memᴰ (eventFrame s m) queue = present k m (g .0) (g .1) (g .3) (omega (arith, g .2)) in
-            mem-select (λ h. followedFrame s from v (encode h))
-            (mem-select (dueNow s (v % s .modulus)) q
-            (eq-eqb (readingOf s (v % s .modulus) (eventFrame s m) + eventFrame s m .stamp .c + s .delta + s .epsilon) (s .modulus) (omega (arith, g .2, reading k m g))))
+            let q : List·Memᴰ (eventFrame s m) frames = delivers .all k m (g .0) (g .1) (g .4) (g .2) (g .3) in
+            mem-select (λ h. followedFrame s from v (encode h)) q
             (subst (λ (h : Frame). leb (s .modulus + from) (readingOf s (v % s .modulus) h + v) ≡ true) (sym (decoded (eventFrame s m) q))
             (le-leb (s .modulus + from) (readingOf s (v % s .modulus) (eventFrame s m) + v) (omega (arith, reading k m g, followed-from from m (g .1)))))
 
     pub delivery :
-        select (followedFrame s from v) (map encode (select (dueNow s (v % s .modulus)) queue))
+        select (followedFrame s from v) (map encode frames)
         ≡ map messageBytes sorted
     delivery =
-        select-map (followedFrame s from v) encode (select (dueNow s (v % s .modulus)) queue)
+        select-map (followedFrame s from v) encode frames
         ∙ (ap (map encode) (sorted-unique keyAt chosen (map (eventFrame s) sorted) sorted-chosen sorted-frames into back)
         ∙ (map-map encode (eventFrame s) sorted
         ∙ sym (map-ext messageBytes (λ (m : Done). encode (eventFrame s m)) sorted bytes)))

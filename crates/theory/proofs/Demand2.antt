@@ -1,11 +1,11 @@
 -- Demand 2 from fresh stations: every accepted call does what the published program does, reduced modulo B.
 -- Assumes nothing.
-use Prim.Native.Nat.{ℕ, _+_, _<_}
+use Prim.Native.Nat.{ℕ, _+_, _≤_, _<_}
 use native.Mathlib.Omega.{arith}
 use mathlib.Core.Path.{_≡_, refl, sym, ap, subst, _∙_}
 use mathlib.Core.Logic.{_⊎_, inl, inr}
 use mathlib.Core.Bool.{Bool, true, false, _&&_, _||_, not, cond}
-use mathlib.Core.List.{List, [], _∷_, _++_}
+use mathlib.Core.List.{List, [], _∷_, _++_, List·Memᴰ}
 use mathlib.Core.Option.{Option, none, some}
 use lib.ListN.{length, take, set, getElem?}
 use lib.Seq.{take-append-le, take-append-seam}
@@ -14,10 +14,10 @@ use Rattle.laws.specs.Lists.{every}
 use Rattle.laws.proofs.Numbers.{eq-or-ne, clash, and-intro, and-left, and-right, or-cases, false-of-not}
 use Rattle.laws.proofs.Lists.{every-mem, every-append-left, every-append-right, getElem?-mem, getElem?-lt, getElem?-set-same, getElem?-set-other, getElem?-snoc-cases}
 use Rattle.model.specs.Setup.{Setup}
-use Rattle.model.specs.Published.{Message, Process, advanced, eventOf, nextEvent, messageOf}
+use Rattle.model.specs.Published.{Message, Process, deliverableBy, buffered, advanced, eventOf, nextEvent, messageOf}
 use Rattle.model.specs.Run.{Node, Source, sentBy, stale, Call, Done, World, isAccepted, outputOf, doneOf, nodeAfter, act, actOn, runFrom, atStart, sends}
-use Rattle.theory.specs.Premises.{largestClock, staleUntil, allowed, keeps, isSent, noneStale}
-use Rattle.theory.specs.Demand2.{Published, outcomeOf, publish, publishAll, publishedStart, Matched, Demand2Fresh}
+use Rattle.theory.specs.Premises.{goodStart, allFresh, largestClock, staleUntil, allowed, keeps, isSent, noneStale}
+use Rattle.theory.specs.Demand2.{Published, messagesHeard, outcomeOf, publish, publishAll, publishedStart, Matched, Demand2Fresh}
 use Rattle.theory.specs.Demand3.{heardIn}
 use Rattle.theory.proofs.World.{act-is, sends-accepted, Good, Legal, EntryOk}
 use Rattle.theory.proofs.Event.{done-clock}
@@ -26,13 +26,24 @@ use Rattle.theory.proofs.Refused.{refused-node, refused-good}
 use Rattle.theory.proofs.Promises.{ends}
 use Rattle.theory.proofs.Invariant.{step-good}
 use Rattle.theory.proofs.Start.{allowed-fact}
+use Rattle.theory.proofs.PublishedQueue.{messageDue}
 use Rattle.theory.proofs.PublishedRun.{Copies, Twin, Paired, LastAs, settles-fresh, sent-as-snoc, ranked-snoc, twin-stays}
-use Rattle.theory.proofs.PublishedCall.{heardHere, frame-is, same-as, ranked-last, twin-moves}
+use Rattle.theory.proofs.PublishedCall.{heardHere, none-overdue, frame-is, same-as, ranked-last, twin-moves}
 use Rattle.theory.proofs.PublishedStart.{paired-fresh}
 
 -- what the call sends in the published program
 abbrev sentHere : Setup → List (Option Message) → Call → ℕ → Process → Option Message
 sentHere s sent call v p = cond (call .send) (some (messageOf (s .epsilon) v p (heardHere sent call) (call .payload))) none
+
+-- nothing that the process of a call holds is due before the call's clock
+abbrev pub NoneOverdue : Setup → Published → Done → Type 0
+NoneOverdue s u d =
+    (p : Process) → getElem? (u .processes) (d .node) ≡ some p
+    → (m : Message) → List·Memᴰ m (buffered p (messagesHeard (u .sent) (d .call .sources))) → d .clock ≤ messageDue s m
+
+-- an accepted call and the published program as it stands before that
+abbrev pub Follows : Setup → Published → Done → Type 0
+Follows s u d = Matched deliverableBy s u d × (d .call .step ≡ 1 → NoneOverdue s u d)
 
 -- an accepted call
 module _ (s : Setup) (w : World) (u : Published) (call : Call) (node : Node) (v : ℕ) (paired : Paired s w u) (legal : Legal s 0 w call node v)
@@ -41,9 +52,9 @@ module _ (s : Setup) (w : World) (u : Published) (call : Call) (node : Node) (v 
   moved = done-clock s node call (legal .called)
 
   published :
-      publish s u (doneOf node call)
+      publish deliverableBy s u (doneOf node call)
       ≡ record {
-        processes = set (u .processes) (call .node) (advanced (s .epsilon) (s .delta) v p (heardHere (u .sent) call));
+        processes = set (u .processes) (call .node) (advanced deliverableBy (s .epsilon) (s .delta) v p (heardHere (u .sent) call));
         sent = u .sent ++ (sentHere s (u .sent) call v p ∷ []);
       }
   unfolding publish outcomeOf doneOf
@@ -84,22 +95,22 @@ module _ (s : Setup) (w : World) (u : Published) (call : Call) (node : Node) (v 
       }
 
   abbrev world′ : World
-  world′ = record { nodes = set (w .nodes) (call .node) (nodeAfter node (outputOf node call)); past = w .past ++ (doneOf node call ∷ []) }
+  world′ = record { nodes = set (w .nodes) (call .node) (nodeAfter node (call .step) (outputOf node call)); past = w .past ++ (doneOf node call ∷ []) }
 
   abbrev published′ : Published
   published′ =
       record {
-        processes = set (u .processes) (call .node) (advanced (s .epsilon) (s .delta) v p (heardHere (u .sent) call));
+        processes = set (u .processes) (call .node) (advanced deliverableBy (s .epsilon) (s .delta) v p (heardHere (u .sent) call));
         sent = u .sent ++ (sentHere s (u .sent) call v p ∷ []);
       }
 
   abbrev Paired-at : ℕ → Node → Type 0
   Paired-at j a = (q : Process) × (getElem? (published′ .processes) j ≡ some q) × Twin s (world′ .past) (published′ .sent) j a q
 
-  own-twin : Paired-at (call .node) (nodeAfter node (outputOf node call))
+  own-twin : Paired-at (call .node) (nodeAfter node (call .step) (outputOf node call))
   own-twin = (
-    advanced (s .epsilon) (s .delta) v p (heardHere (u .sent) call),
-    getElem?-set-same (u .processes) (call .node) (advanced (s .epsilon) (s .delta) v p (heardHere (u .sent) call))
+    advanced deliverableBy (s .epsilon) (s .delta) v p (heardHere (u .sent) call),
+    getElem?-set-same (u .processes) (call .node) (advanced deliverableBy (s .epsilon) (s .delta) v p (heardHere (u .sent) call))
         (getElem?-lt (u .processes) (call .node) p-at),
     twin-moves s w (u .sent) call node v p (paired .good) legal (paired .sent-as) (paired .ranked) twin (sentHere s (u .sent) call v p) sent-event,
   )
@@ -112,7 +123,7 @@ module _ (s : Setup) (w : World) (u : Published) (call : Call) (node : Node) (v 
   other-twin j a ne at =
       let (q, q-at, t) = paired .twins j a at in (
         q,
-        getElem?-set-other (u .processes) (call .node) j (advanced (s .epsilon) (s .delta) v p (heardHere (u .sent) call)) ne ∙ q-at,
+        getElem?-set-other (u .processes) (call .node) j (advanced deliverableBy (s .epsilon) (s .delta) v p (heardHere (u .sent) call)) ne ∙ q-at,
         twin-stays s (w .past) (u .sent) j a q (doneOf node call) (sentHere s (u .sent) call v p) (paired .sent-as .same-length) (paired .good .heard-before j)
             (quiet j ne) (λ m e. unfold doneOf in ne) t,
       )
@@ -121,15 +132,15 @@ module _ (s : Setup) (w : World) (u : Published) (call : Call) (node : Node) (v 
   all-twins j a at =
       elim (eq-or-ne (call .node) j) [
         | inl e ↦
-            let a-is : a ≡ nodeAfter node (outputOf node call) =
-            some-inj (sym at ∙ (ap (getElem? (world′ .nodes)) (sym e) ∙ getElem?-set-same (w .nodes) (call .node) (nodeAfter node (outputOf node call)) (getElem?-lt (w .nodes) (call .node) (legal .at)))) in
+            let a-is : a ≡ nodeAfter node (call .step) (outputOf node call) =
+            some-inj (sym at ∙ (ap (getElem? (world′ .nodes)) (sym e) ∙ getElem?-set-same (w .nodes) (call .node) (nodeAfter node (call .step) (outputOf node call)) (getElem?-lt (w .nodes) (call .node) (legal .at)))) in
             subst (λ (i : ℕ). Paired-at i a) e (subst (Paired-at (call .node)) (sym a-is) own-twin)
-        | inr e ↦ other-twin j a e (sym (getElem?-set-other (w .nodes) (call .node) j (nodeAfter node (outputOf node call)) e) ∙ at)
+        | inr e ↦ other-twin j a e (sym (getElem?-set-other (w .nodes) (call .node) j (nodeAfter node (call .step) (outputOf node call)) e) ∙ at)
       ]
 
-  pub paired-accepted : Paired s (act w call) (publish s u (doneOf node call))
+  pub paired-accepted : Paired s (act w call) (publish deliverableBy s u (doneOf node call))
   paired-accepted =
-      subst (λ (y : World). Paired s y (publish s u (doneOf node call))) (sym (act-is w call node (legal .at)))
+      subst (λ (y : World). Paired s y (publish deliverableBy s u (doneOf node call))) (sym (act-is w call node (legal .at)))
       (subst (Paired s world′) (sym published)
       (record {
         good = subst (Good s 0 0) (act-is w call node (legal .at)) (step-good s 0 0 w call node v (paired .good) legal (ends s 0 0 (settles-fresh s) w call node v (paired .good) legal));
@@ -142,9 +153,16 @@ module _ (s : Setup) (w : World) (u : Published) (call : Call) (node : Node) (v 
         twins = all-twins;
       }))
 
-  matched-here : Matched s u (doneOf node call)
+  follows-here : Follows s u (doneOf node call)
   unfolding doneOf
-  matched-here = (p, p-at, same-as s w (u .sent) call node v p (paired .good) legal (paired .sent-as) (paired .ranked) twin)
+  follows-here = (
+    (p, p-at, same-as s w (u .sent) call node v p (paired .good) legal (paired .sent-as) (paired .ranked) twin),
+    λ one q q-at m t.
+        let same : q ≡ p = some-inj (sym q-at ∙ p-at) in
+        subst (λ (n : ℕ). n ≤ messageDue s m) (sym moved)
+        (none-overdue s w (u .sent) call node v p (paired .good) legal (paired .sent-as) (paired .ranked) twin one m
+        (subst (λ (x : Process). List·Memᴰ m (buffered x (heardHere (u .sent) call))) same t)),
+  )
 
 -- and sends nothing
 module _ (s : Setup) (w : World) (u : Published) (call : Call) (node : Node) (paired : Paired s w u) (at : getElem? (w .nodes) (call .node) ≡ some node)
@@ -152,25 +170,25 @@ module _ (s : Setup) (w : World) (u : Published) (call : Call) (node : Node) (pa
   none-sent : (m : Message) → _≡_ {A = Option Message} none (some m) → ⊥
   none-sent m e = let z : _≡_ {A = ℕ} 0 1 = cc in omega arith
 
-  not-published : publish s u (doneOf node call) ≡ record { processes = u .processes; sent = u .sent ++ (none ∷ []) }
+  not-published : publish deliverableBy s u (doneOf node call) ≡ record { processes = u .processes; sent = u .sent ++ (none ∷ []) }
   unfolding publish doneOf
   not-published = let (p, p-at, twin) = paired .twins (call .node) node at in rw (refused, p-at) refl
 
-  same-node : (j : ℕ) (a : Node) → getElem? (set (w .nodes) (call .node) (nodeAfter node (outputOf node call))) j ≡ some a → getElem? (w .nodes) j ≡ some a
+  same-node : (j : ℕ) (a : Node) → getElem? (set (w .nodes) (call .node) (nodeAfter node (call .step) (outputOf node call))) j ≡ some a → getElem? (w .nodes) j ≡ some a
   same-node j a a-at =
       elim (eq-or-ne (call .node) j) [
         | inl e ↦
-            let a-is : nodeAfter node (outputOf node call) ≡ a =
-            some-inj (sym (getElem?-set-same (w .nodes) (call .node) (nodeAfter node (outputOf node call)) (getElem?-lt (w .nodes) (call .node) at))
-            ∙ (ap (getElem? (set (w .nodes) (call .node) (nodeAfter node (outputOf node call)))) e ∙ a-at)) in
+            let a-is : nodeAfter node (call .step) (outputOf node call) ≡ a =
+            some-inj (sym (getElem?-set-same (w .nodes) (call .node) (nodeAfter node (call .step) (outputOf node call)) (getElem?-lt (w .nodes) (call .node) at))
+            ∙ (ap (getElem? (set (w .nodes) (call .node) (nodeAfter node (call .step) (outputOf node call)))) e ∙ a-at)) in
             ap (getElem? (w .nodes)) (sym e) ∙ (at ∙ ap some (sym (refused-node node call refused) ∙ a-is))
-        | inr e ↦ sym (getElem?-set-other (w .nodes) (call .node) j (nodeAfter node (outputOf node call)) e) ∙ a-at
+        | inr e ↦ sym (getElem?-set-other (w .nodes) (call .node) j (nodeAfter node (call .step) (outputOf node call)) e) ∙ a-at
       ]
 
-  pub paired-refused : Paired s (act w call) (publish s u (doneOf node call))
+  pub paired-refused : Paired s (act w call) (publish deliverableBy s u (doneOf node call))
   paired-refused =
-      subst (λ (y : World). Paired s y (publish s u (doneOf node call))) (sym (act-is w call node at))
-      (subst (Paired s (record { nodes = set (w .nodes) (call .node) (nodeAfter node (outputOf node call)); past = w .past ++ (doneOf node call ∷ []) })) (sym not-published)
+      subst (λ (y : World). Paired s y (publish deliverableBy s u (doneOf node call))) (sym (act-is w call node at))
+      (subst (Paired s (record { nodes = set (w .nodes) (call .node) (nodeAfter node (call .step) (outputOf node call)); past = w .past ++ (doneOf node call ∷ []) })) (sym not-published)
       (record {
         good = subst (Good s 0 0) (act-is w call node at) (refused-good s 0 0 w call node (paired .good) at refused);
         sent-as =
@@ -209,27 +227,27 @@ legal-fresh s floor w call node v legal all-sent =
     }
 
 -- the calls of a list, one after the other
-abbrev AllMatched : Setup → Published → List Done → Type 0
-AllMatched s start past =
-    (j : ℕ) (d : Done) → getElem? past j ≡ some d → isAccepted (d .output) ≡ true → Matched s (publishAll s start (take j past)) d
+abbrev pub AllFollow : Setup → Published → List Done → Type 0
+AllFollow s start past =
+    (j : ℕ) (d : Done) → getElem? past j ≡ some d → isAccepted (d .output) ≡ true → Follows s (publishAll deliverableBy s start (take j past)) d
 
-publish-snoc : (s : Setup) (past : List Done) (u : Published) (d : Done) → publishAll s u (past ++ (d ∷ [])) ≡ publish s (publishAll s u past) d
+publish-snoc : (s : Setup) (past : List Done) (u : Published) (d : Done) → publishAll deliverableBy s u (past ++ (d ∷ [])) ≡ publish deliverableBy s (publishAll deliverableBy s u past) d
 unfolding publishAll
 publish-snoc s [] u d = refl
-publish-snoc s (a ∷ past) u d = publish-snoc s past (publish s u a) d
+publish-snoc s (a ∷ past) u d = publish-snoc s past (publish deliverableBy s u a) d
 
-matched-snoc :
-    (s : Setup) (start : Published) (past : List Done) (d : Done) → AllMatched s start past
-    → (isAccepted (d .output) ≡ true → Matched s (publishAll s start past) d) → AllMatched s start (past ++ (d ∷ []))
-matched-snoc s start past d matched last j e at acc =
+follow-snoc :
+    (s : Setup) (start : Published) (past : List Done) (d : Done) → AllFollow s start past
+    → (isAccepted (d .output) ≡ true → Follows s (publishAll deliverableBy s start past) d) → AllFollow s start (past ++ (d ∷ []))
+follow-snoc s start past d follow last j e at acc =
     elim (getElem?-snoc-cases past d j at) [
       | inl q ↦
           let h : j < length past = getElem?-lt past j q in
-          subst (λ (l : List Done). Matched s (publishAll s start l) e) (sym (take-append-le j past (d ∷ []) (omega arith))) (matched j e q acc)
+          subst (λ (l : List Done). Follows s (publishAll deliverableBy s start l) e) (sym (take-append-le j past (d ∷ []) (omega arith))) (follow j e q acc)
       | inr q ↦
-          subst (λ (n : ℕ). Matched s (publishAll s start (take n (past ++ (d ∷ [])))) e) (sym (q .0))
-          (subst (λ (l : List Done). Matched s (publishAll s start l) e) (sym (take-append-seam past (d ∷ [])))
-          (subst (λ (y : Done). Matched s (publishAll s start past) y) (sym (q .1)) (last (ap (λ (y : Done). isAccepted (y .output)) (sym (q .1)) ∙ acc))))
+          subst (λ (n : ℕ). Follows s (publishAll deliverableBy s start (take n (past ++ (d ∷ [])))) e) (sym (q .0))
+          (subst (λ (l : List Done). Follows s (publishAll deliverableBy s start l) e) (sym (take-append-seam past (d ∷ [])))
+          (subst (λ (y : Done). Follows s (publishAll deliverableBy s start past) y) (sym (q .1)) (last (ap (λ (y : Done). isAccepted (y .output)) (sym (q .1)) ∙ acc))))
     ]
 
 none-stale-before : (calls : List Call) (w : World) → noneStale (runFrom w calls .past) ≡ true → noneStale (w .past) ≡ true
@@ -259,47 +277,53 @@ last-sent w call node at acc h =
     ]
 
 -- one call more
-one-matched :
-    (s : Setup) (x : ℕ) (start : Published) (w : World) (call : Call) → Paired s w (publishAll s start (w .past)) → AllMatched s start (w .past)
+one-follows :
+    (s : Setup) (x : ℕ) (start : Published) (w : World) (call : Call) → Paired s w (publishAll deliverableBy s start (w .past)) → AllFollow s start (w .past)
     → allowed s x w call ≡ true → noneStale (act w call .past) ≡ true
-    → Paired s (act w call) (publishAll s start (act w call .past)) × AllMatched s start (act w call .past)
-one-matched s x start w call paired matched ok fresh = go (allowed-fact s x (staleUntil s x + s .epsilon) w call (λ v h. omega arith) ok)
+    → Paired s (act w call) (publishAll deliverableBy s start (act w call .past)) × AllFollow s start (act w call .past)
+one-follows s x start w call paired follow ok fresh = go (allowed-fact s x (staleUntil s x + s .epsilon) w call (λ v h. omega arith) ok)
   where
     u : Published
-    u = publishAll s start (w .past)
+    u = publishAll deliverableBy s start (w .past)
 
     grown :
-        (node : Node) → getElem? (w .nodes) (call .node) ≡ some node → Paired s (act w call) (publish s u (doneOf node call))
-        → (isAccepted (doneOf node call .output) ≡ true → Matched s u (doneOf node call))
-        → Paired s (act w call) (publishAll s start (act w call .past)) × AllMatched s start (act w call .past)
+        (node : Node) → getElem? (w .nodes) (call .node) ≡ some node → Paired s (act w call) (publish deliverableBy s u (doneOf node call))
+        → (isAccepted (doneOf node call .output) ≡ true → Follows s u (doneOf node call))
+        → Paired s (act w call) (publishAll deliverableBy s start (act w call .past)) × AllFollow s start (act w call .past)
     grown node at more last =
         let past-is : act w call .past ≡ w .past ++ (doneOf node call ∷ []) = ap (λ (y : World). y .past) (act-is w call node at) in (
-          subst (Paired s (act w call)) (sym (ap (publishAll s start) past-is ∙ publish-snoc s (w .past) start (doneOf node call))) more,
-          subst (AllMatched s start) (sym past-is) (matched-snoc s start (w .past) (doneOf node call) matched last),
+          subst (Paired s (act w call)) (sym (ap (publishAll deliverableBy s start) past-is ∙ publish-snoc s (w .past) start (doneOf node call))) more,
+          subst (AllFollow s start) (sym past-is) (follow-snoc s start (w .past) (doneOf node call) follow last),
         )
 
     go :
         (node : Node) × (getElem? (w .nodes) (call .node) ≡ some node)
         × ((isAccepted (outputOf node call) ≡ false) ⊎ Legal s (staleUntil s x + s .epsilon) w call node (doneOf node call .clock))
-        → Paired s (act w call) (publishAll s start (act w call .past)) × AllMatched s start (act w call .past)
+        → Paired s (act w call) (publishAll deliverableBy s start (act w call .past)) × AllFollow s start (act w call .past)
     go (node, at, inl refused) =
         grown node at (paired-refused s w u call node paired at refused) (λ acc. absurd (clash acc (unfold doneOf in refused)))
     go (node, at, inr legal) =
         let here = legal-fresh s (staleUntil s x + s .epsilon) w call node (doneOf node call .clock) legal (last-sent w call node at (legal .called .accepted) fresh) in
         let (p, p-at, twin) = paired .twins (call .node) node at in
-        grown node at (paired-accepted s w u call node (doneOf node call .clock) paired here p p-at twin) (λ acc. matched-here s w u call node (doneOf node call .clock) paired here p p-at twin)
+        grown node at (paired-accepted s w u call node (doneOf node call .clock) paired here p p-at twin) (λ acc. follows-here s w u call node (doneOf node call .clock) paired here p p-at twin)
 
-all-matched :
-    (s : Setup) (x : ℕ) (start : Published) (calls : List Call) (w : World) → Paired s w (publishAll s start (w .past)) → AllMatched s start (w .past)
-    → keeps s x w calls ≡ true → noneStale (runFrom w calls .past) ≡ true → AllMatched s start (runFrom w calls .past)
+all-follow :
+    (s : Setup) (x : ℕ) (start : Published) (calls : List Call) (w : World) → Paired s w (publishAll deliverableBy s start (w .past)) → AllFollow s start (w .past)
+    → keeps s x w calls ≡ true → noneStale (runFrom w calls .past) ≡ true → AllFollow s start (runFrom w calls .past)
 unfolding runFrom keeps
-all-matched s x start [] w paired matched kept fresh = matched
-all-matched s x start (call ∷ calls) w paired matched kept fresh =
-    let r = one-matched s x start w call paired matched (and-left (allowed s x w call) (keeps s x (act w call) calls) kept) (none-stale-before calls (act w call) fresh) in
-    all-matched s x start calls (act w call) (r .0) (r .1) (and-right (allowed s x w call) (keeps s x (act w call) calls) kept) fresh
+all-follow s x start [] w paired follow kept fresh = follow
+all-follow s x start (call ∷ calls) w paired follow kept fresh =
+    let r = one-follows s x start w call paired follow (and-left (allowed s x w call) (keeps s x (act w call) calls) kept) (none-stale-before calls (act w call) fresh) in
+    all-follow s x start calls (act w call) (r .0) (r .1) (and-right (allowed s x w call) (keeps s x (act w call) calls) kept) fresh
+
+pub fresh-follow :
+    (s : Setup) (nodes : List Node) (calls : List Call) → goodStart s nodes ≡ true → allFresh s nodes ≡ true
+    → keeps s (largestClock nodes) (atStart nodes) calls ≡ true → noneStale (runFrom (atStart nodes) calls .past) ≡ true
+    → AllFollow s (publishedStart s nodes) (runFrom (atStart nodes) calls .past)
+unfolding atStart publishAll
+fresh-follow s nodes calls start fresh kept none-old =
+    all-follow s (largestClock nodes) (publishedStart s nodes) calls (atStart nodes) (paired-fresh s nodes start fresh)
+    (λ k e e-at. let z : k < 0 = getElem?-lt [] k e-at in absurd (omega arith)) kept none-old
 
 pub demand2-fresh : Demand2Fresh
-unfolding atStart publishAll
-demand2-fresh s nodes calls start fresh kept none-old j d at acc =
-    all-matched s (largestClock nodes) (publishedStart s nodes) calls (atStart nodes) (paired-fresh s nodes start fresh)
-    (λ k e e-at. let z : k < 0 = getElem?-lt [] k e-at in absurd (omega arith)) kept none-old j d at acc
+demand2-fresh s nodes calls start fresh kept none-old j d at acc = fresh-follow s nodes calls start fresh kept none-old j d at acc .0

@@ -79,10 +79,10 @@ module _ (s : Setup) (x : ℕ) (past : List Done) (kept : AllKept s (coveredFrom
   delivers :
       (j : ℕ) (d : Done) → getElem? past j ≡ some d → isAccepted (d .output) ≡ true
       → select (coveredFrame s x (d .clock)) (heldBytes (s .epsilon) (d .output .delivery))
-      ≡ map messageBytes (sortBy (earlier s) (dueHere s x (take (j + 1) past) (d .node) (d .clock)))
+      ≡ map messageBytes (sortBy (earlier s) (dueHere s x (take (j + 1) past) (d .node) (d .last) (d .clock)))
   unfolding coveredFrame followedFrame dueHere dueFollowed covered followed
   delivers j d at acc =
-      subst (λ (l : List Done). select (coveredFrame s x (d .clock)) (heldBytes (s .epsilon) (d .output .delivery)) ≡ map messageBytes (sortBy (earlier s) (dueHere s x l (d .node) (d .clock))))
+      subst (λ (l : List Done). select (coveredFrame s x (d .clock)) (heldBytes (s .epsilon) (d .output .delivery)) ≡ map messageBytes (sortBy (earlier s) (dueHere s x l (d .node) (d .last) (d .clock))))
       (sym more) (kept j d at acc .delivering)
     where
       more : take (j + 1) past ≡ take j past ++ (d ∷ [])

@@ -8,21 +8,22 @@ use mathlib.Core.List.{List, [], _∷_, _++_}
 use mathlib.Core.Option.{some}
 use lib.ListN.{length, take, getD, getElem?}
 use lib.Seq.{take-suc, take-all}
-use borrow.Author.Tests.{eq-eqb}
+use borrow.Author.Tests.{eq-eqb, eqb-true}
 use Rattle.laws.specs.Lists.{any}
-use Rattle.laws.proofs.Lists.{any-append}
+use Rattle.laws.proofs.Lists.{any-append, any-mem, mem-getElem?}
+use Rattle.laws.proofs.Numbers.{clash}
 use Rattle.model.specs.Setup.{Setup}
 use Rattle.model.specs.Timestamp.{Timestamp}
 use Rattle.model.specs.Frame.{decode}
 use Rattle.model.specs.Batch.{batchEntries}
 use Rattle.model.specs.Question.{firstNo}
 use Rattle.model.specs.Judge.{Asking, Heard, hear, hearOne, judgeQuestions, absorbBy, absorbAll}
-use Rattle.model.specs.Tick.{opening, heardOf, heardStamp, openingQueue, openingStamp}
-use Rattle.model.specs.Run.{Node, stale, Call, Done, inputOf, isAccepted, outputOf, doneOf}
+use Rattle.model.specs.Tick.{opening, heardOf, heardStamp, openingStamp}
+use Rattle.model.specs.Run.{Node, Source, sentBy, stale, Call, Done, inputOf, isAccepted, outputOf, doneOf}
 use Rattle.theory.specs.Demand3.{heardIn, isFrom}
 use Rattle.lemmas.proofs.OneTick.{numbersOf, heard-verdicts, verdict-byte}
 use Rattle.theory.proofs.Event.{accepted-input, setup-at, clock-at, opens-stamp, opens-queue}
-use Rattle.theory.proofs.World.{Due-call, heardAt}
+use Rattle.theory.proofs.World.{Due-call, heardAt, restAt}
 
 -- general
 or-assoc : (a b c : Bool) → (a || (b || (c || false))) ≡ ((a || b) || c)
@@ -40,6 +41,18 @@ unfolding any
 heard-suc past call e h j =
     rw (take-suc (call .sources) e stale h, any-append (isFrom j) (take e (call .sources)) (getD (call .sources) e stale ∷ []))
     (or-assoc (heardAt past (call .node) j) (any (isFrom j) (take e (call .sources))) (isFrom j (getD (call .sources) e stale)))
+
+-- an entry from call k
+pub from-entry : (k : ℕ) (sources : List Source) → any (isFrom k) sources ≡ true → (e : ℕ) × (getElem? sources e ≡ some (sentBy k))
+unfolding isFrom
+from-entry k sources h =
+    let r = any-mem (isFrom k) sources h in
+    let e = mem-getElem? (r .1) in
+    go (r .0) (e .0) (e .1) (r .2)
+  where
+    go : (o : Source) (e : ℕ) → getElem? sources e ≡ some o → isFrom k o ≡ true → (e : ℕ) × (getElem? sources e ≡ some (sentBy k))
+    go (sentBy j) e at h = (e, rw (eqb-true k j h) at)
+    go stale e at h = absurd (clash h refl)
 
 -- after its last entry
 pub heard-end :
@@ -77,7 +90,7 @@ module _ (s : Setup) (v : ℕ) (node : Node) (call : Call) where
 
   -- what hearing starts from, on the queue
   abbrev pub startHere : Heard
-  startHere = record { queue = openingQueue s (v % s .modulus) (node .holdback); verdicts = [] }
+  startHere = record { queue = restAt s v node; verdicts = [] }
 
   -- what hearing has made of the queue before entry e
   unfoldable pub stateAt : ℕ → Heard

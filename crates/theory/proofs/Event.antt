@@ -1,23 +1,23 @@
 -- One accepted call of a node, by itself: its frame, how it opens, what it leaves.
 -- Assumes nothing.
-use Prim.Native.Nat.{ℕ, _+_, _*_, _%_, _≤_, _<_}
+use Prim.Native.Nat.{ℕ, _+_, _-_, _*_, _%_, _≤_, _<_}
 use native.Mathlib.Omega.{arith}
-use native.Mathlib.Numerals.{add-one}
 use native.Mathlib.Nat.{mod-lt}
 use mathlib.Core.Path.{_≡_, refl, sym, ap, ap₂, subst, _∙_}
 use mathlib.Core.Bool.{true}
-use mathlib.Core.List.{List, []}
+use mathlib.Core.List.{List, [], _++_, map, List·Memᴰ}
 use lib.ListN.{length}
 use borrow.Author.Tests.{eqb-true}
-use Rattle.laws.specs.Lists.{every, overlay}
+use Rattle.laws.specs.Lists.{every, select, overlay}
 use Rattle.laws.proofs.Numbers.{and-right}
+use Rattle.laws.proofs.Sorted.{Sorted}
 use Rattle.model.specs.Setup.{Setup, width}
 use Rattle.model.specs.Timestamp.{Timestamp, trimmed, widened, countOwn}
-use Rattle.model.specs.Frame.{encode, decode}
-use Rattle.model.specs.Order.{readingOf}
+use Rattle.model.specs.Frame.{Frame, encode, decode}
+use Rattle.model.specs.Order.{readingOf, keyNear}
 use Rattle.model.specs.Holdback.{heldBytes, held, passes}
 use Rattle.model.specs.Codec.{frameOf, writeBy}
-use Rattle.model.specs.Tick.{openingStamp, openingQueue, opening, heardStamp, newStamp, sentBytes, keptOf, tick}
+use Rattle.model.specs.Tick.{leastDue, openingStamp, openingQueue, openedQueue, dueBefore, earlyOf, opening, heardOf, heardStamp, newStamp, sentBytes, dueNow, deliveredOf, keptOf, tick}
 use Rattle.model.specs.Run.{Node, Call, Done, inputOf, isAccepted, outputOf, doneOf, nodeAfter, movedClock, sends, messageBytes, messageFrame}
 use Rattle.theory.specs.Demand3.{newTimestamp, written}
 use Rattle.lemmas.proofs.Bounds.{Limits, Sound, FrameOk}
@@ -26,8 +26,8 @@ use Rattle.lemmas.proofs.Counts.{Left, trimmed-widened, trimmed-same}
 use Rattle.lemmas.proofs.RoundTrip.{decode-encode, length-encode}
 use Rattle.lemmas.proofs.Queue.{QueueLeft, bytes-passed, reading-true}
 use Rattle.theory.proofs.Readers.{written-to}
-use Rattle.lemmas.proofs.OneTick.{Accepted, accepted-call, tables-are, sent-is, outgoing-is, new-left, new-sound, own-next, kept-left, kept-held, shelf-sound, sent-bytes}
-use Rattle.theory.proofs.World.{eventFrame, Memory, CallEvent, Due-call}
+use Rattle.lemmas.proofs.OneTick.{Accepted, accepted-call, tables-are, sent-is, outgoing-is, new-left, new-sound, own-next, kept-left, kept-held, shelf-sound, delivered-frames, delivered-sorted, delivered-bytes, sent-bytes}
+use Rattle.theory.proofs.World.{eventFrame, earlyAt, restAt, Memory, CallEvent, Due-call}
 
 pub accepted-input : (node : Node) (call : Call) → isAccepted (outputOf node call) ≡ true → Accepted (inputOf node call)
 unfolding isAccepted outputOf
@@ -43,11 +43,11 @@ clock-at s node call c = c .clock-is
 
 pub done-clock : (s : Setup) (node : Node) (call : Call) {v : ℕ} → Due-call s node call v → doneOf node call .clock ≡ v
 unfolding doneOf movedClock
-done-clock s node call c = rw (c .accepted) (sym (c .turn ∙ add-one (node .clock)))
+done-clock s node call c = rw (c .accepted) (sym (c .turn))
 
-pub after-clock : (s : Setup) (node : Node) (call : Call) {v : ℕ} → Due-call s node call v → nodeAfter node (outputOf node call) .clock ≡ v
+pub after-clock : (s : Setup) (node : Node) (call : Call) {v : ℕ} → Due-call s node call v → nodeAfter node (call .step) (outputOf node call) .clock ≡ v
 unfolding nodeAfter movedClock
-after-clock s node call c = rw (c .accepted) (sym (c .turn ∙ add-one (node .clock)))
+after-clock s node call c = rw (c .accepted) (sym (c .turn))
 
 -- the interface's facts, with the one setup
 pub limits-at : (s : Setup) (node : Node) (call : Call) {v : ℕ} → Due-call s node call v → Limits s
@@ -73,7 +73,7 @@ unfolding newTimestamp doneOf widened
 tables-stamp s node call {v} c =
     let a : outputOf node call .answer .tables ≡ widened (newStamp (inputOf node call)) = tables-made s node call c in
     let b : newStamp (inputOf node call) .r ≡ v % s .modulus = stamp-r s node call c in
-    let e : movedClock (outputOf node call) (node .clock) ≡ v = done-clock s node call c in
+    let e : movedClock (outputOf node call) (call .step) (node .clock) ≡ v = done-clock s node call c in
     rw (e, ← b, a) refl
 
 pub event-stamp : (s : Setup) (node : Node) (call : Call) {v : ℕ} → Due-call s node call v → eventFrame s (doneOf node call) .stamp ≡ newStamp (inputOf node call)
@@ -151,32 +151,55 @@ pub opens-stamp : (s : Setup) (node : Node) (call : Call) {v : ℕ} → Due-call
 unfolding inputOf
 opens-stamp s node call c = rw (c .setup-is, c .clock-is) refl
 
-pub opens-queue : (s : Setup) (node : Node) (call : Call) {v : ℕ} → Due-call s node call v → opening (inputOf node call) ≡ record { queue = openingQueue s (v % s .modulus) (node .holdback); verdicts = [] }
-unfolding inputOf
+pub opens-queue : (s : Setup) (node : Node) (call : Call) {v : ℕ} → Due-call s node call v → opening (inputOf node call) ≡ record { queue = restAt s v node; verdicts = [] }
+unfolding openedQueue inputOf
 opens-queue s node call c = rw (c .setup-is, c .clock-is) refl
 
+-- what it delivers
+pub delivers-frames : (s : Setup) (node : Node) (call : Call) {v : ℕ} → Due-call s node call v → deliveredOf (inputOf node call) ≡ earlyAt s v node ++ select (dueNow s (v % s .modulus)) (heardOf (inputOf node call) .queue)
+unfolding deliveredOf earlyOf openedQueue inputOf
+delivers-frames s node call c =
+    ap₂ (λ (t : Setup) (u : ℕ). select (dueBefore t u) (openingQueue t u (leastDue t u (node .tables)) (node .holdback)) ++ select (dueNow t u) (heardOf (inputOf node call) .queue))
+    (setup-at s node call c) (clock-at s node call c)
+
+pub delivers-ok : (s : Setup) (node : Node) (call : Call) {v : ℕ} → Due-call s node call v → (f : Frame) → List·Memᴰ f (deliveredOf (inputOf node call)) → FrameOk s f
+delivers-ok s node call c f m =
+    subst (λ (t : Setup). FrameOk t f) (setup-at s node call c) (delivered-frames (inputOf node call) (accepted-input node call (c .accepted)) f m)
+
+pub delivers-sorted : (s : Setup) (node : Node) (call : Call) {v : ℕ} → Due-call s node call v → Sorted (keyNear s (v % s .modulus)) (deliveredOf (inputOf node call))
+delivers-sorted s node call c =
+    subst (λ (u : ℕ). Sorted (keyNear s u) (deliveredOf (inputOf node call))) (clock-at s node call c)
+    (subst (λ (t : Setup). Sorted (keyNear t (inputOf node call .clock)) (deliveredOf (inputOf node call))) (setup-at s node call c)
+    (delivered-sorted (inputOf node call) (accepted-input node call (c .accepted))))
+
+pub delivers-bytes : (s : Setup) (node : Node) (call : Call) {v : ℕ} → Due-call s node call v → heldBytes (s .epsilon) (outputOf node call .delivery) ≡ map encode (deliveredOf (inputOf node call))
+unfolding outputOf
+delivers-bytes s node call c =
+    ap (λ (t : Setup). heldBytes (t .epsilon) (tick (inputOf node call) .delivery)) (sym (setup-at s node call c))
+    ∙ delivered-bytes (inputOf node call) (accepted-input node call (c .accepted))
+
 -- what it leaves
-pub leaves-tables : (s : Setup) (node : Node) (call : Call) {v : ℕ} → Due-call s node call v → trimmed (s .epsilon) (nodeAfter node (outputOf node call) .tables) ≡ newStamp (inputOf node call)
+pub leaves-tables : (s : Setup) (node : Node) (call : Call) {v : ℕ} → Due-call s node call v → trimmed (s .epsilon) (nodeAfter node (call .step) (outputOf node call) .tables) ≡ newStamp (inputOf node call)
 unfolding nodeAfter outputOf
 leaves-tables s node call c =
     ap (λ (t : Setup). trimmed (t .epsilon) (tick (inputOf node call) .answer .tables)) (sym (setup-at s node call c))
     ∙ own-next (inputOf node call) (accepted-input node call (c .accepted))
 
-pub leaves-queue : (s : Setup) (node : Node) (call : Call) {v : ℕ} → Due-call s node call v → held (s .epsilon) (nodeAfter node (outputOf node call) .holdback) ≡ keptOf (inputOf node call)
+pub leaves-queue : (s : Setup) (node : Node) (call : Call) {v : ℕ} → Due-call s node call v → held (s .epsilon) (nodeAfter node (call .step) (outputOf node call) .holdback) ≡ keptOf (inputOf node call)
 unfolding nodeAfter outputOf
 leaves-queue s node call c =
     ap (λ (t : Setup). held (t .epsilon) (tick (inputOf node call) .holdback)) (sym (setup-at s node call c))
     ∙ kept-held (inputOf node call) (accepted-input node call (c .accepted))
 
-leaves-passed : (s : Setup) (node : Node) (call : Call) {v : ℕ} → Due-call s node call v → every (passes s) (heldBytes (s .epsilon) (nodeAfter node (outputOf node call) .holdback)) ≡ true
+leaves-passed : (s : Setup) (node : Node) (call : Call) {v : ℕ} → Due-call s node call v → every (passes s) (heldBytes (s .epsilon) (nodeAfter node (call .step) (outputOf node call) .holdback)) ≡ true
 unfolding nodeAfter outputOf
 leaves-passed s node call c =
     subst (λ (t : Setup). every (passes t) (heldBytes (t .epsilon) (tick (inputOf node call) .holdback)) ≡ true) (setup-at s node call c)
-    (bytes-passed (inputOf node call .setup) ((inputOf node call .clock + 1) % inputOf node call .setup .modulus) (tick (inputOf node call) .holdback)
-    (shelf-sound (inputOf node call) (accepted-input node call (c .accepted))))
+    (bytes-passed (inputOf node call .setup) ((inputOf node call .clock + 0) % inputOf node call .setup .modulus) (inputOf node call .setup .modulus + 1 - 0) (tick (inputOf node call) .holdback)
+    (shelf-sound (inputOf node call) 0 (accepted-input node call (c .accepted)) (omega arith)))
 
 -- at its own clock
-pub memory-left : (s : Setup) (node : Node) (call : Call) {v : ℕ} → Due-call s node call v → Memory s (nodeAfter node (outputOf node call))
+pub memory-left : (s : Setup) (node : Node) (call : Call) {v : ℕ} → Due-call s node call v → Memory s (nodeAfter node (call .step) (outputOf node call))
 memory-left s node call {v} c =
     record {
       tables =

@@ -64,7 +64,7 @@ Unreached s nodes v = (w : ℕ) → v + s .epsilon ≤ w → reached (s .epsilon
 
 -- the queue half: the queue is sound, and holds of the followed messages those heard that are not yet due
 pub record QueueLoop (s : Setup) (from : ℕ) (past : List Done) (v : ℕ) (heard : ℕ → Bool) (queue : List Frame) : Type 0 where
-  pub sound : QueueOk s (v % s .modulus) queue
+  pub sound : QueueOk s (v % s .modulus) (s .modulus) queue
   pub members : AllExplained s from past heard v queue
   pub present : AllPresent s from past heard v queue
 
@@ -186,8 +186,8 @@ module _ (s : Setup) (floor from : ℕ) (settles : Settles s floor from) (nodes 
   -- what is asked takes a followed message once, and nothing that would make the queue unsound
   pub record TakesOnce (asking : Asking) : Type 0 where
     pub stays :
-        (queue : List Frame) (bytes : List ℕ) → QueueOk s (v % s .modulus) queue → firstNo (asking queue bytes) ≡ 0
-        → QueueOk s (v % s .modulus) (insertAt (placeFor s (v % s .modulus) queue (decode (s .epsilon) bytes)) (decode (s .epsilon) bytes) queue)
+        (queue : List Frame) (bytes : List ℕ) → QueueOk s (v % s .modulus) (s .modulus) queue → firstNo (asking queue bytes) ≡ 0
+        → QueueOk s (v % s .modulus) (s .modulus) (insertAt (placeFor s (v % s .modulus) queue (decode (s .epsilon) bytes)) (decode (s .epsilon) bytes) queue)
     pub verdict :
         (heard : ℕ → Bool) (queue : List Frame) → QueueLoop s from past v heard queue → (k : ℕ) (m : Done) → Arrival s floor nodes past v k m
         → followed from m ≡ true → firstNo (asking queue (messageBytes m)) ≡ cond (heard k) 16 0
@@ -227,7 +227,7 @@ module _ (s : Setup) (floor from : ℕ) (settles : Settles s floor from) (nodes 
         go false e =
             passed-judged s (v % s .modulus) queue (eventFrame s m) (around .limits)
             (record { frame = a .event .frame; late = arrival-late k m a; early = arrival-early k m a f; counts = arrival-room k m a f; new = arrival-new heard queue (loop .members) k m a f e })
-            (queue-room s (v % s .modulus) queue (around .limits) arrival-below (loop .sound))
+            (queue-room s (v % s .modulus) (s .modulus) queue (around .limits) arrival-below (omega arith) (loop .sound))
 
     pub judged-once : TakesOnce (judgeQuestions s (v % s .modulus))
     judged-once =
@@ -264,7 +264,7 @@ module _ (s : Setup) (floor from : ℕ) (settles : Settles s floor from) (nodes 
     queue-new heard heard′ h bytes f loop e d more back new =
         subst (QueueLoop s from past v heard′) (sym queue-is)
         (record {
-          sound = subst (λ (g : Frame). QueueOk s (v % s .modulus) (insertAt (placeFor s (v % s .modulus) (h .queue) g) g (h .queue))) d (once .stays (h .queue) bytes (loop .sound) e);
+          sound = subst (λ (g : Frame). QueueOk s (v % s .modulus) (s .modulus) (insertAt (placeFor s (v % s .modulus) (h .queue) g) g (h .queue))) d (once .stays (h .queue) bytes (loop .sound) e);
           members = members;
           present = present;
         })

@@ -9,29 +9,30 @@ use mathlib.Core.List.{List, [], _∷_, _++_, List·Memᴰ}
 use mathlib.Core.Option.{some}
 use lib.Dec.{eqb}
 use lib.ListN.{length, getElem?, length-set, length-append}
-use borrow.Author.Tests.{eqb-true, ne-eqb}
+use borrow.Author.Tests.{ne-eqb}
 use Rattle.laws.specs.Lists.{any, select}
-use Rattle.laws.proofs.Numbers.{eq-or-ne, clash, and-right, or-cases, not-of-false}
-use Rattle.laws.proofs.Lists.{any-append, any-mem, mem-getElem?, getElem?-lt, getElem?-append, getElem?-snoc-cases, mem-of-select, mem-select}
+use Rattle.laws.proofs.Numbers.{eq-or-ne, and-right, or-cases, not-of-false}
+use Rattle.laws.proofs.Lists.{any-append, getElem?-lt, getElem?-append, getElem?-snoc-cases, mem-of-select, mem-select}
 use Rattle.model.specs.Setup.{Setup}
 use Rattle.model.specs.Timestamp.{trimmed, Timestamp, sum}
 use Rattle.model.specs.Frame.{Frame}
 use Rattle.model.specs.Order.{readingOf, due, dueNear}
 use Rattle.model.specs.Holdback.{held}
 use Rattle.model.specs.Tick.{heardOf, heardStamp, dueNow, keptOf}
-use Rattle.model.specs.Run.{Node, Source, sentBy, stale, Call, Done, World, inputOf, isAccepted, outputOf, doneOf, nodeAfter, act}
+use Rattle.model.specs.Run.{Node, Call, Done, World, inputOf, isAccepted, outputOf, doneOf, nodeAfter, act}
 use Rattle.theory.specs.Demand3.{heardIn, isFrom}
-use Rattle.theory.proofs.Event.{setup-at, clock-at, done-clock, after-clock, event-stamp, event-made, leaves-tables, leaves-queue, memory-left, event-reads, event-own}
+use Rattle.theory.proofs.Event.{setup-at, clock-at, done-clock, after-clock, event-stamp, event-made, leaves-tables, leaves-queue, memory-left, event-own}
+use Rattle.theory.proofs.Entries.{from-entry}
 use Rattle.theory.proofs.Reach.{reached-grows, reached-gains}
 use Rattle.theory.proofs.Stamps.{bounded-grows, own-bounded}
 use Rattle.theory.proofs.HearLoop.{some-inj, followed-sends}
-use Rattle.theory.proofs.World.{AllWaiting, LeftAt, eventFrame, reached, Bounded, followed, heardAt, Explained, AllExplained, Maker, Settled, Passed-on, NodeOk, Group, Good, Legal, act-is, sends-accepted, nodesAfter, after-at, after-other, after-together}
-use Rattle.theory.proofs.Promises.{Ends}
+use Rattle.theory.proofs.World.{AllWaiting, LeftAt, eventFrame, reached, Bounded, followed, heardAt, Explained, AllExplained, Maker, Settled, Passed-on, NodeOk, Group, Good, Legal, act-is, nodesAfter, after-at, after-other, after-together}
+use Rattle.theory.proofs.Promises.{Ends, waiting-reads}
 
 module _ (s : Setup) (floor from : ℕ) (w : World) (call : Call) (node : Node) (v : ℕ) (good : Good s floor from w) (legal : Legal s floor w call node v) (ends : Ends s floor from w call node v) where
   -- the nodes and calls after it
   abbrev node′ : Node
-  node′ = nodeAfter node (outputOf node call)
+  node′ = nodeAfter node (call .step) (outputOf node call)
 
   abbrev nodes′ : List Node
   nodes′ = nodesAfter (w .nodes) call node
@@ -74,13 +75,6 @@ module _ (s : Setup) (floor from : ℕ) (w : World) (call : Call) (node : Node) 
       }
 
   -- which messages have been heard
-  sent-known : (k : ℕ) (o : Source) (e : ℕ) → getElem? (call .sources) e ≡ some o → isFrom k o ≡ true → k < length (w .past)
-  unfolding isFrom
-  sent-known k (sentBy j) e at h =
-      let r = ends .kept .sent-before e j (unfold doneOf in at) in
-      omega (arith, eqb-true k j h, getElem?-lt (w .past) j (r .1))
-  sent-known k stale e at h = absurd (clash h refl)
-
   heard-known : (i k : ℕ) → heardAt past′ i k ≡ true → k < length (w .past)
   unfolding heardAt any heardIn doneOf
   heard-known i k h =
@@ -90,9 +84,8 @@ module _ (s : Setup) (floor from : ℕ) (w : World) (call : Call) (node : Node) 
             let a : any (isFrom k) (call .sources) ≡ true =
             and-right (eqb (call .node) i) (any (isFrom k) (call .sources))
             (and-right (isAccepted (outputOf node call)) (eqb (call .node) i && any (isFrom k) (call .sources)) (sym (or-false (heardIn i k (doneOf node call))) ∙ q)) in
-            let r = any-mem (isFrom k) (call .sources) a in
-            let e = mem-getElem? (r .1) in
-            sent-known k (r .0) (e .0) (e .1) (r .2)
+            let e = from-entry k (call .sources) a in
+            getElem?-lt (w .past) k (ends .kept .sent-before (e .0) k (unfold doneOf in (e .1)) .1)
       ]
 
   heard-other : (j k : ℕ) → (call .node ≡ j → ⊥) → heardAt past′ j k ≡ heardAt (w .past) j k
@@ -115,7 +108,7 @@ module _ (s : Setup) (floor from : ℕ) (w : World) (call : Call) (node : Node) 
 
   -- it has reached v, one node more
   gains : reached (s .epsilon) nodes′ (v + s .epsilon) ≡ suc (reached (s .epsilon) (w .nodes) (v + s .epsilon))
-  gains = reached-gains (s .epsilon) (w .nodes) v (call .node) node node′ (legal .at) (omega (arith, legal .called .turn)) (omega (arith, clock′))
+  gains = reached-gains (s .epsilon) (w .nodes) v (call .node) node node′ (legal .at) (omega (arith, legal .called .turn, legal .called .step-pos)) (omega (arith, clock′))
 
   -- the new counts
   bounded′ : Bounded s floor nodes′ v (eventFrame s (doneOf node call) .stamp .kn)
@@ -233,22 +226,13 @@ module _ (s : Setup) (floor from : ℕ) (w : World) (call : Call) (node : Node) 
       let r = mem-of-select (λ g. not (dueNow s (v % s .modulus) g)) (heardOf (inputOf node call) .queue) (subst (λ (q : List Frame). List·Memᴰ f q) queue-here mem) in
       explained-on v (call .node) (heardAt past′ (call .node)) f (λ k h. h) (ends .queue .members f (r .0))
 
-  -- a followed message that is not yet due reads at its true clock
-  reads : (k : ℕ) (m : Done) → getElem? (w .past) k ≡ some m → followed from m ≡ true → v ≤ due s (m .clock) (eventFrame s m .stamp .c)
-      → readingOf s (v % s .modulus) (eventFrame s m) + v ≡ s .modulus + m .clock
-  unfolding due sum
-  reads k m at fol un =
-      let st = good .calls k m at (sends-accepted m (followed-sends from m fol)) in
-      event-reads s v m (ends .limits) (st .event)
-      (omega (arith, st .maker .clock-is, legal .called .turn, good .group .together (m .node) (call .node) (st .maker .node) node (st .maker .at) (legal .at)))
-      (omega (arith, un, st .event .frame .sound .close, ends .limits .modulus-least))
-
+  -- a followed message that is due later is not delivered
   not-due : (k : ℕ) (m : Done) → getElem? (w .past) k ≡ some m → followed from m ≡ true → v < due s (m .clock) (eventFrame s m .stamp .c)
       → dueNow s (v % s .modulus) (eventFrame s m) ≡ false
   unfolding dueNow dueNear due sum
   not-due k m at fol un =
       ne-eqb (readingOf s (v % s .modulus) (eventFrame s m) + eventFrame s m .stamp .c + s .delta + s .epsilon) (s .modulus)
-      (λ e. omega (arith, reads k m at fol (omega (arith, un))))
+      (λ e. omega (arith, un, waiting-reads s floor from w call node v good legal k m at (followed-sends from m fol) (omega (arith, un, legal .called .turn, legal .called .step-pos))))
 
   waiting′ : AllWaiting s from past′ (heardAt past′ (call .node)) v (held (s .epsilon) (node′ .holdback))
   waiting′ k m at fol hd un =

@@ -23,4 +23,5 @@ pub mod PublishedRun
 pub mod PublishedCall
 pub mod PublishedStart
 pub mod Demand2
+pub mod OneProgram
 pub mod Demand3

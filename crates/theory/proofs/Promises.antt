@@ -3,40 +3,43 @@
 use Prim.Native.Nat.{ℕ, zero, suc, _+_, _-_, _%_, _≤_, _<_, Ordering·lt}
 use native.Mathlib.Omega.{arith}
 use native.Mathlib.Nat.{zero-add, add-zero, suc-add}
-use mathlib.Core.Path.{_≡_, sym, ap, ap₂, subst, _∙_}
-use mathlib.Core.Logic.{inl, inr}
-use mathlib.Core.Bool.{true, false, _||_, cond, or-false}
-use mathlib.Core.List.{List, [], _∷_, _++_, map}
+use mathlib.Core.Path.{_≡_, sym, ap, subst, _∙_}
+use mathlib.Core.Logic.{_⊎_, inl, inr}
+use mathlib.Core.Bool.{true, false, _||_, not, cond, or-false}
+use mathlib.Core.List.{List, [], _∷_, _++_, map, List·Memᴰ, List·Memᴰ·append-cases, Memᴰ·append-left, Memᴰ·append-right}
 use mathlib.Core.Option.{Option, some}
 use lib.ListN.{length, take, getD, getElem?}
+use lib.Seq.{take-all}
+use borrow.Author.Tests.{lt-ltb, le-ltb, ltb-true, eq-eqb, eqb-true}
 use Rattle.laws.specs.Lists.{any, select, sortBy, placedAt}
 use Rattle.laws.specs.Lex.{lexCompare}
-use Rattle.laws.proofs.Numbers.{eq-or-ne, or-left}
-use Rattle.laws.proofs.Lists.{getElem?-in, getElem?-lt, getElem?-getD}
+use Rattle.laws.proofs.Numbers.{eq-or-ne, lt-or-ge, or-left, or-cases, not-of-false}
+use Rattle.laws.proofs.Lists.{getElem?-in, getElem?-lt, getElem?-getD, mem-select, mem-of-select}
+use Rattle.laws.proofs.Sorted.{Sorted}
 use Rattle.laws.proofs.Lex.{lex-trans}
 use Rattle.model.specs.Setup.{Setup, width}
-use Rattle.model.specs.Timestamp.{Timestamp}
+use Rattle.model.specs.Timestamp.{Timestamp, sum}
 use Rattle.model.specs.Frame.{Frame, encode}
-use Rattle.model.specs.Order.{key}
+use Rattle.model.specs.Order.{readingOf, key, keyNear, due, dueNear}
 use Rattle.model.specs.Holdback.{heldBytes}
 use Rattle.model.specs.Batch.{batchEntries}
 use Rattle.model.specs.Judge.{Heard, hear, judgeQuestions, absorbAll}
-use Rattle.model.specs.Tick.{heardOf, heardStamp, dueNow, deliveredOf, tick, openingQueue, openingStamp}
+use Rattle.model.specs.Tick.{leastDue, heardOf, heardStamp, dueBefore, dueNow, openingStamp}
 use Rattle.model.specs.Run.{Node, Source, sentBy, stale, Call, Done, World, inputOf, isAccepted, outputOf, doneOf, nodeAfter, act, sends, messageBytes}
 use Rattle.theory.specs.Premises.{clockAt}
 use Rattle.theory.specs.Demand3.{isFrom, earlier}
-use Rattle.lemmas.proofs.Bounds.{Limits, Sound}
-use Rattle.lemmas.proofs.Queue.{opening-queue}
+use Rattle.lemmas.proofs.Bounds.{Limits, Sound, QueueOk}
+use Rattle.lemmas.proofs.Queue.{opening-queue, queue-rest}
 use Rattle.theory.proofs.Cause.{cause-first}
-use Rattle.lemmas.proofs.OneTick.{opening-stamp, delivered-bytes}
-use Rattle.theory.proofs.Event.{accepted-input, setup-at, clock-at, done-clock, after-clock, event-made, event-own}
+use Rattle.lemmas.proofs.OneTick.{opening-stamp}
+use Rattle.theory.proofs.Event.{done-clock, after-clock, event-made, event-own, event-reads, delivers-frames, delivers-ok, delivers-sorted, delivers-bytes}
 use Rattle.theory.proofs.Reach.{reached-some, reached-not-all}
 use Rattle.theory.proofs.Stamps.{own-under, own-strict}
-use Rattle.theory.proofs.HearLoop.{Settles, Arrival, Entry, Around, Unreached, QueueLoop, StampLoop, loop-verdict, judged-once, queue-one, stamp-takes, stamp-one, some-inj}
-use Rattle.theory.proofs.Delivery.{delivery}
-use Rattle.theory.proofs.World.{eventFrame, eventKey, Under, followed, heardAt, explained-more, Settled, Passed-on, Good, Legal, SentEntry, Kept, dueFollowed, followedFrame, act-is, sends-accepted, nodesAfter, after-at, after-other, after-together, Opens}
+use Rattle.theory.proofs.HearLoop.{Settles, Arrival, Entry, Around, Unreached, QueueLoop, StampLoop, loop-verdict, judged-once, queue-one, stamp-takes, stamp-one, arrival-undue, followed-sends, some-inj}
+use Rattle.theory.proofs.Delivery.{Delivers, delivery}
+use Rattle.theory.proofs.World.{eventFrame, openedAt, earlyAt, eventKey, Under, followed, heardAt, explained-more, Settled, Passed-on, Good, Legal, SentEntry, Kept, dueFollowed, followedFrame, act-is, sends-accepted, nodesAfter, after-at, after-other, after-together, Opens}
 use Rattle.theory.proofs.Opening.{node-opens}
-use Rattle.theory.proofs.Entries.{heardTo, stateAt, stampAt, state-suc, stamp-suc, state-end, stamp-end, heard-suc, state-verdict, heard-end}
+use Rattle.theory.proofs.Entries.{heardTo, stateAt, stampAt, state-suc, stamp-suc, state-end, stamp-end, heard-suc, state-verdict, from-entry, heard-end}
 
 -- what an accepted call for v has come to: the two halves after its last entry, and its promises
 pub record Ends (s : Setup) (floor from : ℕ) (w : World) (call : Call) (node : Node) (v : ℕ) : Type 0 where
@@ -44,6 +47,19 @@ pub record Ends (s : Setup) (floor from : ℕ) (w : World) (call : Call) (node :
   pub queue : QueueLoop s from (w .past) v (heardAt (w .past ++ (doneOf node call ∷ [])) (call .node)) (heardOf (inputOf node call) .queue)
   pub stamp : StampLoop s floor (w .nodes) v (openingStamp s (v % s .modulus) (node .tables)) (heardStamp (inputOf node call))
   pub kept : Kept s from (w .past) (doneOf node call)
+
+-- a message that is due past the clock before the call reads at its true clock
+pub waiting-reads :
+    (s : Setup) (floor from : ℕ) (w : World) (call : Call) (node : Node) (v : ℕ) → Good s floor from w → Legal s floor w call node v
+    → (k : ℕ) (m : Done) → getElem? (w .past) k ≡ some m → sends m ≡ true → node .clock < due s (m .clock) (eventFrame s m .stamp .c)
+    → readingOf s (v % s .modulus) (eventFrame s m) + v ≡ s .modulus + m .clock
+unfolding due sum
+waiting-reads s floor from w call node v good legal k m at sent un =
+    let st = good .calls k m at (sends-accepted m sent) in
+    let limits = good .group .limits (call .node) node (legal .at) in
+    event-reads s v m limits (st .event)
+    (omega (arith, st .maker .clock-is, legal .called .turn, legal .called .step-pos, good .group .together (m .node) (call .node) (st .maker .node) node (st .maker .at) (legal .at)))
+    (omega (arith, un, legal .called .turn, legal .called .step-few, st .event .frame .sound .close, limits .modulus-least))
 
 module _ (s : Setup) (floor from : ℕ) (settles : Settles s floor from) (w : World) (call : Call) (node : Node) (v : ℕ) (good : Good s floor from w) (legal : Legal s floor w call node v) where
   -- whom it meets
@@ -53,13 +69,13 @@ module _ (s : Setup) (floor from : ℕ) (settles : Settles s floor from) (w : Wo
         limits = good .group .limits (call .node) node (legal .at);
         none-ahead = λ u h.
             let r = reached-some (s .epsilon) (w .nodes) u h in
-            omega (arith, r .3, legal .called .turn, good .group .together (r .0) (call .node) (r .1) node (r .2) (legal .at));
+            omega (arith, r .3, legal .called .turn, legal .called .step-pos, good .group .together (r .0) (call .node) (r .1) node (r .2) (legal .at));
         unique = λ k l a b p q x y.
             good .unique k l a b p q (sends-accepted a x) (sends-accepted b y);
       }
 
   pub unreached : Unreached s (w .nodes) v
-  unreached u h = omega (arith, reached-not-all (s .epsilon) (w .nodes) u (call .node) node (legal .at) (omega (arith, legal .called .turn)), good .group .few)
+  unreached u h = omega (arith, reached-not-all (s .epsilon) (w .nodes) u (call .node) node (legal .at) (omega (arith, legal .called .turn, legal .called .step-pos)), good .group .few)
 
   pub entry-at :
       (e : ℕ) (bytes : List ℕ) (o : Source) → getElem? (batchEntries (call .batch)) e ≡ some bytes → getElem? (call .sources) e ≡ some o
@@ -81,12 +97,12 @@ module _ (s : Setup) (floor from : ℕ) (settles : Settles s floor from) (w : Wo
 
       late-by : (b : Node) → getElem? (nodesAfter (w .nodes) call node) (m .node) ≡ some b → v ≤ m .clock + s .delta + s .epsilon
       late-by b b-at =
-          omega (arith, after-together s floor w call node v legal (call .node) (m .node) (nodeAfter node (outputOf node call)) b (after-at (w .nodes) call node (legal .at)) b-at, subst (λ (o : Option Node). clockAt o ≤ m .clock + s .delta) b-at near-by, after-clock s node call (legal .called))
+          omega (arith, after-together s floor w call node v legal (call .node) (m .node) (nodeAfter node (call .step) (outputOf node call)) b (after-at (w .nodes) call node (legal .at)) b-at, subst (λ (o : Option Node). clockAt o ≤ m .clock + s .delta) b-at near-by, after-clock s node call (legal .called))
 
       late : v ≤ m .clock + s .delta + s .epsilon
       late =
           elim (eq-or-ne (call .node) (m .node)) [
-            | inl q ↦ late-by (nodeAfter node (outputOf node call)) (subst (λ (j : ℕ). getElem? (nodesAfter (w .nodes) call node) j ≡ some (nodeAfter node (outputOf node call))) q (after-at (w .nodes) call node (legal .at)))
+            | inl q ↦ late-by (nodeAfter node (call .step) (outputOf node call)) (subst (λ (j : ℕ). getElem? (nodesAfter (w .nodes) call node) j ≡ some (nodeAfter node (call .step) (outputOf node call))) q (after-at (w .nodes) call node (legal .at)))
             | inr q ↦ late-by (settled .maker .node) (after-other (w .nodes) call node (m .node) q ∙ settled .maker .at)
           ]
 
@@ -97,7 +113,7 @@ module _ (s : Setup) (floor from : ℕ) (settles : Settles s floor from) (w : Wo
             sent = entry .sent;
             event = settled .event;
             bounded = settled .bounded;
-            not-ahead = omega (arith, settled .maker .clock-is, legal .called .turn, good .group .together (m .node) (call .node) (settled .maker .node) node (settled .maker .at) (legal .at));
+            not-ahead = omega (arith, settled .maker .clock-is, legal .called .turn, legal .called .step-pos, good .group .together (m .node) (call .node) (settled .maker .node) node (settled .maker .at) (legal .at));
             not-late = late;
           }
 
@@ -134,16 +150,34 @@ module _ (s : Setup) (floor from : ℕ) (settles : Settles s floor from) (w : Wo
   stamp-on opening e (suc n) h loop = rw suc-add (stamp-next opening (n + e) (omega arith) (stamp-on opening e n (omega arith) loop))
 
   -- what it starts from
-  starts : Opens s floor from w (call .node) v (openingStamp s (v % s .modulus) (node .tables)) (openingQueue s (v % s .modulus) (node .holdback))
-  starts = node-opens s floor from w (call .node) node v (around .limits) (settles .0) (good .node (call .node) node (legal .at)) (legal .called .turn)
+  starts : Opens s floor from w (call .node) (node .clock) v (openingStamp s (v % s .modulus) (node .tables)) (openedAt s v node)
+  starts =
+      node-opens s floor from w (call .node) node v (call .step) (around .limits) (settles .0) (good .node (call .node) node (legal .at))
+      (legal .called .turn) (legal .called .step-pos) (legal .called .step-few)
+
+  opened-sound : QueueOk s (v % s .modulus) (leastDue s (v % s .modulus) (node .tables)) (openedAt s v node)
+  opened-sound = opening-queue s (v % s .modulus) (leastDue s (v % s .modulus) (node .tables)) (node .holdback) (around .limits)
+
+  -- a followed message's due clock, as the node reads it
+  due-reads :
+      (k : ℕ) (m : Done) → getElem? (w .past) k ≡ some m → followed from m ≡ true → node .clock < due s (m .clock) (eventFrame s m .stamp .c)
+      → dueNear s (v % s .modulus) (eventFrame s m) + v ≡ s .modulus + due s (m .clock) (eventFrame s m .stamp .c)
+  unfolding dueNear due sum
+  due-reads k m at fol un = omega (arith, waiting-reads s floor from w call node v good legal k m at (followed-sends from m fol) un)
 
   queue-start : QueueAt 0
-  unfolding stateAt hear any
+  unfolding stateAt hear any dueBefore
   queue-start =
       record {
-        sound = opening-queue s (v % s .modulus) (node .holdback) (around .limits);
-        members = λ f mem. explained-more s from (w .past) (heardAt (w .past) (call .node)) (heardTo (w .past) call 0) v f (λ j h. or-left false h) (starts .members f mem);
-        present = λ k m at fol hd un. starts .present k m at fol (sym (or-false (heardAt (w .past) (call .node) k)) ∙ hd) un;
+        sound = queue-rest s (v % s .modulus) (leastDue s (v % s .modulus) (node .tables)) (openedAt s v node) opened-sound;
+        members = λ f mem.
+            explained-more s from (w .past) (heardAt (w .past) (call .node)) (heardTo (w .past) call 0) v f (λ j h. or-left false h)
+            (starts .members f (mem-of-select (λ g. not (dueBefore s (v % s .modulus) g)) (openedAt s v node) mem .0));
+        present = λ k m at fol hd un.
+            let un′ : node .clock < due s (m .clock) (eventFrame s m .stamp .c) = omega (arith, un, legal .called .turn, legal .called .step-pos) in
+            mem-select (λ g. not (dueBefore s (v % s .modulus) g))
+            (starts .waiting k m at fol (sym (or-false (heardAt (w .past) (call .node) k)) ∙ hd) un′)
+            (not-of-false (le-ltb (dueNear s (v % s .modulus) (eventFrame s m)) (s .modulus) (omega (arith, due-reads k m at fol un′, un))));
       }
 
   stamp-start : StampAt (openingStamp s (v % s .modulus) (node .tables)) 0
@@ -165,6 +199,9 @@ module _ (s : Setup) (floor from : ℕ) (settles : Settles s floor from) (w : Wo
   abbrev many : ℕ
   many = length (batchEntries (call .batch))
 
+  heard-all : (k : ℕ) → heardTo (w .past) call many k ≡ heardAt (w .past ++ (doneOf node call ∷ [])) (call .node) k
+  heard-all = heard-end (w .past) node call (legal .called .accepted) many (omega (arith, legal .lengths))
+
   -- after the last entry
   queue-end :
       QueueLoop s from (w .past) v (heardAt (w .past ++ (doneOf node call ∷ [])) (call .node)) (heardOf (inputOf node call) .queue)
@@ -172,15 +209,12 @@ module _ (s : Setup) (floor from : ℕ) (settles : Settles s floor from) (w : Wo
       subst (λ (h : Heard). QueueLoop s from (w .past) v (heardAt (w .past ++ (doneOf node call ∷ [])) (call .node)) (h .queue)) (sym (state-end s v node call (legal .called)))
       (record {
         sound = all .sound;
-        members = λ f mem. explained-more s from (w .past) (heardTo (w .past) call many) (heardAt (w .past ++ (doneOf node call ∷ [])) (call .node)) v f (λ j h. sym (same j) ∙ h) (all .members f mem);
-        present = λ k m at fol hd un. all .present k m at fol (same k ∙ hd) un;
+        members = λ f mem. explained-more s from (w .past) (heardTo (w .past) call many) (heardAt (w .past ++ (doneOf node call ∷ [])) (call .node)) v f (λ j h. sym (heard-all j) ∙ h) (all .members f mem);
+        present = λ k m at fol hd un. all .present k m at fol (heard-all k ∙ hd) un;
       })
     where
       all : QueueAt many
       all = queue-at many (omega arith)
-
-      same : (k : ℕ) → heardTo (w .past) call many k ≡ heardAt (w .past ++ (doneOf node call ∷ [])) (call .node) k
-      same = heard-end (w .past) node call (legal .called .accepted) many (omega (arith, legal .lengths))
 
   stamps-end : (opening : Timestamp) → StampAt opening many → StampLoop s floor (w .nodes) v opening (heardStamp (inputOf node call))
   stamps-end opening loop = subst (StampLoop s floor (w .nodes) v opening) (sym (stamp-end s v node call (legal .called))) loop
@@ -229,6 +263,19 @@ module _ (s : Setup) (floor from : ℕ) (settles : Settles s floor from) (w : Wo
       subst (λ (x : Done). Arrival s floor (w .nodes) (w .past) v k x × (getElem? (batchEntries (call .batch)) e ≡ some (messageBytes x))) q
       (r .3, r .1 ∙ ap some (r .4))
 
+  -- a message that is due before v was heard before this call
+  heard-before :
+      (k : ℕ) (m : Done) → getElem? (w .past) k ≡ some m → due s (m .clock) (eventFrame s m .stamp .c) < v
+      → heardAt (w .past ++ (doneOf node call ∷ [])) (call .node) k ≡ true → heardAt (w .past) (call .node) k ≡ true
+  heard-before k m at before hd =
+      elim (or-cases (heardAt (w .past) (call .node) k) (any (isFrom k) (take many (call .sources))) (heard-all k ∙ hd)) [
+        | inl q ↦ q
+        | inr q ↦
+            let r = from-entry k (call .sources) (rw (take-all many (call .sources) (omega (arith, legal .lengths))) at q) in
+            let a = arrival-of (r .0) k m (r .1) at .0 in
+            absurd (omega (arith, arrival-undue s floor from settles (w .nodes) (w .past) v around k m a, before))
+      ]
+
   hears :
       (e k : ℕ) (m : Done) → getElem? (call .sources) e ≡ some (sentBy k) → getElem? (w .past) k ≡ some m → followed from m ≡ true
       → getD (outputOf node call .verdicts) e 0 ≡ cond (heardAt (w .past) (call .node) k || any (isFrom k) (take e (call .sources))) 16 0
@@ -238,28 +285,71 @@ module _ (s : Setup) (floor from : ℕ) (settles : Settles s floor from) (w : Wo
       ∙ loop-verdict s floor from settles (w .nodes) (w .past) v around unreached (heardTo (w .past) call e) (stateAt s v node call e .queue)
       (queue-at e (omega (arith, getElem?-lt (batchEntries (call .batch)) e (r .1)))) k m (r .0) fol
 
-  held-here : heldBytes (s .epsilon) (outputOf node call .delivery) ≡ map encode (select (dueNow s (v % s .modulus)) (heardOf (inputOf node call) .queue))
-  unfolding outputOf deliveredOf
-  held-here =
-      ap (λ (t : Setup). heldBytes (t .epsilon) (tick (inputOf node call) .delivery)) (sym (setup-at s node call (legal .called)))
-      ∙ (delivered-bytes (inputOf node call) (accepted-input node call (legal .called .accepted))
-      ∙ ap₂ (λ (t : Setup) (u : ℕ). map encode (select (dueNow t u) (heardOf (inputOf node call) .queue))) (setup-at s node call (legal .called)) (clock-at s node call (legal .called)))
+  -- what of the followed messages heard here has come due since the clock before this call
+  came-due :
+      Delivers s from (w .past) (heardAt (w .past ++ (doneOf node call ∷ [])) (call .node)) (node .clock) v
+      (earlyAt s v node ++ select (dueNow s (v % s .modulus)) (heardOf (inputOf node call) .queue))
+  unfolding dueNow dueBefore
+  came-due =
+      record {
+        ok = λ f m. delivers-ok s node call (legal .called) f (subst (λ (l : List Frame). List·Memᴰ f l) (sym (delivers-frames s node call (legal .called))) m);
+        sorted = subst (Sorted (keyNear s (v % s .modulus))) (delivers-frames s node call (legal .called)) (delivers-sorted s node call (legal .called));
+        members = λ f m.
+            elim (split f m) [
+              | inl q ↦
+                  explained-more s from (w .past) (heardAt (w .past) (call .node)) (heardAt (w .past ++ (doneOf node call ∷ [])) (call .node)) v f
+                  (λ j h. sym (heard-all j) ∙ or-left (any (isFrom j) (take many (call .sources))) h) (starts .members f (q .0))
+              | inr q ↦ queue-end .members f (q .0)
+            ];
+        not-before = λ f m fol.
+            elim (split f m) [
+              | inl q ↦ starts .later f (q .0) fol
+              | inr q ↦ omega (arith, eqb-true (dueNear s (v % s .modulus) f) (s .modulus) (q .1), legal .called .turn, legal .called .step-pos)
+            ];
+        not-past = λ f m.
+            elim (split f m) [
+              | inl q ↦ omega (arith, ltb-true (dueNear s (v % s .modulus) f) (s .modulus) (q .1))
+              | inr q ↦ omega (arith, eqb-true (dueNear s (v % s .modulus) f) (s .modulus) (q .1))
+            ];
+        all = λ k m at fol hd lo hi.
+            elim (lt-or-ge (due s (m .clock) (eventFrame s m .stamp .c)) v) [
+              | inl q ↦
+                  Memᴰ·append-left (select (dueNow s (v % s .modulus)) (heardOf (inputOf node call) .queue))
+                  (mem-select (dueBefore s (v % s .modulus)) (starts .waiting k m at fol (heard-before k m at q hd) lo)
+                  (lt-ltb (dueNear s (v % s .modulus) (eventFrame s m)) (s .modulus) (omega (arith, due-reads k m at fol lo))))
+              | inr q ↦
+                  Memᴰ·append-right (earlyAt s v node)
+                  (mem-select (dueNow s (v % s .modulus)) (queue-end .present k m at fol hd q)
+                  (eq-eqb (dueNear s (v % s .modulus) (eventFrame s m)) (s .modulus) (omega (arith, due-reads k m at fol lo))))
+            ];
+      }
+    where
+      split :
+          (f : Frame) → List·Memᴰ f (earlyAt s v node ++ select (dueNow s (v % s .modulus)) (heardOf (inputOf node call) .queue))
+          → (List·Memᴰ f (openedAt s v node) × (dueBefore s (v % s .modulus) f ≡ true))
+          ⊎ (List·Memᴰ f (heardOf (inputOf node call) .queue) × (dueNow s (v % s .modulus) f ≡ true))
+      split f m =
+          elim (List·Memᴰ·append-cases (earlyAt s v node) m) [
+            | inl q ↦ inl (mem-of-select (dueBefore s (v % s .modulus)) (openedAt s v node) q)
+            | inr q ↦ inr (mem-of-select (dueNow s (v % s .modulus)) (heardOf (inputOf node call) .queue) q)
+          ]
 
   delivers-here :
       select (followedFrame s from v) (heldBytes (s .epsilon) (outputOf node call .delivery))
-      ≡ map messageBytes (sortBy (earlier s) (dueFollowed s from (w .past ++ (doneOf node call ∷ [])) (call .node) v))
+      ≡ map messageBytes (sortBy (earlier s) (dueFollowed s from (w .past ++ (doneOf node call ∷ [])) (call .node) (node .clock) v))
   delivers-here =
-      ap (select (followedFrame s from v)) held-here
-      ∙ delivery s from v (call .node) (w .past) (doneOf node call) (heardOf (inputOf node call) .queue) (around .limits)
-      (queue-end .sound) (λ k m at acc. good .calls k m at acc .event) (good .unique) (done-clock s node call (legal .called))
-      (queue-end .members) (queue-end .present)
+      ap (select (followedFrame s from v)) (delivers-bytes s node call (legal .called) ∙ ap (map encode) (delivers-frames s node call (legal .called)))
+      ∙ delivery s from (node .clock) v (call .node) (w .past) (doneOf node call)
+      (earlyAt s v node ++ select (dueNow s (v % s .modulus)) (heardOf (inputOf node call) .queue)) (around .limits)
+      (omega (arith, legal .called .turn, legal .called .step-few)) (λ k m at acc. good .calls k m at acc .event) (good .unique)
+      (done-clock s node call (legal .called)) came-due
 
   delivers :
       select (followedFrame s from (doneOf node call .clock)) (heldBytes (s .epsilon) (doneOf node call .output .delivery))
-      ≡ map messageBytes (sortBy (earlier s) (dueFollowed s from (w .past ++ (doneOf node call ∷ [])) (doneOf node call .node) (doneOf node call .clock)))
+      ≡ map messageBytes (sortBy (earlier s) (dueFollowed s from (w .past ++ (doneOf node call ∷ [])) (doneOf node call .node) (doneOf node call .last) (doneOf node call .clock)))
   delivers =
       subst (λ (u : ℕ). select (followedFrame s from u) (heldBytes (s .epsilon) (doneOf node call .output .delivery))
-      ≡ map messageBytes (sortBy (earlier s) (dueFollowed s from (w .past ++ (doneOf node call ∷ [])) (doneOf node call .node) u)))
+      ≡ map messageBytes (sortBy (earlier s) (dueFollowed s from (w .past ++ (doneOf node call ∷ [])) (doneOf node call .node) (doneOf node call .last) u)))
       (sym (done-clock s node call (legal .called))) (unfold doneOf in delivers-here)
 
   comes-later :

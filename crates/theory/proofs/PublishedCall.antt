@@ -1,6 +1,6 @@
 -- One accepted call: what the tick makes of its node is what the published program makes of its process.
 -- Assumes nothing.
-use Prim.Native.Nat.{ℕ, _+_, _%_, _<_}
+use Prim.Native.Nat.{ℕ, _+_, _%_, _≤_, _<_}
 use native.Mathlib.Omega.{arith}
 use native.Mathlib.Nat.{zero-add}
 use mathlib.Core.Path.{_≡_, refl, sym, ap, ap₂, subst, _∙_}
@@ -9,13 +9,13 @@ use mathlib.Core.Bool.{Bool, true, _||_, not, cond, or-false}
 use mathlib.Core.List.{List, [], _∷_, _++_, map}
 use mathlib.Core.List.{List·Memᴰ, List·Memᴰ·append-cases, Memᴰ·append-left, Memᴰ·append-right}
 use mathlib.Core.Option.{Option, some}
-use lib.Dec.{eqb}
+use lib.Dec.{leb, ltb}
 use lib.ListN.{length, getElem?, length-map}
-use borrow.Author.Tests.{eqb-false, eq-eqb}
+use borrow.Author.Tests.{leb-false, eq-eqb}
 use Rattle.laws.specs.Lists.{any, select, apart, overlay, chained}
-use Rattle.laws.proofs.Numbers.{lt-or-ge, clash, true-or-false, or-left, or-right, or-cases, false-of-no, false-of-not}
+use Rattle.laws.proofs.Numbers.{clash, true-or-false, or-left, or-right, or-cases, false-of-no, false-of-not}
 use Rattle.laws.proofs.Lists.{getElem?-lt, getElem?-append, getElem?-snoc-cases, mem-of-map, mem-of-select}
-use Rattle.laws.proofs.Sorted.{lessBy, Sorted, sorted-of-chained, apart-append, apart-select}
+use Rattle.laws.proofs.Sorted.{lessBy, Sorted, sorted-of-chained, sorted-select, apart-append, apart-select}
 use Rattle.model.specs.Setup.{Setup}
 use Rattle.model.specs.Timestamp.{Timestamp, step, countOwn, trimmed, widened}
 use Rattle.model.specs.Frame.{Frame, encode}
@@ -24,22 +24,22 @@ use Rattle.model.specs.Codec.{frameOf}
 use Rattle.model.specs.Batch.{batchEntries}
 use Rattle.model.specs.Holdback.{encodeFrames, encodeHoldback}
 use Rattle.model.specs.Judge.{Heard, hear, absorbAll}
-use Rattle.model.specs.Tick.{Output, holdbackSize, openingStamp, openingQueue, repairOf, heardOf, newStamp, sentBytes, dueNow, deliveredOf, keptOf, takenCount, acceptance}
-use Rattle.model.specs.Published.{Event, Message, Process, known, rank, sameMessage, newOnes, nextEvent, eventOf, deliverable, inOrder, buffered, deliveredAt, advanced, messageOf}
+use Rattle.model.specs.Tick.{Output, holdbackSize, openingStamp, repairOf, heardOf, newStamp, sentBytes, dueBefore, dueNow, deliveredOf, keptOf, takenCount, acceptance}
+use Rattle.model.specs.Published.{Event, Message, Process, known, rank, sameMessage, newOnes, nextEvent, eventOf, deliverableBy, inOrder, buffered, deliveredAt, advanced, messageOf}
 use Rattle.model.specs.Run.{Node, Call, Done, World, inputOf, outputOf, doneOf, nodeAfter}
 use Rattle.theory.specs.Demand2.{reduced, reducedFrame, messagesHeard, verdictsOn, outcomeOf, SameAs}
 use Rattle.theory.specs.Demand3.{isFrom, heardIn}
 use Rattle.lemmas.proofs.Counts.{trimmed-same}
 use Rattle.lemmas.proofs.Bounds.{Limits, Sound}
 use Rattle.lemmas.proofs.OneTick.{numbersOf, hearing-end, tables-are, holdback-is, delivery-is, outgoing-is, sent-is, verdicts-are}
-use Rattle.theory.proofs.World.{Memory, NodeOk, eventFrame, heardAt, Good, Legal}
-use Rattle.theory.proofs.Event.{accepted-input, setup-at, clock-at, done-clock, after-clock, sound-at, leaves-tables, leaves-queue}
+use Rattle.theory.proofs.World.{openedAt, restAt, Memory, NodeOk, eventFrame, heardAt, Good, Legal}
+use Rattle.theory.proofs.Event.{accepted-input, setup-at, clock-at, done-clock, after-clock, sound-at, delivers-frames, delivers-sorted, leaves-tables, leaves-queue}
 use Rattle.theory.proofs.Event as event
 use Rattle.theory.proofs.Opening.{opens-tables, opens-shelf, opens-calm}
 use Rattle.theory.proofs.Entries.{heardTo, startHere, stateAt, heard-all, absorbed-all}
 use Rattle.theory.proofs.Promises.{around, unreached, entry-at, queue-at}
 use Rattle.theory.proofs.PublishedEvent.{ReadsTrue, absorbEvents, event-stamp, event-wide, Knows, knows-refl, knows-trans, next-knows, next-more}
-use Rattle.theory.proofs.PublishedQueue.{SameMembers, delivered-same, kept-members, kept-same, rank-before}
+use Rattle.theory.proofs.PublishedQueue.{messageDue, before-same, SameMembers, members-select, delivered-members, kept-members, order-same, rank-before}
 use Rattle.theory.proofs.PublishedHear.{SeenIs, News, same-self, news-stamp, news-queue, news-taken, news-from, news-all, news-sent, news-apart, news-verdicts}
 use Rattle.theory.proofs.PublishedRun.{SentAs, RankedSent, Waits, Twin, heard-snoc, grown-at, settles-fresh, waits-reads, waits-next, told, one-rank, copied-ok, news-of}
 
@@ -73,17 +73,21 @@ module _ (s : Setup) (w : World) (sent : List (Option Message)) (call : Call) (n
       go (inr left) = left .memory
 
   -- the node and its process at v
-  open-stamp : openingStamp s (v % s .modulus) (node .tables) ≡ step 1 (v % s .modulus) (reduced (s .modulus) (p .last))
-  open-stamp = opens-tables s node v limits memory (legal .called .turn) ∙ ap (step 1 (v % s .modulus)) (twin .stamp)
+  open-stamp : openingStamp s (v % s .modulus) (node .tables) ≡ step (call .step) (v % s .modulus) (reduced (s .modulus) (p .last))
+  open-stamp =
+      opens-tables s node v (call .step) limits memory (legal .called .turn) (legal .called .step-pos) (legal .called .step-few)
+      ∙ ap (step (call .step) (v % s .modulus)) (twin .stamp)
 
-  open-queue : SameMembers (s .modulus) (openingQueue s (v % s .modulus) (node .holdback)) (p .buffer)
-  open-queue = rw (opens-shelf s node v limits memory (legal .called .turn)) (twin .queue)
+  open-queue : SameMembers (s .modulus) (openedAt s v node) (p .buffer)
+  open-queue = rw (opens-shelf s node v (call .step) limits memory (legal .called .turn) (legal .called .step-pos) (legal .called .step-few)) (twin .queue)
 
   open-waits : (m : Message) → List·Memᴰ m (p .buffer) → Waits s v m
-  open-waits m t = subst (λ (x : ℕ). Waits s x m) (sym (legal .called .turn)) (waits-next s (node .clock) m (twin .undue m t) (twin .waiting m t))
+  open-waits m t =
+      subst (λ (x : ℕ). Waits s x m) (sym (legal .called .turn))
+      (waits-next s (node .clock) (call .step) m (legal .called .step-few) (twin .undue m t) (twin .waiting m t))
 
-  next : p .last .r + 1 ≡ v
-  next = ap (λ (x : ℕ). x + 1) (twin .clock-is) ∙ sym (legal .called .turn)
+  next : p .last .r + call .step ≡ v
+  next = ap (λ (x : ℕ). x + call .step) (twin .clock-is) ∙ sym (legal .called .turn)
 
   heard-start : (k : ℕ) → heardTo (w .past) call 0 k ≡ heardAt (w .past) (call .node) k
   unfolding any
@@ -99,11 +103,17 @@ module _ (s : Setup) (w : World) (sent : List (Option Message)) (call : Call) (n
       (entry-at s 0 0 (settles-fresh s) w call node v good legal)
 
   -- the new messages
+  new-undue : (m : Message) → List·Memᴰ m (newHere sent call p) → v ≤ messageDue s m
+  unfolding messageDue
+  new-undue m t =
+      let (k, bytes, a, first, there) = news-from s v sent news-here m t in
+      omega (arith, a .not-late)
+
   new-waits : (m : Message) → List·Memᴰ m (newHere sent call p) → Waits s v m
   unfolding reducedFrame reduced
   new-waits m t =
       let (k, bytes, a, first, there) = news-from s v sent news-here m t in
-      record { close = a .frame .sound .close; not-ahead = a .not-ahead; not-due = omega (arith, a .not-late) }
+      record { close = a .frame .sound .close; not-ahead = a .not-ahead; not-long-due = omega (arith, new-undue m t, limits .epsilon-pos) }
 
   -- buffered and new
   abbrev all : List Message
@@ -111,6 +121,15 @@ module _ (s : Setup) (w : World) (sent : List (Option Message)) (call : Call) (n
 
   all-waits : (m : Message) → List·Memᴰ m all → Waits s v m
   all-waits m t = elim (List·Memᴰ·append-cases (p .buffer) t) [ inl q ↦ open-waits m q | inr q ↦ new-waits m q ]
+
+  -- after a step of one nothing that the process holds is due before v
+  pub none-overdue : call .step ≡ 1 → (m : Message) → List·Memᴰ m (buffered p (heardHere sent call)) → v ≤ messageDue s m
+  unfolding buffered
+  none-overdue one m t =
+      elim (List·Memᴰ·append-cases (p .buffer) t) [
+        | inl q ↦ omega (arith, twin .undue m q, legal .called .turn, one)
+        | inr q ↦ new-undue m q
+      ]
 
   all-reads : (m : Message) → List·Memᴰ m all → ReadsTrue (s .epsilon) (s .modulus) v (m .event .r)
   all-reads m t = waits-reads s v m limits (all-waits m t)
@@ -151,8 +170,11 @@ module _ (s : Setup) (w : World) (sent : List (Option Message)) (call : Call) (n
       (setup-at s node call (legal .called)) (clock-at s node call (legal .called))
       ∙ (ap (countOwn (s .epsilon) (v % s .modulus)) (news-stamp s v sent (openingStamp s (v % s .modulus) (node .tables)) news-here)
       ∙ (ap (λ (t : Timestamp). countOwn (s .epsilon) (v % s .modulus) (absorbEvents (s .epsilon) (s .modulus) (v % s .modulus) t new-events)) open-stamp
-      ∙ event-stamp (s .epsilon) (s .modulus) v 1 (limits .epsilon-pos) (p .last) new-events (twin .wide) next new-reads)))
+      ∙ event-stamp (s .epsilon) (s .modulus) v (call .step) few (p .last) new-events (twin .wide) next new-reads)))
     where
+      few : call .step ≤ s .epsilon
+      few = legal .called .step-few
+
       new-events : List Event
       new-events = map (λ (m : Message). m .event) (newHere sent call p)
 
@@ -161,10 +183,15 @@ module _ (s : Setup) (w : World) (sent : List (Option Message)) (call : Call) (n
           let (m, there, is) = mem-of-map (λ (x : Message). x .event) (newHere sent call p) t in
           rw is (all-reads m (Memᴰ·append-right (p .buffer) there))
 
-  queue-is : SameMembers (s .modulus) (heardOf (inputOf node call) .queue) all
+  rest-queue : SameMembers (s .modulus) (restAt s v node) (select (λ m. not (ltb (messageDue s m) v)) (p .buffer))
+  rest-queue =
+      members-select (s .modulus) (λ f. not (dueBefore s (v % s .modulus) f)) (λ m. not (ltb (messageDue s m) v)) (openedAt s v node) (p .buffer) open-queue
+      (λ m t. ap not (before-same s v m (all-reads m (Memᴰ·append-left (newHere sent call p) t))))
+
+  queue-is : SameMembers (s .modulus) (heardOf (inputOf node call) .queue) (select (λ m. not (ltb (messageDue s m) v)) (p .buffer) ++ newHere sent call p)
   queue-is =
-      subst (λ (h : Heard). SameMembers (s .modulus) (h .queue) all) (sym (heard-all s v node call (legal .called)))
-      (news-queue s v sent (p .buffer) news-here open-queue)
+      subst (λ (h : Heard). SameMembers (s .modulus) (h .queue) (select (λ m. not (ltb (messageDue s m) v)) (p .buffer) ++ newHere sent call p)) (sym (heard-all s v node call (legal .called)))
+      (news-queue s v sent (select (λ m. not (ltb (messageDue s m) v)) (p .buffer)) news-here rest-queue)
 
   queue-sorted : Sorted (keyNear s (v % s .modulus)) (heardOf (inputOf node call) .queue)
   unfolding before compareFrames
@@ -175,11 +202,12 @@ module _ (s : Setup) (w : World) (sent : List (Option Message)) (call : Call) (n
       (hearing-end (inputOf node call) (accepted-input node call (legal .called .accepted)) .ordered)))
 
   pub delivered-is :
-      deliveredOf (inputOf node call) ≡ map (reducedFrame (s .modulus)) (deliveredAt (s .epsilon) (s .delta) v p (heardHere sent call))
-  unfolding deliveredOf deliveredAt buffered
+      deliveredOf (inputOf node call) ≡ map (reducedFrame (s .modulus)) (deliveredAt deliverableBy (s .epsilon) (s .delta) v p (heardHere sent call))
+  unfolding deliveredAt buffered
   delivered-is =
-      ap₂ (λ (t : Setup) (u : ℕ). select (dueNow t u) (heardOf (inputOf node call) .queue)) (setup-at s node call (legal .called)) (clock-at s node call (legal .called))
-      ∙ delivered-same s v (heardOf (inputOf node call) .queue) all queue-is queue-sorted all-reads all-single all-ranked
+      order-same s v all all-reads all-single all-ranked (deliverableBy (s .epsilon) (s .delta) v) (deliveredOf (inputOf node call)) (delivers-sorted s node call (legal .called))
+      (subst (λ (l : List Frame). SameMembers (s .modulus) l (select (deliverableBy (s .epsilon) (s .delta) v) all)) (sym (delivers-frames s node call (legal .called)))
+      (delivered-members s v (openedAt s v node) (heardOf (inputOf node call) .queue) (p .buffer) (newHere sent call p) all-reads new-undue open-queue queue-is))
 
   -- what is kept is selected from the queue by the one setup and clock
   kept-chosen : keptOf (inputOf node call) ≡ select (λ f. not (dueNow s (v % s .modulus) f)) (heardOf (inputOf node call) .queue)
@@ -188,18 +216,18 @@ module _ (s : Setup) (w : World) (sent : List (Option Message)) (call : Call) (n
       ap₂ (λ (t : Setup) (u : ℕ). select (λ f. not (dueNow t u f)) (heardOf (inputOf node call) .queue)) (setup-at s node call (legal .called)) (clock-at s node call (legal .called))
 
   kept-is :
-      SameMembers (s .modulus) (keptOf (inputOf node call)) (select (λ m. not (deliverable (s .epsilon) (s .delta) v m)) all)
+      SameMembers (s .modulus) (keptOf (inputOf node call)) (select (λ m. not (deliverableBy (s .epsilon) (s .delta) v m)) all)
   kept-is =
-      subst (λ (l : List Frame). SameMembers (s .modulus) l (select (λ m. not (deliverable (s .epsilon) (s .delta) v m)) all)) (sym kept-chosen)
-      (kept-members s v (heardOf (inputOf node call) .queue) all queue-is queue-sorted all-reads all-single all-ranked)
+      subst (λ (l : List Frame). SameMembers (s .modulus) l (select (λ m. not (deliverableBy (s .epsilon) (s .delta) v m)) all)) (sym kept-chosen)
+      (kept-members s v (openedAt s v node) (heardOf (inputOf node call) .queue) (p .buffer) (newHere sent call p) all-reads new-undue open-queue queue-is)
 
   pub kept-are :
       keptOf (inputOf node call)
-      ≡ map (reducedFrame (s .modulus)) (inOrder (s .epsilon) (advanced (s .epsilon) (s .delta) v p (heardHere sent call) .buffer))
+      ≡ map (reducedFrame (s .modulus)) (inOrder (s .epsilon) (advanced deliverableBy (s .epsilon) (s .delta) v p (heardHere sent call) .buffer))
   unfolding advanced buffered
   kept-are =
-      kept-chosen
-      ∙ kept-same s v (heardOf (inputOf node call) .queue) all queue-is queue-sorted all-reads all-single all-ranked
+      order-same s v all all-reads all-single all-ranked (λ m. not (deliverableBy (s .epsilon) (s .delta) v m)) (keptOf (inputOf node call))
+      (rw kept-chosen (sorted-select (keyNear s (v % s .modulus)) (λ f. not (dueNow s (v % s .modulus) f)) (heardOf (inputOf node call) .queue) queue-sorted)) kept-is
 
   -- the message is the frame
   pub frame-is :
@@ -230,7 +258,7 @@ module _ (s : Setup) (w : World) (sent : List (Option Message)) (call : Call) (n
 
   no-repair : repairOf (inputOf node call .setup) (inputOf node call .clock) (inputOf node call .tables) (inputOf node call .holdback) ≡ 0
   unfolding inputOf
-  no-repair = rw (legal .called .setup-is, legal .called .clock-is) (opens-calm s node v limits memory (legal .called .turn))
+  no-repair = rw (legal .called .setup-is, legal .called .clock-is) (opens-calm s node v (call .step) limits memory (legal .called .turn) (legal .called .step-pos) (legal .called .step-few))
 
   taken-are : takenCount (heardOf (inputOf node call) .verdicts) ≡ length (newHere sent call p)
   unfolding takenCount select
@@ -244,12 +272,12 @@ module _ (s : Setup) (w : World) (sent : List (Option Message)) (call : Call) (n
       ∙ news-verdicts s v sent (p .received) (told s w sent good sent-as) news-here
       (seen-same sent (heardAt (w .past) (call .node)) (heardTo (w .past) call 0) (p .received) heard-start (twin .received))
 
-  pub same-as : SameAs s (outcomeOf s sent p (doneOf node call .clock) call) (doneOf node call)
+  pub same-as : SameAs s (outcomeOf deliverableBy s sent p (doneOf node call .clock) call) (doneOf node call)
   unfolding outcomeOf doneOf outputOf acceptance inputOf
   same-as =
       let i = inputOf node call in
       let a = accepted-input node call (legal .called .accepted) in
-      subst (λ (n : ℕ). SameAs s (outcomeOf s sent p n call) (doneOf node call)) (sym (done-clock s node call (legal .called)))
+      subst (λ (n : ℕ). SameAs s (outcomeOf deliverableBy s sent p n call) (doneOf node call)) (sym (done-clock s node call (legal .called)))
       (record {
         tables = tables-are i a ∙ ap widened stamp-is;
         repair = ap (λ (o : Output). o .answer .repair) (a .accepted) ∙ no-repair;
@@ -263,7 +291,7 @@ module _ (s : Setup) (w : World) (sent : List (Option Message)) (call : Call) (n
         delivery = delivery-is i a ∙ ap (λ (l : List Frame). overlay (encodeFrames l) (call .delivery)) delivered-is;
         delivered =
             ap (λ (o : Output). o .answer .delivered) (a .accepted)
-            ∙ (ap length delivered-is ∙ length-map (deliveredAt (s .epsilon) (s .delta) v p (heardHere sent call)) (reducedFrame (s .modulus)));
+            ∙ (ap length delivered-is ∙ length-map (deliveredAt deliverableBy (s .epsilon) (s .delta) v p (heardHere sent call)) (reducedFrame (s .modulus)));
       })
 
   -- the new event
@@ -341,25 +369,18 @@ module _ (s : Setup) (w : World) (sent : List (Option Message)) (call : Call) (n
             | inr e ↦ Memᴰ·append-right (p .received) (news-all s v sent news-here k m at-old (heard-start k ∙ e) h)
           ]
 
-  kept-later :
-      (m : Message) → List·Memᴰ m (select (λ m. not (deliverable (s .epsilon) (s .delta) v m)) all) → v < m .event .r + m .event .c + s .delta + s .epsilon
-  unfolding deliverable
+  kept-later : (m : Message) → List·Memᴰ m (select (λ m. not (deliverableBy (s .epsilon) (s .delta) v m)) all) → v < messageDue s m
+  unfolding deliverableBy messageDue
   kept-later m t =
-      let (there, un) = mem-of-select (λ m. not (deliverable (s .epsilon) (s .delta) v m)) all t in
-      let apart-from : v ≡ m .event .r + m .event .c + s .delta + s .epsilon → ⊥ =
-      eqb-false v (m .event .r + m .event .c + s .delta + s .epsilon) (false-of-not (eqb v (m .event .r + m .event .c + s .delta + s .epsilon)) un) in
-      elim (lt-or-ge v (m .event .r + m .event .c + s .delta + s .epsilon)) [
-        | inl q ↦ q
-        | inr q ↦ absurd (apart-from (omega (arith, all-waits m there .not-due)))
-      ]
+      leb-false (messageDue s m) v (false-of-not (leb (messageDue s m) v) (mem-of-select (λ m. not (deliverableBy (s .epsilon) (s .delta) v m)) all t .1))
 
-  kept-waits : (m : Message) → List·Memᴰ m (select (λ m. not (deliverable (s .epsilon) (s .delta) v m)) all) → Waits s v m
-  kept-waits m t = all-waits m (mem-of-select (λ m. not (deliverable (s .epsilon) (s .delta) v m)) all t .0)
+  kept-waits : (m : Message) → List·Memᴰ m (select (λ m. not (deliverableBy (s .epsilon) (s .delta) v m)) all) → Waits s v m
+  kept-waits m t = all-waits m (mem-of-select (λ m. not (deliverableBy (s .epsilon) (s .delta) v m)) all t .0)
 
   kept-received :
-      (m : Message) → List·Memᴰ m (select (λ m. not (deliverable (s .epsilon) (s .delta) v m)) all) → List·Memᴰ m (p .received ++ newHere sent call p)
+      (m : Message) → List·Memᴰ m (select (λ m. not (deliverableBy (s .epsilon) (s .delta) v m)) all) → List·Memᴰ m (p .received ++ newHere sent call p)
   kept-received m t =
-      elim (List·Memᴰ·append-cases (p .buffer) (mem-of-select (λ m. not (deliverable (s .epsilon) (s .delta) v m)) all t .0)) [
+      elim (List·Memᴰ·append-cases (p .buffer) (mem-of-select (λ m. not (deliverableBy (s .epsilon) (s .delta) v m)) all t .0)) [
         | inl q ↦ Memᴰ·append-left (newHere sent call p) (twin .from-received m q)
         | inr q ↦ Memᴰ·append-right (p .received) q
       ]
@@ -367,8 +388,8 @@ module _ (s : Setup) (w : World) (sent : List (Option Message)) (call : Call) (n
   -- the node and the process after the call
   pub twin-moves :
       (x : Option Message) → ((m : Message) → x ≡ some m → m .event ≡ new-event)
-      → Twin s (w .past ++ (doneOf node call ∷ [])) (sent ++ (x ∷ [])) (call .node) (nodeAfter node (outputOf node call))
-      (advanced (s .epsilon) (s .delta) v p (heardHere sent call))
+      → Twin s (w .past ++ (doneOf node call ∷ [])) (sent ++ (x ∷ [])) (call .node) (nodeAfter node (call .step) (outputOf node call))
+      (advanced deliverableBy (s .epsilon) (s .delta) v p (heardHere sent call))
   unfolding advanced buffered
   twin-moves x x-is =
       record {
@@ -377,11 +398,11 @@ module _ (s : Setup) (w : World) (sent : List (Option Message)) (call : Call) (n
         wide = unfold eventOf in (event-wide (s .epsilon) v (p .last ∷ map (λ (m : Message). m .event) (newHere sent call p)));
         stamp = leaves-tables s node call (legal .called) ∙ stamp-is;
         queue =
-            subst (λ (l : List Frame). SameMembers (s .modulus) l (select (λ m. not (deliverable (s .epsilon) (s .delta) v m)) all))
+            subst (λ (l : List Frame). SameMembers (s .modulus) l (select (λ m. not (deliverableBy (s .epsilon) (s .delta) v m)) all))
             (sym (leaves-queue s node call (legal .called))) kept-is;
-        single = apart-select sameMessage (λ m. not (deliverable (s .epsilon) (s .delta) v m)) all all-single;
+        single = apart-select sameMessage (λ m. not (deliverableBy (s .epsilon) (s .delta) v m)) all all-single;
         waiting = λ m t. subst (λ (n : ℕ). Waits s n m) (sym (after-clock s node call (legal .called))) (kept-waits m t);
-        undue = λ m t. subst (λ (n : ℕ). n < m .event .r + m .event .c + s .delta + s .epsilon) (sym (after-clock s node call (legal .called))) (kept-later m t);
+        undue = λ m t. subst (λ (n : ℕ). n < messageDue s m) (sym (after-clock s node call (legal .called))) (kept-later m t);
         from-received = kept-received;
         received = seen-next x;
         knows = λ k m d at d-at here.

@@ -5,23 +5,25 @@ use native.Mathlib.Omega.{arith}
 use mathlib.Core.Path.{_≡_, sym, ap, _∙_}
 use mathlib.Core.Logic.{_⊎_, inl, inr}
 use mathlib.Core.Bool.{Bool, true, not}
-use mathlib.Core.List.{List, [], _∷_, _++_, map, append-assoc, List·Memᴰ}
+use mathlib.Core.List.{List, [], _∷_, _++_, map, append-assoc}
+use mathlib.Core.List.{List·Memᴰ, List·Memᴰ·append-cases, Memᴰ·append-left, Memᴰ·append-right}
+use lib.Dec.{leb, ltb, eqb}
 use lib.ListN.{length, getD, length-append}
 use lib.Seq.{getD-append-seam}
-use borrow.Author.Tests.{eq-eqb, ne-eqb}
-use Rattle.laws.specs.Lists.{tab, select, sortBy, apart, placedAt}
+use borrow.Author.Tests.{leb-true, leb-false, le-leb, lt-leb, ltb-true, ltb-false, lt-ltb, le-ltb, eqb-true, eqb-false, eq-eqb, ne-eqb}
+use Rattle.laws.specs.Lists.{tab, select, sortBy, apart}
 use Rattle.laws.specs.Lex.{lexCompare}
-use Rattle.laws.proofs.Numbers.{lt-or-ge, eq-or-ne}
-use Rattle.laws.proofs.Lists.{tab-ext, length-tab, mem-select, mem-of-select, mem-map, mem-of-map}
+use Rattle.laws.proofs.Numbers.{lt-or-ge, eq-or-ne, not-of-false, false-of-not}
+use Rattle.laws.proofs.Lists.{length-tab, mem-select, mem-of-select, mem-map, mem-of-map}
 use Rattle.laws.proofs.Lex.{isLess-lt, lt-isLess, lex-head-lt, lex-head-eq, lex-lt-cases, lex-append}
-use Rattle.laws.proofs.Sorted.{pairwise-mono, lessBy, Sorted, sorted-select, sorted-map, sorted-unique, apart-select}
+use Rattle.laws.proofs.Sorted.{pairwise-mono, lessBy, Sorted, sorted-map, sorted-unique, apart-select}
 use Rattle.laws.proofs.InsertionSort.{mem-sortBy, mem-of-sortBy, sorted-sortBy}
 use Rattle.model.specs.Setup.{Setup}
 use Rattle.model.specs.Timestamp.{sum}
 use Rattle.model.specs.Frame.{Frame}
 use Rattle.model.specs.Order.{readingOf, keyBy, key, keyNear, countsDown, due, dueNear}
-use Rattle.model.specs.Tick.{dueNow}
-use Rattle.model.specs.Published.{Event, Message, known, rank, less, deliverable, inOrder, sameMessage}
+use Rattle.model.specs.Tick.{dueBefore, dueNow}
+use Rattle.model.specs.Published.{Event, Message, known, rank, less, deliverableBy, inOrder, sameMessage}
 use Rattle.theory.specs.Demand2.{reduced, reducedFrame}
 use Rattle.lemmas.proofs.Bounds.{Sound}
 use Rattle.lemmas.proofs.Counts.{length-down, down-places}
@@ -63,16 +65,31 @@ less-frames s v m m′ t t′ h =
     (length-down (s .epsilon) (reduced (s .modulus) (m .event)) ∙ sym (length-down (s .epsilon) (reduced (s .modulus) (m′ .event)))) t t′
     (rw (rank-is (s .epsilon) (s .modulus) m, rank-is (s .epsilon) (s .modulus) m′) at (isLess-lt (lexCompare (rank (s .epsilon) m) (rank (s .epsilon) m′)) h)))
 
--- due at v, both ways of saying it
-pub due-same : (s : Setup) (v : ℕ) (m : Message) → ReadsTrue (s .epsilon) (s .modulus) v (m .event .r) → dueNow s (v % s .modulus) (reducedFrame (s .modulus) m) ≡ deliverable (s .epsilon) (s .delta) v m
-unfolding dueNow dueNear due sum readingOf reducedFrame reduced deliverable
-due-same s v m t =
-    let reading = readingOf s (v % s .modulus) (reducedFrame (s .modulus) m) in
-    elim (eq-or-ne v (m .event .r + m .event .c + s .delta + s .epsilon)) [
-      | inl q ↦ eq-eqb (reading + m .event .c + s .delta + s .epsilon) (s .modulus) (omega arith) ∙ sym (eq-eqb v (m .event .r + m .event .c + s .delta + s .epsilon) q)
+-- when a message is due
+unfoldable pub messageDue : Setup → Message → ℕ
+messageDue s m = m .event .r + m .event .c + s .delta + s .epsilon
+
+-- due before v, and at v, both ways of saying it
+due-reads : (s : Setup) (v : ℕ) (m : Message) → ReadsTrue (s .epsilon) (s .modulus) v (m .event .r) → dueNear s (v % s .modulus) (reducedFrame (s .modulus) m) + v ≡ s .modulus + messageDue s m
+unfolding dueNear due sum readingOf reducedFrame reduced messageDue
+due-reads s v m t = omega arith
+
+pub before-same : (s : Setup) (v : ℕ) (m : Message) → ReadsTrue (s .epsilon) (s .modulus) v (m .event .r) → dueBefore s (v % s .modulus) (reducedFrame (s .modulus) m) ≡ ltb (messageDue s m) v
+unfolding dueBefore
+before-same s v m t =
+    elim (lt-or-ge (messageDue s m) v) [
+      | inl q ↦ lt-ltb (dueNear s (v % s .modulus) (reducedFrame (s .modulus) m)) (s .modulus) (omega (arith, due-reads s v m t)) ∙ sym (lt-ltb (messageDue s m) v q)
+      | inr q ↦ le-ltb (dueNear s (v % s .modulus) (reducedFrame (s .modulus) m)) (s .modulus) (omega (arith, due-reads s v m t)) ∙ sym (le-ltb (messageDue s m) v q)
+    ]
+
+pub now-same : (s : Setup) (v : ℕ) (m : Message) → ReadsTrue (s .epsilon) (s .modulus) v (m .event .r) → dueNow s (v % s .modulus) (reducedFrame (s .modulus) m) ≡ eqb (messageDue s m) v
+unfolding dueNow
+now-same s v m t =
+    elim (eq-or-ne (messageDue s m) v) [
+      | inl q ↦ eq-eqb (dueNear s (v % s .modulus) (reducedFrame (s .modulus) m)) (s .modulus) (omega (arith, due-reads s v m t)) ∙ sym (eq-eqb (messageDue s m) v q)
       | inr q ↦
-          ne-eqb (reading + m .event .c + s .delta + s .epsilon) (s .modulus) (λ z. q (omega arith))
-          ∙ sym (ne-eqb v (m .event .r + m .event .c + s .delta + s .epsilon) q)
+          ne-eqb (dueNear s (v % s .modulus) (reducedFrame (s .modulus) m)) (s .modulus) (λ z. q (omega (arith, due-reads s v m t)))
+          ∙ sym (ne-eqb (messageDue s m) v q)
     ]
 
 -- the queue holds the frames of the buffered messages and no others
@@ -94,69 +111,153 @@ members-select B p q queue buffer same agree =
           mem-select p (same .back x in-buffer) (agree x in-buffer ∙ yes-q);
     }
 
-module _ (s : Setup) (v : ℕ) (queue : List Frame) (buffer : List Message)
-    (same : SameMembers (s .modulus) queue buffer) (sorted : Sorted (keyNear s (v % s .modulus)) queue)
-    (reads : (m : Message) → List·Memᴰ m buffer → ReadsTrue (s .epsilon) (s .modulus) v (m .event .r))
-    (single : apart sameMessage buffer ≡ true)
-    (ranked : (m m′ : Message) → List·Memᴰ m buffer → List·Memᴰ m′ buffer → rank (s .epsilon) m ≡ rank (s .epsilon) m′ → sameMessage m m′ ≡ true) where
-  -- the frames and the messages that a test chooses: the same ones, in the same order
-  module _ (p : Frame → Bool) (q : Message → Bool) (agree : (m : Message) → List·Memᴰ m buffer → p (reducedFrame (s .modulus) m) ≡ q m) where
-    chosen : List Message
-    chosen = select q buffer
+members-append :
+    (B : ℕ) (a b : List Frame) (x y : List Message) → SameMembers B a x → SameMembers B b y → SameMembers B (a ++ b) (x ++ y)
+members-append B a b x y p q =
+    record {
+      into = λ f m.
+          elim (List·Memᴰ·append-cases a m) [
+            | inl h ↦ let (z, there, e) = p .into f h in (z, Memᴰ·append-left y there, e)
+            | inr h ↦ let (z, there, e) = q .into f h in (z, Memᴰ·append-right x there, e)
+          ];
+      back = λ z m.
+          elim (List·Memᴰ·append-cases x m) [
+            | inl h ↦ Memᴰ·append-left b (p .back z h)
+            | inr h ↦ Memᴰ·append-right a (q .back z h)
+          ];
+    }
 
-    from-buffer : (m : Message) → List·Memᴰ m (sortBy (lessBy (rank (s .epsilon))) chosen) → List·Memᴰ m buffer
-    unfolding chosen
-    from-buffer m h = mem-of-select q buffer (mem-of-sortBy (lessBy (rank (s .epsilon))) chosen h) .0
+-- the same messages, listed otherwise
+members-alike :
+    (B : ℕ) (queue : List Frame) (x y : List Message) → ((m : Message) → List·Memᴰ m x → List·Memᴰ m y) → ((m : Message) → List·Memᴰ m y → List·Memᴰ m x)
+    → SameMembers B queue x → SameMembers B queue y
+members-alike B queue x y to from same =
+    record {
+      into = λ f m. let (z, there, e) = same .into f m in (z, to z there, e);
+      back = λ z m. same .back z (from z m);
+    }
 
-    frames-sorted :
-        Sorted (keyNear s (v % s .modulus)) (map (reducedFrame (s .modulus)) (sortBy (lessBy (rank (s .epsilon))) chosen))
-    unfolding chosen
-    frames-sorted =
-        sorted-map (keyNear s (v % s .modulus)) (reducedFrame (s .modulus)) (sortBy (lessBy (rank (s .epsilon))) chosen)
-        (pairwise-mono (lessBy (rank (s .epsilon))) (lessBy (λ m. keyNear s (v % s .modulus) (reducedFrame (s .modulus) m)))
-        (sortBy (lessBy (rank (s .epsilon))) chosen)
-        (λ x y m n h. less-frames s v x y (reads x (from-buffer x m)) (reads y (from-buffer y n)) h)
-        (sorted-sortBy (rank (s .epsilon)) sameMessage chosen (apart-select sameMessage q buffer single)
-        (λ x y m n e. ranked x y (mem-of-select q buffer m .0) (mem-of-select q buffer n .0) e)))
+-- a process holds the messages of its buffer and the new ones, none of which is due before v; of these frames the queue holds those of the buffer
+-- that are not due before v, and the new ones
+module _ (s : Setup) (v : ℕ) (opened queue : List Frame) (buffer fresh : List Message)
+    (reads : (m : Message) → List·Memᴰ m (buffer ++ fresh) → ReadsTrue (s .epsilon) (s .modulus) v (m .event .r))
+    (undue : (m : Message) → List·Memᴰ m fresh → v ≤ messageDue s m)
+    (old : SameMembers (s .modulus) opened buffer)
+    (all : SameMembers (s .modulus) queue (select (λ m. not (ltb (messageDue s m) v)) buffer ++ fresh)) where
+  abbrev rest : List Message
+  rest = select (λ m. not (ltb (messageDue s m) v)) buffer ++ fresh
 
-    pub chosen-members : SameMembers (s .modulus) (select p queue) (select q buffer)
-    chosen-members = members-select (s .modulus) p q queue buffer same agree
+  -- what is not due before v
+  rest-late : (m : Message) → List·Memᴰ m rest → List·Memᴰ m (buffer ++ fresh) × (v ≤ messageDue s m)
+  rest-late m t =
+      elim (List·Memᴰ·append-cases (select (λ m. not (ltb (messageDue s m) v)) buffer) t) [
+        | inl q ↦
+            let (there, un) = mem-of-select (λ m. not (ltb (messageDue s m) v)) buffer q in
+            (Memᴰ·append-left fresh there, ltb-false (messageDue s m) v (false-of-not (ltb (messageDue s m) v) un))
+        | inr q ↦ (Memᴰ·append-right buffer q, undue m q)
+      ]
 
-    pub chosen-same : select p queue ≡ map (reducedFrame (s .modulus)) (inOrder (s .epsilon) (select q buffer))
-    unfolding inOrder less chosen
-    chosen-same =
-        sorted-unique (keyNear s (v % s .modulus)) (select p queue)
-        (map (reducedFrame (s .modulus)) (sortBy (lessBy (rank (s .epsilon))) chosen))
-        (sorted-select (keyNear s (v % s .modulus)) p queue sorted)
-        frames-sorted
-        (λ f m.
-        let (x, there, e) = chosen-members .into f m in
-        rw e (mem-map (reducedFrame (s .modulus)) (mem-sortBy (lessBy (rank (s .epsilon))) there)))
-        (λ f m.
-        let (x, in-order, e) = mem-of-map (reducedFrame (s .modulus)) (sortBy (lessBy (rank (s .epsilon))) chosen) m in
-        rw e (chosen-members .back x (mem-of-sortBy (lessBy (rank (s .epsilon))) chosen in-order)))
+  late-rest : (m : Message) → List·Memᴰ m (buffer ++ fresh) → v ≤ messageDue s m → List·Memᴰ m rest
+  late-rest m t h =
+      elim (List·Memᴰ·append-cases buffer t) [
+        | inl q ↦ Memᴰ·append-left fresh (mem-select (λ m. not (ltb (messageDue s m) v)) q (not-of-false (le-ltb (messageDue s m) v h)))
+        | inr q ↦ Memᴰ·append-right (select (λ m. not (ltb (messageDue s m) v)) buffer) q
+      ]
 
-  due-agrees : (m : Message) → List·Memᴰ m buffer → dueNow s (v % s .modulus) (reducedFrame (s .modulus) m) ≡ deliverable (s .epsilon) (s .delta) v m
-  due-agrees m k = due-same s v m (reads m k)
+  now-agrees : (m : Message) → List·Memᴰ m rest → dueNow s (v % s .modulus) (reducedFrame (s .modulus) m) ≡ eqb (messageDue s m) v
+  now-agrees m t = now-same s v m (reads m (rest-late m t .0))
 
   -- what is delivered
-  pub delivered-same :
-      select (dueNow s (v % s .modulus)) queue
-      ≡ map (reducedFrame (s .modulus)) (inOrder (s .epsilon) (select (deliverable (s .epsilon) (s .delta) v) buffer))
-  delivered-same = chosen-same (dueNow s (v % s .modulus)) (deliverable (s .epsilon) (s .delta) v) due-agrees
+  pub delivered-members :
+      SameMembers (s .modulus) (select (dueBefore s (v % s .modulus)) opened ++ select (dueNow s (v % s .modulus)) queue)
+      (select (deliverableBy (s .epsilon) (s .delta) v) (buffer ++ fresh))
+  unfolding deliverableBy messageDue
+  delivered-members =
+      members-alike (s .modulus) (select (dueBefore s (v % s .modulus)) opened ++ select (dueNow s (v % s .modulus)) queue)
+      (select (λ m. ltb (messageDue s m) v) buffer ++ select (λ m. eqb (messageDue s m) v) rest)
+      (select (deliverableBy (s .epsilon) (s .delta) v) (buffer ++ fresh))
+      (λ m t.
+      elim (List·Memᴰ·append-cases (select (λ m. ltb (messageDue s m) v) buffer) t) [
+        | inl q ↦
+            let (there, h) = mem-of-select (λ m. ltb (messageDue s m) v) buffer q in
+            mem-select (deliverableBy (s .epsilon) (s .delta) v) (Memᴰ·append-left fresh there) (le-leb (messageDue s m) v (omega (arith, ltb-true (messageDue s m) v h)))
+        | inr q ↦
+            let (there, h) = mem-of-select (λ m. eqb (messageDue s m) v) rest q in
+            mem-select (deliverableBy (s .epsilon) (s .delta) v) (rest-late m there .0) (le-leb (messageDue s m) v (omega (arith, eqb-true (messageDue s m) v h)))
+      ])
+      (λ m t.
+      let (there, h) = mem-of-select (deliverableBy (s .epsilon) (s .delta) v) (buffer ++ fresh) t in
+      let by : messageDue s m ≤ v = leb-true (messageDue s m) v h in
+      elim (lt-or-ge (messageDue s m) v) [
+        | inl q ↦ Memᴰ·append-left (select (λ m. eqb (messageDue s m) v) rest) (mem-select (λ m. ltb (messageDue s m) v) (buffered m there q) (lt-ltb (messageDue s m) v q))
+        | inr q ↦ Memᴰ·append-right (select (λ m. ltb (messageDue s m) v) buffer) (mem-select (λ m. eqb (messageDue s m) v) (late-rest m there q) (eq-eqb (messageDue s m) v (omega arith)))
+      ])
+      (members-append (s .modulus) (select (dueBefore s (v % s .modulus)) opened) (select (dueNow s (v % s .modulus)) queue)
+      (select (λ m. ltb (messageDue s m) v) buffer) (select (λ m. eqb (messageDue s m) v) rest)
+      (members-select (s .modulus) (dueBefore s (v % s .modulus)) (λ m. ltb (messageDue s m) v) opened buffer old (λ m t. before-same s v m (reads m (Memᴰ·append-left fresh t))))
+      (members-select (s .modulus) (dueNow s (v % s .modulus)) (λ m. eqb (messageDue s m) v) queue rest all now-agrees))
+    where
+      buffered : (m : Message) → List·Memᴰ m (buffer ++ fresh) → messageDue s m < v → List·Memᴰ m buffer
+      buffered m t h =
+          elim (List·Memᴰ·append-cases buffer t) [
+            | inl q ↦ q
+            | inr q ↦ absurd (omega (arith, undue m q))
+          ]
 
   -- what is kept
   pub kept-members :
       SameMembers (s .modulus) (select (λ f. not (dueNow s (v % s .modulus) f)) queue)
-      (select (λ m. not (deliverable (s .epsilon) (s .delta) v m)) buffer)
+      (select (λ m. not (deliverableBy (s .epsilon) (s .delta) v m)) (buffer ++ fresh))
+  unfolding deliverableBy messageDue
   kept-members =
-      chosen-members (λ f. not (dueNow s (v % s .modulus) f)) (λ m. not (deliverable (s .epsilon) (s .delta) v m)) (λ m k. ap not (due-agrees m k))
+      members-alike (s .modulus) (select (λ f. not (dueNow s (v % s .modulus) f)) queue) (select (λ m. not (eqb (messageDue s m) v)) rest)
+      (select (λ m. not (deliverableBy (s .epsilon) (s .delta) v m)) (buffer ++ fresh))
+      (λ m t.
+      let (there, h) = mem-of-select (λ m. not (eqb (messageDue s m) v)) rest t in
+      let ne = eqb-false (messageDue s m) v (false-of-not (eqb (messageDue s m) v) h) in
+      mem-select (λ m. not (deliverableBy (s .epsilon) (s .delta) v m)) (rest-late m there .0)
+      (not-of-false (lt-leb (messageDue s m) v (omega (arith, ne, rest-late m there .1)))))
+      (λ m t.
+      let (there, h) = mem-of-select (λ m. not (deliverableBy (s .epsilon) (s .delta) v m)) (buffer ++ fresh) t in
+      let later : v < messageDue s m = leb-false (messageDue s m) v (false-of-not (leb (messageDue s m) v) h) in
+      mem-select (λ m. not (eqb (messageDue s m) v)) (late-rest m there (omega arith)) (not-of-false (ne-eqb (messageDue s m) v (λ e. omega arith))))
+      (members-select (s .modulus) (λ f. not (dueNow s (v % s .modulus) f)) (λ m. not (eqb (messageDue s m) v)) queue rest all (λ m t. ap not (now-agrees m t)))
 
-  pub kept-same :
-      select (λ f. not (dueNow s (v % s .modulus) f)) queue
-      ≡ map (reducedFrame (s .modulus)) (inOrder (s .epsilon) (select (λ m. not (deliverable (s .epsilon) (s .delta) v m)) buffer))
-  kept-same =
-      chosen-same (λ f. not (dueNow s (v % s .modulus) f)) (λ m. not (deliverable (s .epsilon) (s .delta) v m)) (λ m k. ap not (due-agrees m k))
+-- frames in order, and the messages that a test chooses of those held: where the members are the same, the order is too
+module _ (s : Setup) (v : ℕ) (held : List Message)
+    (reads : (m : Message) → List·Memᴰ m held → ReadsTrue (s .epsilon) (s .modulus) v (m .event .r))
+    (single : apart sameMessage held ≡ true)
+    (ranked : (m m′ : Message) → List·Memᴰ m held → List·Memᴰ m′ held → rank (s .epsilon) m ≡ rank (s .epsilon) m′ → sameMessage m m′ ≡ true)
+    (q : Message → Bool) where
+  chosen : List Message
+  chosen = select q held
+
+  from-held : (m : Message) → List·Memᴰ m (sortBy (lessBy (rank (s .epsilon))) chosen) → List·Memᴰ m held
+  unfolding chosen
+  from-held m h = mem-of-select q held (mem-of-sortBy (lessBy (rank (s .epsilon))) chosen h) .0
+
+  frames-sorted : Sorted (keyNear s (v % s .modulus)) (map (reducedFrame (s .modulus)) (sortBy (lessBy (rank (s .epsilon))) chosen))
+  unfolding chosen
+  frames-sorted =
+      sorted-map (keyNear s (v % s .modulus)) (reducedFrame (s .modulus)) (sortBy (lessBy (rank (s .epsilon))) chosen)
+      (pairwise-mono (lessBy (rank (s .epsilon))) (lessBy (λ m. keyNear s (v % s .modulus) (reducedFrame (s .modulus) m)))
+      (sortBy (lessBy (rank (s .epsilon))) chosen)
+      (λ x y m n h. less-frames s v x y (reads x (from-held x m)) (reads y (from-held y n)) h)
+      (sorted-sortBy (rank (s .epsilon)) sameMessage chosen (apart-select sameMessage q held single)
+      (λ x y m n e. ranked x y (mem-of-select q held m .0) (mem-of-select q held n .0) e)))
+
+  pub order-same :
+      (frames : List Frame) → Sorted (keyNear s (v % s .modulus)) frames → SameMembers (s .modulus) frames (select q held)
+      → frames ≡ map (reducedFrame (s .modulus)) (inOrder (s .epsilon) (select q held))
+  unfolding inOrder less chosen
+  order-same frames sorted same =
+      sorted-unique (keyNear s (v % s .modulus)) frames (map (reducedFrame (s .modulus)) (sortBy (lessBy (rank (s .epsilon))) chosen)) sorted frames-sorted
+      (λ f m.
+      let (x, there, e) = same .into f m in
+      rw e (mem-map (reducedFrame (s .modulus)) (mem-sortBy (lessBy (rank (s .epsilon))) there)))
+      (λ f m.
+      let (x, in-order, e) = mem-of-map (reducedFrame (s .modulus)) (sortBy (lessBy (rank (s .epsilon))) chosen) m in
+      rw e (same .back x (mem-of-sortBy (lessBy (rank (s .epsilon))) chosen in-order)))
 
 counts-first :
     (n epsilon B : ℕ) (e e′ : Event) → Sound n epsilon (reduced B e) → Sound n epsilon (reduced B e′) → e .r + e .c ≡ e′ .r + e′ .c

@@ -31,7 +31,7 @@ use Rattle.lemmas.proofs.Reading.{near-true}
 use Rattle.theory.proofs.World.{sends-accepted, eventFrame, heardAt, followed, Good}
 use Rattle.theory.proofs.HearLoop.{Settles, Arrival, Entry, Around, Unreached, QueueLoop, some-inj, loop-verdict, judged-once, queue-one}
 use Rattle.theory.proofs.PublishedEvent.{ReadsTrue, Knows}
-use Rattle.theory.proofs.PublishedQueue.{SameMembers, rank-sender}
+use Rattle.theory.proofs.PublishedQueue.{messageDue, SameMembers, rank-sender}
 use Rattle.theory.proofs.PublishedHear.{Incoming, Told, SeenIs, also, News, none-left, again, new, seen-any, seen-again, seen-new, heard-cons, new-ones-again, new-ones-new}
 
 -- the message m of the published program is the frame of the call d
@@ -55,11 +55,11 @@ RankedSent s past sent =
     (k l : ℕ) (m m′ : Message) (d d′ : Done) → k < l → getElem? sent k ≡ some (some m) → getElem? sent l ≡ some (some m′)
     → getElem? past k ≡ some d → getElem? past l ≡ some d′ → d .node ≡ d′ .node → lessBy (rank (s .epsilon)) m m′ ≡ true
 
--- a message that is buffered at v: not ahead of it, and not overdue
+-- a message that is held at v: not ahead of it, and due less than ε before it at most
 pub record Waits (s : Setup) (v : ℕ) (m : Message) : Type 0 where
   pub close : m .event .c < s .epsilon
   pub not-ahead : m .event .r < v + s .epsilon
-  pub not-due : v ≤ m .event .r + m .event .c + s .delta + s .epsilon
+  pub not-long-due : v < messageDue s m + s .epsilon
 
 -- a node and its process
 pub record Twin (s : Setup) (past : List Done) (sent : List (Option Message)) (i : ℕ) (node : Node) (p : Process) : Type 0 where
@@ -70,7 +70,7 @@ pub record Twin (s : Setup) (past : List Done) (sent : List (Option Message)) (i
   pub queue : SameMembers (s .modulus) (held (s .epsilon) (node .holdback)) (p .buffer)
   pub single : apart sameMessage (p .buffer) ≡ true
   pub waiting : (m : Message) → List·Memᴰ m (p .buffer) → Waits s (node .clock) m
-  pub undue : (m : Message) → List·Memᴰ m (p .buffer) → node .clock < m .event .r + m .event .c + s .delta + s .epsilon
+  pub undue : (m : Message) → List·Memᴰ m (p .buffer) → node .clock < messageDue s m
   pub from-received : (m : Message) → List·Memᴰ m (p .buffer) → List·Memᴰ m (p .received)
   pub received : SeenIs sent (heardAt past i) (p .received)
   pub knows :
@@ -90,12 +90,13 @@ pub settles-fresh : (s : Setup) → Settles s 0 0
 settles-fresh s = (omega arith, λ v R h k. omega arith)
 
 pub waits-reads : (s : Setup) (v : ℕ) (m : Message) → Limits s → Waits s v m → ReadsTrue (s .epsilon) (s .modulus) v (m .event .r)
+unfolding messageDue
 waits-reads s v m l h =
     near-true (s .epsilon) (s .modulus) v (m .event .r) (l .epsilon-pos) (omega (arith, l .modulus-least)) (h .not-ahead) (omega (arith, l .modulus-least, h))
 
--- a message that is due later waits at the next clock too
-pub waits-next : (s : Setup) (v : ℕ) (m : Message) → v < m .event .r + m .event .c + s .delta + s .epsilon → Waits s v m → Waits s (v + 1) m
-waits-next s v m later h = record { close = h .close; not-ahead = omega (arith, h .not-ahead); not-due = omega arith }
+-- a message that is due later is held until the next clock, at most ε later
+pub waits-next : (s : Setup) (v k : ℕ) (m : Message) → k ≤ s .epsilon → v < messageDue s m → Waits s v m → Waits s (v + k) m
+waits-next s v k m few later h = record { close = h .close; not-ahead = omega (arith, h .not-ahead); not-long-due = omega arith }
 
 -- a copy has its sender
 copied-sender : (s : Setup) (m : Message) (d : Done) → Copies s m d → m .sender ≡ d .own

@@ -152,10 +152,10 @@ frames-front epsilon bytes long below formed =
 
 -- the frames of a sound queue, encoded, are the front of its bytes
 pub holdback-front :
-    (s : Setup) (v : ℕ) (bytes : List ℕ) → 2 ≤ length bytes → every (λ b. ltb b 256) bytes ≡ true → soundHoldback s v bytes ≡ true
+    (s : Setup) (v least : ℕ) (bytes : List ℕ) → 2 ≤ length bytes → every (λ b. ltb b 256) bytes ≡ true → soundHoldback s v least bytes ≡ true
     → overlay (encodeFrames (held (s .epsilon) bytes)) bytes ≡ bytes
 unfolding soundHoldback
-holdback-front s v bytes long below h =
+holdback-front s v least bytes long below h =
     let h₁ = and-right (leb (twoAt bytes 0) (depth (s .n) (s .epsilon) (s .delta))) _ h in
     let all = and-left (every (passes s) (heldBytes (s .epsilon) bytes)) _ h₁ in
     frames-front (s .epsilon) bytes long below
@@ -163,13 +163,13 @@ holdback-front s v bytes long below h =
 
 -- and where zeros stand behind them, the whole of it is what the tick writes
 pub holdback-whole :
-    (s : Setup) (v : ℕ) (bytes : List ℕ) → length bytes ≡ holdbackSize s → every (λ b. ltb b 256) bytes ≡ true → soundHoldback s v bytes ≡ true
+    (s : Setup) (v least : ℕ) (bytes : List ℕ) → length bytes ≡ holdbackSize s → every (λ b. ltb b 256) bytes ≡ true → soundHoldback s v least bytes ≡ true
     → drop (length (encodeFrames (held (s .epsilon) bytes))) bytes ≡ replicate (holdbackSize s - length (encodeFrames (held (s .epsilon) bytes))) 0
     → encodeHoldback (holdbackSize s) (held (s .epsilon) bytes) ≡ bytes
 unfolding encodeHoldback padded overlay holdbackLength
-holdback-whole s v bytes size below h zeros =
+holdback-whole s v least bytes size below h zeros =
     let e = encodeFrames (held (s .epsilon) bytes) in
-    ap (λ (l : List ℕ). e ++ l) (sym zeros) ∙ holdback-front s v bytes (omega arith) below h
+    ap (λ (l : List ℕ). e ++ l) (sym zeros) ∙ holdback-front s v least bytes (omega arith) below h
 
 -- the frames of a delivery, laid over the caller's buffer
 pub held-delivery :

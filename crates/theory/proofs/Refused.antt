@@ -23,11 +23,11 @@ use Rattle.theory.proofs.HearLoop.{followed-sends}
 use Rattle.theory.proofs.World.{NodeOk, heardAt, Explained, Good, act-is, sends-accepted, nodesAfter}
 
 -- a refused call leaves its node
-pub refused-node : (node : Node) (call : Call) → isAccepted (outputOf node call) ≡ false → nodeAfter node (outputOf node call) ≡ node
+pub refused-node : (node : Node) (call : Call) → isAccepted (outputOf node call) ≡ false → nodeAfter node (call .step) (outputOf node call) ≡ node
 unfolding nodeAfter movedClock outputOf tick isAccepted refusal acceptance inputOf
 refused-node node call h = go (firstNo (callQuestions (inputOf node call))) h
   where
-    go : (k : ℕ) → isAccepted (tickBy k (inputOf node call)) ≡ false → nodeAfter node (tickBy k (inputOf node call)) ≡ node
+    go : (k : ℕ) → isAccepted (tickBy k (inputOf node call)) ≡ false → nodeAfter node (call .step) (tickBy k (inputOf node call)) ≡ node
     go zero e = absurd (clash refl e)
     go (suc k) e = rw (eqb·suc-zero k) refl
 

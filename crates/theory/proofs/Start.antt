@@ -2,7 +2,6 @@
 -- Assumes nothing.
 use Prim.Native.Nat.{ℕ, zero, suc, _+_, _%_, _≤_, _<_}
 use native.Mathlib.Omega.{arith}
-use native.Mathlib.Numerals.{add-one}
 use mathlib.Core.Path.{_≡_, refl, sym, ap, subst, _∙_}
 use mathlib.Core.Logic.{_⊎_, inl, inr}
 use mathlib.Core.Bool.{Bool, true, false, _&&_, _||_, not}
@@ -11,7 +10,7 @@ use mathlib.Core.Option.{Option, none, some}
 use lib.Dec.{leb, eqb}
 use lib.ListN.{length, getD, getElem?}
 use borrow.Author.Tests.{leb-true, eqb-true, eq-eqb}
-use Rattle.laws.specs.Lists.{every, any, sameList}
+use Rattle.laws.specs.Lists.{within, every, any, sameList}
 use Rattle.laws.proofs.Numbers.{eq-or-ne, lt-or-gt, clash, and-left, and-right}
 use Rattle.laws.proofs.Lists.{every-mem, getElem?-mem, getElem?-lt, getElem?-getD, mem-getElem?, largest-map-mem, sameList-true}
 use Rattle.laws.proofs.Sorted.{pairwise-of-apart, apart-index, pigeonhole}
@@ -19,7 +18,7 @@ use Rattle.model.specs.Setup.{Setup}
 use Rattle.model.specs.Batch.{batchEntries}
 use Rattle.model.specs.Tick.{holdbackSize}
 use Rattle.model.specs.Run.{Node, Source, sentBy, stale, Call, Done, World, isAccepted, outputOf, doneOf, movedClock, act, atStart, sends, messageBytes}
-use Rattle.theory.specs.Premises.{sameSetup, together, distinct, validFor, exactHoldback, goodStart, largestClock, staleUntil, heardInTime, entryAllowed, entriesAllowed, oneSetup, trueClock, hearsAllowed, acceptedWell, allowedFor, allowed}
+use Rattle.theory.specs.Premises.{sameSetup, together, distinct, validFor, exactHoldback, goodStart, largestClock, staleUntil, heardInTime, entryAllowed, entriesAllowed, oneSetup, trueClock, stepAllowed, hearsAllowed, acceptedWell, allowedFor, allowed}
 use Rattle.lemmas.proofs.Questions.{setup-from}
 use Rattle.lemmas.proofs.Bounds.{Limits}
 use Rattle.theory.proofs.World.{heardAt, Group, Good, SentEntry, EntryOk, Legal}
@@ -150,20 +149,20 @@ entry-fact s x floor past nodes v bytes (sentBy k) early h = go (getElem? past k
           near-by = leb-true _ _ (and-right (sameList bytes (messageBytes m)) _ a);
         }
 
-moved : (node : Node) (call : Call) → isAccepted (outputOf node call) ≡ true → doneOf node call .clock ≡ node .clock + 1
+moved : (node : Node) (call : Call) → isAccepted (outputOf node call) ≡ true → doneOf node call .clock ≡ node .clock + call .step
 unfolding doneOf movedClock
-moved node call acc = rw acc (sym (add-one (node .clock)))
+moved node call acc = rw acc refl
 
 -- an accepted call that is allowed
 legal-fact :
     (s : Setup) (x floor : ℕ) (w : World) (call : Call) (node : Node) → ((v : ℕ) → v ≤ staleUntil s x → v + s .epsilon ≤ floor)
     → getElem? (w .nodes) (call .node) ≡ some node → isAccepted (outputOf node call) ≡ true → acceptedWell s x w call (doneOf node call) ≡ true → Legal s floor w call node (doneOf node call .clock)
-unfolding acceptedWell oneSetup trueClock hearsAllowed
+unfolding acceptedWell oneSetup trueClock stepAllowed within hearsAllowed
 legal-fact s x floor w call node early at acc h =
     record {
       at = at;
-      called = record { accepted = acc; setup-is = setup-fact; own-is = own-fact; clock-is = clock-fact; turn = moved node call acc };
-      together = together-fact (s .epsilon) (act w call .nodes) (and-left (together (s .epsilon) (act w call .nodes)) E h2);
+      called = record { accepted = acc; setup-is = setup-fact; own-is = own-fact; clock-is = clock-fact; turn = moved node call acc; step-pos = leb-true 1 (call .step) (and-left (leb 1 (call .step)) (leb (call .step) (s .epsilon)) steps); step-few = leb-true (call .step) (s .epsilon) (and-right (leb 1 (call .step)) (leb (call .step) (s .epsilon)) steps) };
+      together = together-fact (s .epsilon) (act w call .nodes) (and-left (together (s .epsilon) (act w call .nodes)) E h3);
       lengths = entries-lengths s x (w .past) (act w call .nodes) (doneOf node call .clock) (batchEntries (call .batch)) (call .sources) entries;
       entry = λ e bytes o p q.
           entry-fact s x floor (w .past) (act w call .nodes) (doneOf node call .clock) bytes o (early (doneOf node call .clock))
@@ -179,17 +178,26 @@ legal-fact s x floor w call node early at acc h =
     S : Bool
     S = sameSetup (call .setup) s && eqb (call .own) (doneOf node call .own)
 
-    h1 : (C && (together (s .epsilon) (act w call .nodes) && E)) ≡ true
-    h1 = and-right S (C && (together (s .epsilon) (act w call .nodes) && E)) h
+    K : Bool
+    K = leb 1 (call .step) && leb (call .step) (s .epsilon)
 
-    h2 : (together (s .epsilon) (act w call .nodes) && E) ≡ true
-    h2 = and-right C (together (s .epsilon) (act w call .nodes) && E) h1
+    h1 : (C && (K && (together (s .epsilon) (act w call .nodes) && E))) ≡ true
+    h1 = and-right S (C && (K && (together (s .epsilon) (act w call .nodes) && E))) h
+
+    h2 : (K && (together (s .epsilon) (act w call .nodes) && E)) ≡ true
+    h2 = and-right C (K && (together (s .epsilon) (act w call .nodes) && E)) h1
+
+    h3 : (together (s .epsilon) (act w call .nodes) && E) ≡ true
+    h3 = and-right K (together (s .epsilon) (act w call .nodes) && E) h2
 
     entries : E ≡ true
-    entries = and-right (together (s .epsilon) (act w call .nodes)) E h2
+    entries = and-right (together (s .epsilon) (act w call .nodes)) E h3
+
+    steps : K ≡ true
+    steps = and-left K (together (s .epsilon) (act w call .nodes) && E) h2
 
     one : S ≡ true
-    one = and-left S (C && (together (s .epsilon) (act w call .nodes) && E)) h
+    one = and-left S (C && (K && (together (s .epsilon) (act w call .nodes) && E))) h
 
     setup-fact : call .setup ≡ s
     setup-fact = same-setup (call .setup) s (and-left (sameSetup (call .setup) s) (eqb (call .own) (doneOf node call .own)) one)
@@ -198,7 +206,7 @@ legal-fact s x floor w call node early at acc h =
     own-fact = eqb-true (call .own) (node .own) (unfold doneOf in (and-right (sameSetup (call .setup) s) (eqb (call .own) (doneOf node call .own)) one))
 
     clock-fact : call .clock ≡ doneOf node call .clock % s .modulus
-    clock-fact = eqb-true (call .clock) (doneOf node call .clock % s .modulus) (and-left C (together (s .epsilon) (act w call .nodes) && E) h1)
+    clock-fact = eqb-true (call .clock) (doneOf node call .clock % s .modulus) (and-left C (K && (together (s .epsilon) (act w call .nodes) && E)) h1)
 
 -- a call that is allowed
 pub allowed-fact :

@@ -3,7 +3,7 @@
 -- Assumes nothing.
 use Prim.Native.Nat.{ℕ, _+_, _%_, _≤_, _<_, Ordering·lt}
 use mathlib.Core.Path.{_≡_, ap, _∙_}
-use mathlib.Core.Bool.{Bool, true, false, _&&_, _||_, cond}
+use mathlib.Core.Bool.{Bool, true, false, _&&_, _||_, not, cond}
 use mathlib.Core.List.{List, [], _∷_, _++_, map, List·Memᴰ}
 use mathlib.Core.Logic.{_⊎_, inl, inr}
 use mathlib.Core.Option.{Option, some}
@@ -16,13 +16,14 @@ use Rattle.laws.proofs.Lists.{countOf, getElem?-lt, getElem?-set-same, getElem?
 use Rattle.model.specs.Setup.{Setup}
 use Rattle.model.specs.Timestamp.{Timestamp, trimmed}
 use Rattle.model.specs.Frame.{Frame, encode, decode}
-use Rattle.model.specs.Order.{readingOf, key, due}
+use Rattle.model.specs.Order.{readingOf, key, due, dueNear}
 use Rattle.model.specs.Batch.{batchEntries}
 use Rattle.model.specs.Holdback.{heldBytes, held, passes}
 use Rattle.model.specs.Codec.{frameOf}
+use Rattle.model.specs.Tick.{leastDue, openingQueue, dueBefore}
 use Rattle.model.specs.Run.{Node, Source, sentBy, stale, Call, Done, World, isAccepted, outputOf, doneOf, nodeAfter, act, actOn, sends, messageBytes, messageFrame}
 use Rattle.theory.specs.Premises.{clockAt}
-use Rattle.theory.specs.Demand3.{isFrom, heardIn, dueAt, earlier, newTimestamp, written}
+use Rattle.theory.specs.Demand3.{isFrom, heardIn, dueIn, earlier, newTimestamp, written}
 use Rattle.lemmas.proofs.Bounds.{Limits, Sound, FrameOk}
 use Rattle.lemmas.proofs.Counts.{Left}
 use Rattle.lemmas.proofs.Queue.{QueueLeft}
@@ -78,7 +79,7 @@ AllPresent s from past heard v queue =
     (k : ℕ) (m : Done) → getElem? past k ≡ some m → followed from m ≡ true → heard k ≡ true
     → v ≤ due s (m .clock) (eventFrame s m .stamp .c) → List·Memᴰ (eventFrame s m) queue
 
--- and each that is due after v: such lie there once those due at v are delivered
+-- and each that is due after v: such lie there once those due by v are delivered
 abbrev pub AllWaiting : Setup → ℕ → List Done → (ℕ → Bool) → ℕ → List Frame → Type 0
 AllWaiting s from past heard v queue =
     (k : ℕ) (m : Done) → getElem? past k ≡ some m → followed from m ≡ true → heard k ≡ true
@@ -121,11 +122,23 @@ pub record Group (s : Setup) (nodes : List Node) : Type 0 where
   pub together : (i j : ℕ) (a b : Node) → getElem? nodes i ≡ some a → getElem? nodes j ≡ some b → a .clock ≤ b .clock + s .epsilon
   pub few : length nodes ≤ s .n
 
--- what a call of node i for v starts from
-pub record Opens (s : Setup) (floor from : ℕ) (w : World) (i v : ℕ) (t : Timestamp) (queue : List Frame) : Type 0 where
+-- the queue with which a call for v starts, as found or emptied, and what of it is not due before v
+abbrev pub openedAt : Setup → ℕ → Node → List Frame
+openedAt s v node = openingQueue s (v % s .modulus) (leastDue s (v % s .modulus) (node .tables)) (node .holdback)
+
+abbrev pub earlyAt : Setup → ℕ → Node → List Frame
+earlyAt s v node = select (dueBefore s (v % s .modulus)) (openedAt s v node)
+
+abbrev pub restAt : Setup → ℕ → Node → List Frame
+restAt s v node = select (λ f. not (dueBefore s (v % s .modulus) f)) (openedAt s v node)
+
+-- what a call of node i for v starts from, its clock before that being `last`: the stamp, and the queue as found or emptied, with what is due before v
+pub record Opens (s : Setup) (floor from : ℕ) (w : World) (i last v : ℕ) (t : Timestamp) (queue : List Frame) : Type 0 where
   pub bounded : Bounded s floor (w .nodes) v (t .kn)
   pub members : AllExplained s from (w .past) (heardAt (w .past) i) v queue
-  pub present : AllPresent s from (w .past) (heardAt (w .past) i) v queue
+  -- a frame there that is followed is due past `last`
+  pub later : (f : Frame) → List·Memᴰ f queue → s .modulus + from ≤ readingOf s (v % s .modulus) f + v → s .modulus + last < dueNear s (v % s .modulus) f + v
+  pub waiting : AllWaiting s from (w .past) (heardAt (w .past) i) last queue
   pub passed-on : (k : ℕ) (d : Done) → getElem? (w .past) k ≡ some d → isAccepted (d .output) ≡ true → d .node ≡ i → Passed-on s d v t
 
 -- what a call leaves in its node's memory, at the node's own clock: sound tables, and a shelf of frames that pass 10 to 12
@@ -176,13 +189,15 @@ abbrev pub EntryOk : Setup → ℕ → List Done → List Node → ℕ → List 
 EntryOk s floor past nodes v entry (sentBy k) = SentEntry s past nodes entry k
 EntryOk s floor past nodes v entry stale = v + s .epsilon ≤ floor
 
--- a node's call for v: accepted, of the one setup. 01: v is one after the node's clock
+-- a node's call for v: accepted, of the one setup, and 1 to ε after the node's clock
 pub record Due-call (s : Setup) (node : Node) (call : Call) (v : ℕ) : Type 0 where
   pub accepted : isAccepted (outputOf node call) ≡ true
   pub setup-is : call .setup ≡ s
   pub own-is : call .own ≡ node .own
   pub clock-is : call .clock ≡ v % s .modulus
-  pub turn : v ≡ node .clock + 1
+  pub turn : v ≡ node .clock + call .step
+  pub step-pos : 1 ≤ call .step
+  pub step-few : call .step ≤ s .epsilon
 
 -- an accepted call of a node that keeps the premises
 pub record Legal (s : Setup) (floor : ℕ) (w : World) (call : Call) (node : Node) (v : ℕ) : Type 0 where
@@ -194,7 +209,7 @@ pub record Legal (s : Setup) (floor : ℕ) (w : World) (call : Call) (node : Nod
 
 -- the nodes after a call of one of them
 abbrev pub nodesAfter : List Node → Call → Node → List Node
-nodesAfter nodes call node = set nodes (call .node) (nodeAfter node (outputOf node call))
+nodesAfter nodes call node = set nodes (call .node) (nodeAfter node (call .step) (outputOf node call))
 
 pub act-is :
     (w : World) (call : Call) (node : Node) → getElem? (w .nodes) (call .node) ≡ some node
@@ -203,11 +218,11 @@ unfolding act
 act-is w call node at = ap (λ (o : Option Node). actOn o w call) at
 
 -- the one that made it, and the others
-pub after-at : (nodes : List Node) (call : Call) (node : Node) → getElem? nodes (call .node) ≡ some node → getElem? (nodesAfter nodes call node) (call .node) ≡ some (nodeAfter node (outputOf node call))
-after-at nodes call node at = getElem?-set-same nodes (call .node) (nodeAfter node (outputOf node call)) (getElem?-lt nodes (call .node) at)
+pub after-at : (nodes : List Node) (call : Call) (node : Node) → getElem? nodes (call .node) ≡ some node → getElem? (nodesAfter nodes call node) (call .node) ≡ some (nodeAfter node (call .step) (outputOf node call))
+after-at nodes call node at = getElem?-set-same nodes (call .node) (nodeAfter node (call .step) (outputOf node call)) (getElem?-lt nodes (call .node) at)
 
 pub after-other : (nodes : List Node) (call : Call) (node : Node) (j : ℕ) → (call .node ≡ j → ⊥) → getElem? (nodesAfter nodes call node) j ≡ getElem? nodes j
-after-other nodes call node j ne = getElem?-set-other nodes (call .node) j (nodeAfter node (outputOf node call)) ne
+after-other nodes call node j ne = getElem?-set-other nodes (call .node) j (nodeAfter node (call .step) (outputOf node call)) ne
 
 -- their clocks keep the drift limit
 pub after-together :
@@ -222,9 +237,9 @@ pub sends-accepted : (m : Done) → sends m ≡ true → isAccepted (m .output) 
 unfolding sends
 sends-accepted m e = and-left (isAccepted (m .output)) (m .call .send) e
 
--- the followed messages heard at a node that are due at v
-unfoldable pub dueFollowed : Setup → ℕ → List Done → ℕ → ℕ → List Done
-dueFollowed s from past node v = selectFrom (λ k m. followed from m && (dueAt s v m && any (heardIn node k) past)) 0 past
+-- the followed messages heard at a node that are due past `last` and not past v
+unfoldable pub dueFollowed : Setup → ℕ → List Done → ℕ → ℕ → ℕ → List Done
+dueFollowed s from past node last v = selectFrom (λ k m. followed from m && (dueIn s last v m && any (heardIn node k) past)) 0 past
 
 unfoldable pub followedFrame : Setup → ℕ → ℕ → List ℕ → Bool
 followedFrame s from v bytes =
@@ -239,7 +254,7 @@ pub record Kept (s : Setup) (from : ℕ) (past : List Done) (d : Done) : Type 0 
       → getD (d .output .verdicts) e 0 ≡ cond (heardAt past (d .node) k || any (isFrom k) (take e (d .call .sources))) 16 0
   pub delivering :
       select (followedFrame s from (d .clock)) (heldBytes (s .epsilon) (d .output .delivery))
-      ≡ map messageBytes (sortBy (earlier s) (dueFollowed s from (past ++ (d ∷ [])) (d .node) (d .clock)))
+      ≡ map messageBytes (sortBy (earlier s) (dueFollowed s from (past ++ (d ∷ [])) (d .node) (d .last) (d .clock)))
   pub later :
       (k : ℕ) (a : Done) → getElem? past k ≡ some a → isAccepted (a .output) ≡ true → a .node ≡ d .node
       → lexCompare (eventKey s a) (eventKey s d) ≡ Ordering·lt

@@ -15,10 +15,10 @@ use Rattle.model.specs.Holdback.{heldBytes, held, soundHoldback, encodeFrames, 
 use Rattle.model.specs.Question.{firstNo}
 use Rattle.model.specs.Codec.{read, write}
 use Rattle.model.specs.Judge.{Heard, hear, judgeQuestions}
-use Rattle.model.specs.Tick.{Input, holdbackSize, opening, sentBytes, deliveredOf, takenCount, tick}
-use Rattle.model.specs.Published.{Event, Message, Process, inOrder, sameMessage, newOnes, eventOf, messageOf, deliveredAt, advanced, started}
+use Rattle.model.specs.Tick.{Input, holdbackSize, leastDue, opening, sentBytes, deliveredOf, takenCount, tick}
+use Rattle.model.specs.Published.{Event, Message, Process, Condition, deliverable, deliverableBy, inOrder, sameMessage, newOnes, eventOf, messageOf, deliveredAt, advanced, started}
 use Rattle.model.specs.Run.{Node, Source, sentBy, stale, Call, Done, isAccepted, runFrom, atStart}
-use Rattle.theory.specs.Premises.{goodStart, largestClock, keeps, allFresh, noneStale}
+use Rattle.theory.specs.Premises.{goodStart, largestClock, keeps, allFresh, noneStale, stepsOfOne}
 
 -- what a tick has heard before its entry k
 unfoldable pub heardBefore : Input → ℕ → Heard
@@ -31,11 +31,11 @@ pub record AnyState (i : Input) : Type 0 where
   pub verdict :
       (k : ℕ) (entry : List ℕ) → getElem? (batchEntries (i .batch)) k ≡ some entry
       → getD (tick i .verdicts) k 0 ≡ firstNo (judgeQuestions (i .setup) (i .clock) (heardBefore i k .queue) entry)
-  -- "(mend 1)", "(mend 2; both, mend 3)": 1 exactly if the tables are unsound for this clock, 2 exactly if the shelf is, else 0
+  -- "(mend 1)", "(mend 2; both, mend 3)": 1 exactly if the tables are unsound for this clock, 2 exactly if the shelf is, after them, else 0
   pub repair :
       tick i .answer .repair
       ≡ cond (soundTables (i .setup .n) (i .setup .epsilon) (i .setup .modulus) (i .clock) (trimmed (i .setup .epsilon) (i .tables))) 0 1
-      + cond (soundHoldback (i .setup) (i .clock) (i .holdback)) 0 2
+      + cond (soundHoldback (i .setup) (i .clock) (leastDue (i .setup) (i .clock) (i .tables)) (i .holdback)) 0 2
   -- "the figures count what they say": taken counts the 0s, handed out the frames of the hand-out
   pub taken : tick i .answer .taken ≡ takenCount (take (length (batchEntries (i .batch))) (tick i .verdicts))
   pub delivered : tick i .answer .delivered ≡ length (deliveredOf i)
@@ -44,12 +44,15 @@ pub record AnyState (i : Input) : Type 0 where
   -- "outgoing length (0 if none)": the bytes of the frame sent, none where nothing is to be sent
   pub sent : tick i .answer .sent ≡ length (sentBytes i)
   pub outgoing : take (tick i .answer .sent) (tick i .outgoing) ≡ sentBytes i
-  -- "Stamps stay within their bounds after every tick": the tables are sound for the next clock
+  -- "Stamps stay within their bounds after every tick": the tables are sound for every next clock 1 to ε ahead
   pub bounded :
-      soundTables (i .setup .n) (i .setup .epsilon) (i .setup .modulus) ((i .clock + 1) % i .setup .modulus)
+      (k : ℕ) → 1 ≤ k → k ≤ i .setup .epsilon
+      → soundTables (i .setup .n) (i .setup .epsilon) (i .setup .modulus) ((i .clock + k) % i .setup .modulus)
       (trimmed (i .setup .epsilon) (tick i .answer .tables)) ≡ true
-  -- and so is the shelf, with each stamp on it
-  pub boundedQueue : soundHoldback (i .setup) ((i .clock + 1) % i .setup .modulus) (tick i .holdback) ≡ true
+  -- and so is the shelf, with each stamp on it: "each frame is due after the last clock", which lies k before the next
+  pub boundedQueue :
+      (k : ℕ) → 1 ≤ k → k ≤ i .setup .epsilon
+      → soundHoldback (i .setup) ((i .clock + k) % i .setup .modulus) (i .setup .modulus + 1 - k) (tick i .holdback) ≡ true
 
 -- Demand 2 from any state, of every accepted call
 abbrev pub Demand2Any : Type 0
@@ -81,7 +84,7 @@ pub record RoundTrips (s : Setup) (own : ℕ) : Type 0 where
       → held (s .epsilon) (encodeHoldback size queue) ≡ queue
   -- a sound shelf with zeros behind its frames is what is made of these frames
   pub holdbackWritten :
-      (v : ℕ) (bytes : List ℕ) → length bytes ≡ holdbackSize s → areBytes bytes ≡ true → soundHoldback s v bytes ≡ true
+      (v least : ℕ) (bytes : List ℕ) → length bytes ≡ holdbackSize s → areBytes bytes ≡ true → soundHoldback s v least bytes ≡ true
       → drop (length (encodeFrames (held (s .epsilon) bytes))) bytes
       ≡ replicate (holdbackSize s - length (encodeFrames (held (s .epsilon) bytes))) 0
       → encodeHoldback (holdbackSize s) (held (s .epsilon) bytes) ≡ bytes
@@ -131,38 +134,38 @@ pub record Outcome : Type 0 where
   pub delivered : List Message
   pub buffer : List Message
 
--- the same for a call for a clock, with the messages that its entries come from
-unfoldable pub outcomeOf : Setup → List (Option Message) → Process → ℕ → Call → Outcome
-outcomeOf s sent p clock call =
+-- the same for a call for a clock, with the messages that its entries come from, by a condition of delivery
+unfoldable pub outcomeOf : Condition → Setup → List (Option Message) → Process → ℕ → Call → Outcome
+outcomeOf delcond s sent p clock call =
     record {
       newMessages = newOnes (p .received) (messagesHeard sent (call .sources));
       verdicts = verdictsOn (p .received) (messagesHeard sent (call .sources));
       last = eventOf (s .epsilon) clock p (messagesHeard sent (call .sources));
       message = messageOf (s .epsilon) clock p (messagesHeard sent (call .sources)) (call .payload);
-      delivered = deliveredAt (s .epsilon) (s .delta) clock p (messagesHeard sent (call .sources));
-      buffer = advanced (s .epsilon) (s .delta) clock p (messagesHeard sent (call .sources)) .buffer;
+      delivered = deliveredAt delcond (s .epsilon) (s .delta) clock p (messagesHeard sent (call .sources));
+      buffer = advanced delcond (s .epsilon) (s .delta) clock p (messagesHeard sent (call .sources)) .buffer;
     }
 
 -- an accepted call is an event of its process, a refused one is none
-abbrev pub publishOn : Setup → Published → Done → Bool → Option Process → Published
-publishOn s w d accepted none = record { processes = w .processes; sent = w .sent ++ (none ∷ []) }
-publishOn s w d false (some p) = record { processes = w .processes; sent = w .sent ++ (none ∷ []) }
-publishOn s w d true (some p) =
+abbrev pub publishOn : Condition → Setup → Published → Done → Bool → Option Process → Published
+publishOn delcond s w d accepted none = record { processes = w .processes; sent = w .sent ++ (none ∷ []) }
+publishOn delcond s w d false (some p) = record { processes = w .processes; sent = w .sent ++ (none ∷ []) }
+publishOn delcond s w d true (some p) =
     record {
       processes =
           set (w .processes) (d .node)
-          (advanced (s .epsilon) (s .delta) (d .clock) p (messagesHeard (w .sent) (d .call .sources)));
-      sent = w .sent ++ (cond (d .call .send) (some (outcomeOf s (w .sent) p (d .clock) (d .call) .message)) none ∷ []);
+          (advanced delcond (s .epsilon) (s .delta) (d .clock) p (messagesHeard (w .sent) (d .call .sources)));
+      sent = w .sent ++ (cond (d .call .send) (some (outcomeOf delcond s (w .sent) p (d .clock) (d .call) .message)) none ∷ []);
     }
 
 -- what a call makes of the published program
-unfoldable pub publish : Setup → Published → Done → Published
-publish s w d = publishOn s w d (isAccepted (d .output)) (getElem? (w .processes) (d .node))
+unfoldable pub publish : Condition → Setup → Published → Done → Published
+publish delcond s w d = publishOn delcond s w d (isAccepted (d .output)) (getElem? (w .processes) (d .node))
 
 -- what a list of calls makes of it
-unfoldable pub publishAll : Setup → Published → List Done → Published
-publishAll s w [] = w
-publishAll s w (d ∷ ds) = publishAll s (publish s w d) ds
+unfoldable pub publishAll : Condition → Setup → Published → List Done → Published
+publishAll delcond s w [] = w
+publishAll delcond s w (d ∷ ds) = publishAll delcond s (publish delcond s w d) ds
 
 -- the published program's processes, fresh at the stations' clocks
 unfoldable pub publishedStart : Setup → List Node → Published
@@ -202,14 +205,36 @@ pub record SameAs (s : Setup) (o : Outcome) (d : Done) : Type 0 where
   pub delivered : d .output .answer .delivered ≡ length (o .delivered)
 
 -- the process of the call's station, as the calls before it left it, does the same
-abbrev pub Matched : Setup → Published → Done → Type 0
-Matched s w d =
-    (p : Process) × (getElem? (w .processes) (d .node) ≡ some p) × SameAs s (outcomeOf s (w .sent) p (d .clock) (d .call)) d
+abbrev pub Matched : Condition → Setup → Published → Done → Type 0
+Matched delcond s w d =
+    (p : Process) × (getElem? (w .processes) (d .node) ≡ some p) × SameAs s (outcomeOf delcond s (w .sent) p (d .clock) (d .call)) d
 
--- From fresh stations: of every accepted call of the list
+-- the published program after the first j calls
+abbrev pub publishedAfter : Condition → Setup → List Node → List Call → ℕ → Published
+publishedAfter delcond s nodes calls j =
+    publishAll delcond s (publishedStart s nodes) (take j (runFrom (atStart nodes) calls .past))
+
+-- From fresh stations: of every accepted call of the list. 02, 2.2: the published program "that delivers at the first event at or past"
 abbrev pub Demand2Fresh : Type 0
 Demand2Fresh =
     (s : Setup) (nodes : List Node) (calls : List Call) → goodStart s nodes ≡ true → allFresh s nodes ≡ true
     → keeps s (largestClock nodes) (atStart nodes) calls ≡ true → noneStale (runFrom (atStart nodes) calls .past) ≡ true
     → (j : ℕ) (d : Done) → getElem? (runFrom (atStart nodes) calls .past) j ≡ some d → isAccepted (d .output) ≡ true
-    → Matched s (publishAll s (publishedStart s nodes) (take j (runFrom (atStart nodes) calls .past))) d
+    → Matched deliverableBy s (publishedAfter deliverableBy s nodes calls j) d
+
+-- Where all steps are one this is Equation 4.11's program: both have done the same after any number of these calls
+abbrev pub OneProgram : Type 0
+OneProgram =
+    (s : Setup) (nodes : List Node) (calls : List Call) → goodStart s nodes ≡ true → allFresh s nodes ≡ true
+    → keeps s (largestClock nodes) (atStart nodes) calls ≡ true → noneStale (runFrom (atStart nodes) calls .past) ≡ true
+    → stepsOfOne (runFrom (atStart nodes) calls .past) ≡ true
+    → (j : ℕ) → publishedAfter deliverable s nodes calls j ≡ publishedAfter deliverableBy s nodes calls j
+
+-- and so every tick does what Equation 4.11's program does, as 01 has it
+abbrev pub Demand2Ones : Type 0
+Demand2Ones =
+    (s : Setup) (nodes : List Node) (calls : List Call) → goodStart s nodes ≡ true → allFresh s nodes ≡ true
+    → keeps s (largestClock nodes) (atStart nodes) calls ≡ true → noneStale (runFrom (atStart nodes) calls .past) ≡ true
+    → stepsOfOne (runFrom (atStart nodes) calls .past) ≡ true
+    → (j : ℕ) (d : Done) → getElem? (runFrom (atStart nodes) calls .past) j ≡ some d → isAccepted (d .output) ≡ true
+    → Matched deliverable s (publishedAfter deliverable s nodes calls j) d

@@ -4,7 +4,7 @@ use mathlib.Core.Path.{_≡_}
 use mathlib.Core.Bool.{Bool, true, false, _&&_, _||_, cond}
 use mathlib.Core.List.{List, map}
 use mathlib.Core.Option.{some}
-use lib.Dec.{leb, eqb}
+use lib.Dec.{leb, ltb, eqb}
 use lib.ListN.{take, getD, getElem?}
 use Rattle.laws.specs.Lists.{any, select, selectFrom, sortBy}
 use Rattle.laws.specs.Lex.{lexCompare, isLess}
@@ -34,9 +34,14 @@ isFrom k stale = false
 unfoldable pub heardIn : ℕ → ℕ → Done → Bool
 heardIn node k d = isAccepted (d .output) && (eqb (d .node) node && any (isFrom k) (d .call .sources))
 
--- 01: "due at v": sum + δ + ε equals v
-unfoldable pub dueAt : Setup → ℕ → Done → Bool
-dueAt s v m = eqb (due s (m .clock) (messageFrame m .stamp .c)) v
+-- 01: the due clock of a message, sum + δ + ε
+unfoldable pub dueClock : Setup → Done → ℕ
+dueClock s m = due s (m .clock) (messageFrame m .stamp .c)
+
+-- 02, 2.2: handed out "at the first tick at or past its due clock": the due clock is past the station's clock before a call, and not past v.
+-- Where the step is one, it is v
+unfoldable pub dueIn : Setup → ℕ → ℕ → Done → Bool
+dueIn s last v m = ltb last (dueClock s m) && leb (dueClock s m) v
 
 -- 01: "the order of two stamps", each with its true clock
 unfoldable pub messageKey : Setup → Done → List ℕ
@@ -46,9 +51,9 @@ messageKey s m = key s (m .clock) (messageFrame m)
 unfoldable pub earlier : Setup → Done → Done → Bool
 earlier s m m′ = isLess (lexCompare (messageKey s m) (messageKey s m′))
 
--- 01: "the covered messages heard there so far (this call too) that are due at v, each once"
-unfoldable pub dueHere : Setup → ℕ → List Done → ℕ → ℕ → List Done
-dueHere s x past node v = selectFrom (λ k m. covered s x m && (dueAt s v m && any (heardIn node k) past)) 0 past
+-- 01: "the covered messages heard there so far (this call too) that are due", each once, in the call that moves the clock from `last` to v
+unfoldable pub dueHere : Setup → ℕ → List Done → ℕ → ℕ → ℕ → List Done
+dueHere s x past node last v = selectFrom (λ k m. covered s x m && (dueIn s last v m && any (heardIn node k) past)) 0 past
 
 -- 01: a handed-out frame "whose r, read near v, is at least T"; v reads B
 unfoldable pub coveredFrame : Setup → ℕ → ℕ → List ℕ → Bool
@@ -87,11 +92,12 @@ pub record Promised (s : Setup) (x : ℕ) (past : List Done) : Type 0 where
       → getD (d .output .verdicts) e 0
       ≡ cond (any (heardIn (d .node) k) (take j past) || any (isFrom k) (take e (d .call .sources))) 16 0
   -- "In each accepted call for v, the handed-out frames whose r, read near v, is at least T are byte for byte the covered messages
-  -- heard there so far (this call too) that are due at v, each once, in the order of two stamps."
+  -- heard there so far (this call too) that are due at v, each once, in the order of two stamps." 02, 2.2: that are due past the clock
+  -- before this call and not past v
   pub delivering :
       (j : ℕ) (d : Done) → getElem? past j ≡ some d → isAccepted (d .output) ≡ true
       → select (coveredFrame s x (d .clock)) (heldBytes (s .epsilon) (d .output .delivery))
-      ≡ map messageBytes (sortBy (earlier s) (dueHere s x (take (j + 1) past) (d .node) (d .clock)))
+      ≡ map messageBytes (sortBy (earlier s) (dueHere s x (take (j + 1) past) (d .node) (d .last) (d .clock)))
   -- "A sending could have known of each message whose call leads to its own; where both are covered, that message comes first in the order of two stamps."
   pub causality :
       (i j : ℕ) (a b : Done) → Leads past i j → getElem? past i ≡ some a → getElem? past j ≡ some b

@@ -5,7 +5,7 @@ use mathlib.Core.List.{List, [], _∷_, map}
 use mathlib.Core.Option.{Option, none, some}
 use lib.Dec.{leb, eqb}
 use lib.ListN.{length, getElem?}
-use Rattle.laws.specs.Lists.{every, apart, largest, sameList}
+use Rattle.laws.specs.Lists.{within, every, apart, largest, sameList}
 use Rattle.model.specs.Setup.{Setup, inLimits, isMember}
 use Rattle.model.specs.Timestamp.{Timestamp, fresh, trimmed}
 use Rattle.model.specs.Frame.{twoAt}
@@ -82,15 +82,20 @@ oneSetup s call d = sameSetup (call .setup) s && eqb (call .own) (d .own)
 unfoldable pub trueClock : Setup → Call → Done → Bool
 trueClock s call d = eqb (call .clock) (d .clock % s .modulus)
 
+-- 02, 2.2: "The time service now moves a slow station forward by several ticks", by "A step of 1 to ε"
+unfoldable pub stepAllowed : Setup → Call → Bool
+stepAllowed s call = within 1 (s .epsilon) (call .step)
+
 -- what it hears, with the stations as they stand after it
 unfoldable pub hearsAllowed : Setup → ℕ → World → Call → Done → Bool
 hearsAllowed s x w call d =
     entriesAllowed s x (w .past) (act w call .nodes) (d .clock) (batchEntries (call .batch)) (call .sources)
 
--- 01: an accepted call: the one setup, the true clock, the drift limit kept after it ("limits ε and δ kept"), and what it may hear
+-- 01: an accepted call: the one setup, the true clock and its step, the drift limit kept after it ("limits ε and δ kept"), and what it may hear
 unfoldable pub acceptedWell : Setup → ℕ → World → Call → Done → Bool
 acceptedWell s x w call d =
-    oneSetup s call d && (trueClock s call d && (together (s .epsilon) (act w call .nodes) && hearsAllowed s x w call d))
+    oneSetup s call d && (trueClock s call d && (stepAllowed s call
+    && (together (s .epsilon) (act w call .nodes) && hearsAllowed s x w call d)))
 
 -- 01: "A refused call may stand anywhere, given its station's tables and shelf and whatever else"
 abbrev pub allowedFor : Setup → ℕ → World → Call → Option Node → Bool
@@ -130,3 +135,7 @@ isSent stale = false
 -- 01, demand 2: "no older frame exists"
 unfoldable pub noneStale : List Done → Bool
 noneStale past = every (λ d. not (isAccepted (d .output)) || every isSent (d .call .sources)) past
+
+-- 01: "a clock moves by one": of every accepted call
+unfoldable pub stepsOfOne : List Done → Bool
+stepsOfOne past = every (λ d. not (isAccepted (d .output)) || eqb (d .call .step) 1) past

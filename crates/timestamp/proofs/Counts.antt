@@ -55,11 +55,12 @@ padded-more w l k h =
     let e : k + (w - (length l + k)) ≡ w - length l = omega arith in
     rw (length-append, length-replicate, append-assoc, replicate-append-replicate, e)
 
--- the counts but the first
-pub drop-one-take : (w : ℕ) (l : List ℕ) → drop 1 (take w l) ≡ take (w - 1) (drop 1 l)
-drop-one-take zero l = refl
-drop-one-take (suc w) [] = sym (take-nil (suc w - 1))
-drop-one-take (suc w) (x ∷ l) = let e : suc w - 1 ≡ w = omega arith in rw e
+-- the counts but the first k
+pub drop-of-take : (k w : ℕ) (l : List ℕ) → drop k (take w l) ≡ take (w - k) (drop k l)
+drop-of-take zero w l = let e : w - 0 ≡ w = omega arith in rw e
+drop-of-take (suc k) zero l = let e : 0 - suc k ≡ 0 = omega arith in rw e
+drop-of-take (suc k) (suc w) [] = sym (take-nil (suc w - suc k))
+drop-of-take (suc k) (suc w) (x ∷ l) = let e : suc w - suc k ≡ w - k = omega arith in rw e (drop-of-take k w l)
 
 -- a timestamp's 2ε counts are the first 2ε of its places
 pub trimmed-take : (epsilon : ℕ) (t : Timestamp) → width epsilon ≤ length (t .kn)

@@ -1,7 +1,7 @@
 -- A clock read near v, and a count found by the clock that it is for.
 -- Assumes nothing.
 use Prim.Native.Nat.{ℕ, _+_, _-_, _%_, _≤_, _<_, max}
-use native.Mathlib.Nat.{mod-eq-of-lt, mod-self, add-mod-right}
+use native.Mathlib.Nat.{mod-eq-of-lt, add-mod-right}
 use native.Mathlib.Omega.{arith}
 use mathlib.Core.Path.{_≡_, sym, ap, _∙_}
 use mathlib.Core.Bool.{cond}
@@ -28,14 +28,6 @@ ahead-from modulus v r h below =
 pub ahead-round : (modulus v r : ℕ) → r < v → v < modulus → r + (modulus - v) ≡ ahead modulus v r
 unfolding ahead
 ahead-round modulus v r h below = let small : r + (modulus - v) < modulus = omega arith in sym (mod-eq-of-lt small)
-
--- the clock after r
-pub next-round : (modulus r : ℕ) → r + 1 ≡ modulus → 0 ≡ (r + 1) % modulus
-next-round modulus r e = rw (e, mod-self modulus)
-
-pub next-plain : (modulus r : ℕ) → r < modulus → (r + 1 ≡ modulus → ⊥) → r + 1 ≡ (r + 1) % modulus
-next-plain modulus r h n =
-    elim (lt-or-gt (r + 1) modulus n) [ inl k ↦ sym (mod-eq-of-lt k) | inr k ↦ absurd (omega arith) ]
 
 -- the reading by u
 pub near-of-ahead : (epsilon modulus v r u : ℕ) → 1 ≤ epsilon → u ≡ ahead modulus v r → u ≤ epsilon - 1

@@ -1,15 +1,16 @@
 -- The soundness of 2ε counts, and of a timestamp with all its places, question by question.
 -- Assumes nothing.
-use Prim.Native.Nat.{ℕ, _+_, _-_, _*_, _%_, _≤_, _<_}
+use Prim.Native.Nat.{ℕ, _+_, _-_, _*_, _≤_, _<_}
 use native.Mathlib.Omega.{arith}
 use mathlib.Core.Path.{_≡_, ap, _∙_}
 use mathlib.Core.Bool.{true, false, _&&_}
 use mathlib.Core.List.{List}
 use lib.ListN.{length, take, getD}
-use lib.Dec.{ltb, eqb}
+use lib.Dec.{leb, ltb}
 use lib.Seq.{slice, take-all}
-use borrow.Author.Tests.{le-leb, lt-leb, lt-ltb, le-ltb, eq-eqb, ne-eqb}
-use Rattle.model.specs.Timestamp.{Timestamp, countAt, atMost, trimmed, soundTimestamp, soundTables}
+use borrow.Author.Tests.{le-leb, lt-leb, lt-ltb, le-ltb}
+use Rattle.laws.specs.Lists.{within}
+use Rattle.model.specs.Timestamp.{Timestamp, countAt, atMost, trimmed, soundTimestamp, clockStep, soundTables}
 use Rattle.lemmas.proofs.Counts.{count-zero, counts-from-drop}
 use Rattle.timestamp.specs.Views.{ofCounts, withinLimits}
 use Rattle.timestamp.proofs.Counts.{and-false}
@@ -53,7 +54,7 @@ module _ (epsilon : ℕ) (t : Timestamp) (small : epsilon ≤ 16) (long : length
 
   module _ (modulus v : ℕ) where
     tables-are : soundTables n epsilon modulus v (trimmed epsilon t)
-        ≡ (soundTimestamp n epsilon (trimmed epsilon t) && (ltb (t .r) modulus && (eqb ((t .r + 1) % modulus) v
+        ≡ (soundTimestamp n epsilon (trimmed epsilon t) && (ltb (t .r) modulus && (within 1 epsilon (clockStep modulus (t .r) v)
         && atMost (n - 1) (slice (epsilon + 1) (2 * epsilon) (t .kn)))))
     unfolding soundTables
     tables-are =
@@ -65,10 +66,19 @@ module _ (epsilon : ℕ) (t : Timestamp) (small : epsilon ≤ 16) (long : length
     pub tables-past : soundTimestamp n epsilon (trimmed epsilon t) ≡ true → modulus ≤ t .r → false ≡ soundTables n epsilon modulus v (trimmed epsilon t)
     tables-past e h = rw (tables-are, e, le-ltb (t .r) modulus h)
 
-    pub tables-other : soundTimestamp n epsilon (trimmed epsilon t) ≡ true → t .r < modulus → ((t .r + 1) % modulus ≡ v → ⊥)
+    pub tables-still : soundTimestamp n epsilon (trimmed epsilon t) ≡ true → t .r < modulus → clockStep modulus (t .r) v < 1
         → false ≡ soundTables n epsilon modulus v (trimmed epsilon t)
-    tables-other e h k = rw (tables-are, e, lt-ltb (t .r) modulus h, ne-eqb ((t .r + 1) % modulus) v k)
+    unfolding within
+    tables-still e h k = rw (tables-are, e, lt-ltb (t .r) modulus h, lt-leb 1 (clockStep modulus (t .r) v) k)
 
-    pub tables-above : soundTimestamp n epsilon (trimmed epsilon t) ≡ true → t .r < modulus → (t .r + 1) % modulus ≡ v
+    pub tables-far : soundTimestamp n epsilon (trimmed epsilon t) ≡ true → t .r < modulus → epsilon < clockStep modulus (t .r) v
+        → false ≡ soundTables n epsilon modulus v (trimmed epsilon t)
+    unfolding within
+    tables-far e h k =
+        rw (tables-are, e, lt-ltb (t .r) modulus h, lt-leb (clockStep modulus (t .r) v) epsilon k, and-false (leb 1 (clockStep modulus (t .r) v)))
+
+    pub tables-above : soundTimestamp n epsilon (trimmed epsilon t) ≡ true → t .r < modulus → 1 ≤ clockStep modulus (t .r) v → clockStep modulus (t .r) v ≤ epsilon
         → atMost (n - 1) (slice (epsilon + 1) (2 * epsilon) (t .kn)) ≡ soundTables n epsilon modulus v (trimmed epsilon t)
-    tables-above e h k = rw (tables-are, e, lt-ltb (t .r) modulus h, eq-eqb ((t .r + 1) % modulus) v k)
+    unfolding within
+    tables-above e h k l =
+        rw (tables-are, e, lt-ltb (t .r) modulus h, le-leb 1 (clockStep modulus (t .r) v) k, le-leb (clockStep modulus (t .r) v) epsilon l)

@@ -12,7 +12,7 @@ use Rattle.model.specs.Setup.{width}
 use Rattle.model.specs.Timestamp.{Timestamp, countAt, sum, trimmed, widened, fresh, replaced, shift, step, absorb, countOwn}
 use Rattle.lemmas.proofs.Counts.{count-moved, count-zero}
 use Rattle.timestamp.specs.Views.{largerAt}
-use Rattle.timestamp.proofs.Counts.{set-padded, padded-zeros, padded-more, drop-one-take, trimmed-take}
+use Rattle.timestamp.proofs.Counts.{set-padded, padded-zeros, padded-more, drop-of-take, trimmed-take}
 
 -- a list of counts with its timestamp's other fields
 abbrev pub stamp : ℕ → ℕ → List ℕ → Timestamp
@@ -37,14 +37,14 @@ module _ (epsilon : ℕ) (t : Timestamp) (small : epsilon ≤ 16) (long : length
   unfolding width
   trimmed-all = trimmed-take epsilon t (omega arith)
 
-  pub step-widened : (v c : ℕ) (kn : List ℕ) → 1 ≤ epsilon → c ≡ t .c - 1 → kn ≡ padded 32 (take (2 * epsilon - 1) (drop 1 (t .kn)))
-      → stamp v c kn ≡ widened (step 1 v (trimmed epsilon t))
+  pub step-widened : (k v c : ℕ) (kn : List ℕ) → k ≤ epsilon → c ≡ t .c - k → kn ≡ padded 32 (take (2 * epsilon - k) (drop k (t .kn)))
+      → stamp v c kn ≡ widened (step k v (trimmed epsilon t))
   unfolding widened step shift
-  step-widened v c kn h ec e =
-      let moved : drop 1 (take (2 * epsilon) (t .kn)) ≡ take (2 * epsilon - 1) (drop 1 (t .kn)) = drop-one-take (2 * epsilon) (t .kn) in
-      let fits : length (take (2 * epsilon - 1) (drop 1 (t .kn))) + 1 ≤ 32 =
-      omega (arith, length-take (2 * epsilon - 1) (drop 1 (t .kn))) in
-      rw (trimmed-all, moved, padded-more 32 (take (2 * epsilon - 1) (drop 1 (t .kn))) 1 fits, ec, e)
+  step-widened k v c kn h ec e =
+      let moved : drop k (take (2 * epsilon) (t .kn)) ≡ take (2 * epsilon - k) (drop k (t .kn)) = drop-of-take k (2 * epsilon) (t .kn) in
+      let fits : length (take (2 * epsilon - k) (drop k (t .kn))) + k ≤ 32 =
+      omega (arith, length-take (2 * epsilon - k) (drop k (t .kn))) in
+      rw (trimmed-all, moved, padded-more 32 (take (2 * epsilon - k) (drop k (t .kn))) k fits, ec, e)
 
   -- the own count, before it rises
   pub own-count : (kn : List ℕ) → 1 ≤ epsilon → kn ≡ padded 32 (take (2 * epsilon) (t .kn)) → getD kn epsilon 0 ≡ getD (t .kn) epsilon 0

@@ -7,6 +7,7 @@ pub use ordering::Rank;
 pub use ordering::compare;
 pub use ordering::compare_ranked;
 pub use stamp::Timestamp;
+pub use stamp::clock_step;
 pub use stamp::counts_at_most;
 pub use stamp::counts_of;
 pub use stamp::near;

@@ -42,16 +42,16 @@ impl Timestamp {
         Timestamp { r: clock, c: 0, kn }
     }
 
-    // 01, tick 2: "c drops by one, not below 0, and counts move one offset down".
-    pub fn step(self, epsilon: usize, v: usize) -> Self
-        requires { ⌜ (1 ≤ epsilon) × (epsilon ≤ 16) ⌝ }
-        ensures { λ s. ⌜ stampOf s ≡ widened (model.step 1 v (trimmed epsilon (stampOf self))) ⌝ }
+    // 01, tick 2; 02, 2.2: "c drops by the step and counts move down by it".
+    pub fn step(self, epsilon: usize, k: usize, v: usize) -> Self
+        requires { ⌜ (k ≤ epsilon) × (epsilon ≤ 16) ⌝ }
+        ensures { λ s. ⌜ stampOf s ≡ widened (model.step k v (trimmed epsilon (stampOf self))) ⌝ }
     {
         let own = self.kn;
-        let kn = counts_of(&own, 1, 2 * epsilon - 1);
+        let kn = counts_of(&own, k, 2 * epsilon - k);
         Timestamp {
             r: v,
-            c: one_less(self.c),
+            c: past(self.c, k),
             kn,
         }
     }
@@ -97,9 +97,10 @@ impl Timestamp {
     }
 
     // 01: "sound for a new clock v if the stamp is sound, r is below B and one before v modulo B, and counts at offsets 1
-    // and up are at most n − 1".
+    // and up are at most n − 1". 02, 2.2: r lies 1 to ε before v.
     pub fn is_sound_for(self, n: usize, epsilon: usize, modulus: usize, v: usize) -> bool
         requires { ⌜ (1 ≤ n) × ((n ≤ 16) × ((1 ≤ epsilon) × (epsilon ≤ 16))) ⌝ }
+        requires { ⌜ (modulus ≤ 65535) × (v < modulus) ⌝ }
         ensures { λ b. ⌜ b ≡ soundTables n epsilon modulus v (trimmed epsilon (stampOf self)) ⌝ }
     {
         let kn = self.kn;
@@ -110,7 +111,11 @@ impl Timestamp {
         if modulus <= r {
             return false;
         }
-        if next_clock(modulus, r) != v {
+        let k = clock_step(modulus, r, v);
+        if k < 1 {
+            return false;
+        }
+        if epsilon < k {
             return false;
         }
         counts_at_most(&kn, epsilon + 1, 2 * epsilon, n - 1)
@@ -217,12 +222,6 @@ fn larger_lead(c: usize, sum: usize, modulus: usize) -> usize
     if c < lead { lead } else { c }
 }
 
-fn one_less(c: usize) -> usize
-    ensures { λ x. ⌜ x ≡ c - 1 ⌝ }
-{
-    if c == 0 { 0 } else { c - 1 }
-}
-
 // Lays the `count` counts of `other` that start at the place `from` over those of `own` that start at the place `to`, and keeps
 // the larger of each two. The rest of `own` stays.
 fn raise(
@@ -264,14 +263,6 @@ fn larger_counts(
     raise(kn, up, other, down, count)
 }
 
-// The clock after r, modulo B.
-fn next_clock(modulus: usize, r: usize) -> usize
-    requires { ⌜ r < modulus ⌝ }
-    ensures { λ x. ⌜ x ≡ (r + 1) % modulus ⌝ }
-{
-    if r + 1 == modulus { 0 } else { r + 1 }
-}
-
 // 01: "u is (r − v) modulo B".
 fn ahead(modulus: usize, v: usize, r: usize) -> usize
     requires { ⌜ (modulus ≤ 65535) × ((v < modulus) × (r < modulus)) ⌝ }
@@ -281,6 +272,14 @@ fn ahead(modulus: usize, v: usize, r: usize) -> usize
         return r - v;
     }
     r + (modulus - v)
+}
+
+// 02, 2.2: the step from the clock r of the tables to v: (v − r) modulo B.
+pub fn clock_step(modulus: usize, r: usize, v: usize) -> usize
+    requires { ⌜ (modulus ≤ 65535) × ((r < modulus) × (v < modulus)) ⌝ }
+    ensures { λ k. ⌜ k ≡ model.clockStep modulus r v ⌝ }
+{
+    ahead(modulus, r, v)
 }
 
 // 01: "If u ≤ ε − 1, r is u ahead. Otherwise it is B − u behind." v itself reads B.

@@ -1,30 +1,31 @@
 -- Each promise makes its test true, so a test that computes to false refutes the demand. Nothing here looks into a definition of the tick
 -- or of the premises: it holds under any edit of them.
 -- Assumes nothing.
-use Prim.Native.Nat.{ℕ, zero, suc, _+_, _<_}
+use Prim.Native.Nat.{ℕ, suc, _+_, _≤_}
+use native.Mathlib.Omega.{arith}
 use native.Mathlib.Nat.{zero-add, add-zero, suc-add, add-suc}
 use mathlib.Core.Path.{_≡_, refl, sym, ap, subst, _∙_}
 use mathlib.Core.Logic.{_⊎_, inl, inr}
-use mathlib.Core.Bool.{Bool, true, false, _&&_, cond}
+use mathlib.Core.Bool.{Bool, true, false, _&&_}
 use mathlib.Core.List.{List, [], _∷_}
-use mathlib.Core.List.{List·Memᴰ, List·Memᴰ·head, List·Memᴰ·tail, List·Memᴰ·not-nil, List·Memᴰ·cases-cons}
+use mathlib.Core.List.{List·Memᴰ, List·Memᴰ·not-nil, List·Memᴰ·cases-cons}
 use mathlib.Core.Option.{Option, none, some}
 use lib.Dec.{ltb, eqb}
 use lib.ListN.{take, getD, getElem?}
 use borrow.Author.Tests.{eqb-true, eq-eqb, ltb-true}
-use Rattle.laws.specs.Lists.{any, sameList}
+use Rattle.laws.specs.Lists.{any}
 use Rattle.laws.proofs.Numbers.{true-or-false, clash, and-intro, and-left, and-right, or-cases, cond-true, cond-false}
-use Rattle.laws.proofs.Lists.{every-of-mem, any-mem, mem-getElem?, sameList-refl, sameList-eq}
+use Rattle.laws.proofs.Lists.{every-of-mem, every-tab, any-mem, mem-getElem?, sameList-refl, sameList-eq}
 use Rattle.model.specs.Setup.{Setup}
 use Rattle.model.specs.Timestamp.{Timestamp}
-use Rattle.model.specs.Published.{Process}
+use Rattle.model.specs.Published.{Condition, deliverable, deliverableBy}
 use Rattle.model.specs.Tick.{Input, tick}
 use Rattle.model.specs.Run.{Node, Source, sentBy, stale, Call, Done, isAccepted, runFrom, atStart}
-use Rattle.theory.specs.Premises.{goodStart, largestClock, keeps, sameTimestamp, allFresh, noneStale}
-use Rattle.theory.specs.Demand2.{AnyState, Demand2Any, Published, Outcome, outcomeOf, publish, publishAll, publishedStart, SameAs, Matched, Demand2Fresh}
-use Rattle.theory.specs.Demand3.{covered, isFrom, earlier, Leads, later, takes, on, Promised, Demand3}
+use Rattle.theory.specs.Premises.{goodStart, largestClock, keeps, sameTimestamp, allFresh, noneStale, stepsOfOne}
+use Rattle.theory.specs.Demand2.{AnyState, Demand2Any, Published, Outcome, outcomeOf, publish, publishAll, publishedStart, SameAs, Matched, Demand2Fresh, Demand2Ones}
+use Rattle.theory.specs.Demand3.{covered, isFrom, Leads, later, takes, on, Promised, Demand3}
 use Rattle.violations.specs.Tests.{everyFrom, anyFrom, implies, sameFrames, sendsRight, sendingTest, verdictRight, entryRight, hearingTest, deliversRight, deliveringTest, laterThan, takesFrom, stepTo, causesRight, causalityTest}
-use Rattle.violations.specs.Tests.{verdictTest, takenTest, deliveredTest, deliveryTest, sentTest, outgoingTest, repairTest, boundedTest, boundedQueueTest}
+use Rattle.violations.specs.Tests.{verdictTest, takenTest, deliveredTest, deliveryTest, sentTest, outgoingTest, repairTest, everyStep, boundedTest, boundedQueueTest}
 use Rattle.violations.specs.Tests.{FreshTest, sameTables, sameRepair, sameTaken, sameVerdicts, sameHoldback, sameOutgoing, sameSent, sameDelivery, sameDelivered, matchedBy, freshTest}
 
 implies-intro : (a b : Bool) → (a ≡ true → b ≡ true) → implies a b ≡ true
@@ -194,6 +195,10 @@ pub refute-promised :
 refute-promised test right s nodes calls good kept wrong demand =
     clash (right s (largestClock nodes) (runFrom (atStart nodes) calls .past) (demand s nodes calls good kept)) wrong
 
+-- what holds of every step is true of all of them
+every-step : (p : ℕ → Bool) (epsilon : ℕ) → ((k : ℕ) → 1 ≤ k → k ≤ epsilon → p k ≡ true) → everyStep p epsilon ≡ true
+every-step p epsilon h = every-tab p epsilon (λ k. k + 1) (λ k below. h (k + 1) (omega arith) (omega arith))
+
 -- Demand 2 from any state: the promises make their tests true
 module _ (i : Input) (p : AnyState i) where
   pub verdict-true : verdictTest i ≡ true
@@ -226,11 +231,11 @@ module _ (i : Input) (p : AnyState i) where
 
   pub bounded-true : boundedTest i ≡ true
   unfolding boundedTest
-  bounded-true = p .bounded
+  bounded-true = every-step _ (i .setup .epsilon) (p .bounded)
 
   pub boundedQueue-true : boundedQueueTest i ≡ true
   unfolding boundedQueueTest
-  boundedQueue-true = p .boundedQueue
+  boundedQueue-true = every-step _ (i .setup .epsilon) (p .boundedQueue)
 
 pub refute-any :
     (test : Input → Bool) → ((i : Input) → AnyState i → test i ≡ true) → (i : Input) → tick i .answer .number ≡ 0
@@ -282,23 +287,32 @@ module _ (s : Setup) (o : Outcome) (d : Done) (p : SameAs s o d) where
   delivered-same = same (p .delivered)
 
 module _ (test : FreshTest) (right : (s : Setup) (o : Outcome) (d : Done) → SameAs s o d → test s o d ≡ true) (s : Setup) where
-  matched-true : (w : Published) (d : Done) → Matched s w d → matchedBy test s w d (getElem? (w .processes) (d .node)) ≡ true
-  matched-true w d (p, is, m) =
-      ap (matchedBy test s w d) is ∙ right s (outcomeOf s (w .sent) p (d .clock) (d .call)) d m
+  matched-true : (delcond : Condition) (w : Published) (d : Done) → Matched delcond s w d → matchedBy test delcond s w d (getElem? (w .processes) (d .node)) ≡ true
+  matched-true delcond w d (p, is, m) =
+      ap (matchedBy test delcond s w d) is ∙ right s (outcomeOf delcond s (w .sent) p (d .clock) (d .call)) d m
 
   fresh-true :
-      (w : Published) (past : List Done)
-      → ((j : ℕ) (d : Done) → getElem? past j ≡ some d → isAccepted (d .output) ≡ true → Matched s (publishAll s w (take j past)) d)
-      → freshTest test s w past ≡ true
+      (delcond : Condition) (w : Published) (past : List Done)
+      → ((j : ℕ) (d : Done) → getElem? past j ≡ some d → isAccepted (d .output) ≡ true → Matched delcond s (publishAll delcond s w (take j past)) d)
+      → freshTest test delcond s w past ≡ true
   unfolding freshTest publishAll
-  fresh-true w [] h = refl
-  fresh-true w (d ∷ ds) h =
-      and-intro (implies-intro (isAccepted (d .output)) _ (λ a. matched-true w d (h 0 d refl a)))
-      (fresh-true (publish s w d) ds (λ j d′ at a. h (suc j) d′ at a))
+  fresh-true delcond w [] h = refl
+  fresh-true delcond w (d ∷ ds) h =
+      and-intro (implies-intro (isAccepted (d .output)) _ (λ a. matched-true delcond w d (h 0 d refl a)))
+      (fresh-true delcond (publish delcond s w d) ds (λ j d′ at a. h (suc j) d′ at a))
 
   pub refute-fresh :
       (nodes : List Node) (calls : List Call) → goodStart s nodes ≡ true → allFresh s nodes ≡ true
       → keeps s (largestClock nodes) (atStart nodes) calls ≡ true → noneStale (runFrom (atStart nodes) calls .past) ≡ true
-      → freshTest test s (publishedStart s nodes) (runFrom (atStart nodes) calls .past) ≡ false → Demand2Fresh → ⊥
+      → freshTest test deliverableBy s (publishedStart s nodes) (runFrom (atStart nodes) calls .past) ≡ false → Demand2Fresh → ⊥
   refute-fresh nodes calls good fresh kept sent wrong demand =
-      clash (fresh-true (publishedStart s nodes) (runFrom (atStart nodes) calls .past) (demand s nodes calls good fresh kept sent)) wrong
+      clash (fresh-true deliverableBy (publishedStart s nodes) (runFrom (atStart nodes) calls .past) (demand s nodes calls good fresh kept sent)) wrong
+
+  -- and where all steps are one, with Equation 4.11's program
+  pub refute-ones :
+      (nodes : List Node) (calls : List Call) → goodStart s nodes ≡ true → allFresh s nodes ≡ true
+      → keeps s (largestClock nodes) (atStart nodes) calls ≡ true → noneStale (runFrom (atStart nodes) calls .past) ≡ true
+      → stepsOfOne (runFrom (atStart nodes) calls .past) ≡ true
+      → freshTest test deliverable s (publishedStart s nodes) (runFrom (atStart nodes) calls .past) ≡ false → Demand2Ones → ⊥
+  refute-ones nodes calls good fresh kept sent ones wrong demand =
+      clash (fresh-true deliverable (publishedStart s nodes) (runFrom (atStart nodes) calls .past) (demand s nodes calls good fresh kept sent ones)) wrong

@@ -3,27 +3,30 @@
 use Prim.Native.Nat.{ℕ}
 use mathlib.Core.Path.{_≡_, refl}
 use mathlib.Core.Bool.{Bool, true, false, _&&_}
-use mathlib.Core.List.{List, [], _∷_}
+use mathlib.Core.List.{List, [], _∷_, map}
 use lib.ListN.{replicate}
 use Rattle.laws.specs.Lists.{every}
+use Rattle.model.specs.Setup.{Setup}
 use Rattle.model.specs.Codec.{read, write}
+use Rattle.model.specs.Published.{Condition, deliverable, deliverableBy}
 use Rattle.model.specs.Tick.{tick}
-use Rattle.model.specs.Run.{Done, runFrom, atStart}
-use Rattle.theory.specs.Premises.{goodStart, largestClock, keeps, allFresh, noneStale}
+use Rattle.model.specs.Run.{Node, Call, Done, atStart}
+use Rattle.theory.specs.Premises.{goodStart, largestClock, keeps, allFresh, noneStale, stepsOfOne}
 use Rattle.theory.specs.Demand2.{publishedStart}
 use Rattle.violations.specs.Tests.{sendingTest, hearingTest, deliveringTest, causalityTest, anyStateTest, sameAll, freshTest}
-use Rattle.violations.specs.Stories.{group, Scene, freshTables, freshNodes, callsOf, pastOf, causeAndEffect, heardTooLate, driftedApart, hauntedAt10, hauntedAt8, staleHeard, holdingNodes, holdingCalls, inputsOf, unsoundTables, unsoundQueue}
+use Rattle.violations.specs.Stories.{group, Scene, freshTables, freshNodes, callsOf, pastOf, causeAndEffect, heardTooLate, driftedApart, hauntedAt10, hauntedAt8, staleHeard, holdingNodes, wideGroup, wideNodes, wideCalls, widePast, steppedTooFar, notStepped, inputsFrom, inputsOf, unsoundTables, unsoundQueue}
 use Rattle.violations.proofs.Telling.{telling}
 
 -- the premises of demand 3
+abbrev keptBy : Setup → List Node → List Call → Bool
+keptBy s nodes calls = goodStart s nodes && keeps s (largestClock nodes) (atStart nodes) calls
+
 abbrev kept : List Scene → Bool
-kept scenes = goodStart group freshNodes && keeps group (largestClock freshNodes) (atStart freshNodes) (callsOf scenes)
+kept scenes = keptBy group freshNodes (callsOf scenes)
 
 -- its promises
-abbrev promised : List Done → Bool
-promised past =
-    sendingTest group (largestClock freshNodes) past && (hearingTest group (largestClock freshNodes) past
-    && (deliveringTest group (largestClock freshNodes) past && causalityTest group (largestClock freshNodes) past))
+abbrev promised : Setup → ℕ → List Done → Bool
+promised s x past = sendingTest s x past && (hearingTest s x past && (deliveringTest s x past && causalityTest s x past))
 
 pub story-kept : kept causeAndEffect ≡ true
 unfolding telling
@@ -33,11 +36,18 @@ pub story-fresh : (allFresh group freshNodes && noneStale (pastOf causeAndEffect
 unfolding telling
 story-fresh = refl
 
-pub story-promised : promised (pastOf causeAndEffect) ≡ true
+pub story-promised : promised group (largestClock freshNodes) (pastOf causeAndEffect) ≡ true
 unfolding telling
 story-promised = refl
 
-pub story-matched : freshTest sameAll group (publishedStart group freshNodes) (pastOf causeAndEffect) ≡ true
+-- by either program, since all its steps are one
+pub story-ones : stepsOfOne (pastOf causeAndEffect) ≡ true
+unfolding telling
+story-ones = refl
+
+pub story-matched :
+    map (λ (delcond : Condition). freshTest sameAll delcond group (publishedStart group freshNodes) (pastOf causeAndEffect)) (deliverableBy ∷ deliverable ∷ [])
+    ≡ true ∷ true ∷ []
 unfolding telling
 story-matched = refl
 
@@ -45,12 +55,35 @@ pub story-figures : every anyStateTest (inputsOf causeAndEffect) ≡ true
 unfolding telling
 story-figures = refl
 
+-- the story with steps of 1 to ε: by Equation 4.11's program what is stepped past is not delivered
+pub stepped-kept : keptBy wideGroup wideNodes wideCalls ≡ true
+unfolding telling
+stepped-kept = refl
+
+pub stepped-fresh : (allFresh wideGroup wideNodes ∷ noneStale widePast ∷ stepsOfOne widePast ∷ []) ≡ true ∷ true ∷ false ∷ []
+unfolding telling
+stepped-fresh = refl
+
+pub stepped-promised : promised wideGroup (largestClock wideNodes) widePast ≡ true
+unfolding telling
+stepped-promised = refl
+
+pub stepped-matched :
+    map (λ (delcond : Condition). freshTest sameAll delcond wideGroup (publishedStart wideGroup wideNodes) widePast) (deliverableBy ∷ deliverable ∷ [])
+    ≡ true ∷ false ∷ []
+unfolding telling
+stepped-matched = refl
+
+pub stepped-figures : every anyStateTest (inputsFrom (atStart wideNodes) wideCalls) ≡ true
+unfolding telling
+stepped-figures = refl
+
 -- an older frame as late as it may be heard disturbs no covered message
 pub haunted-kept : kept hauntedAt8 ≡ true
 unfolding telling
 haunted-kept = refl
 
-pub haunted-promised : promised (pastOf hauntedAt8) ≡ true
+pub haunted-promised : promised group (largestClock freshNodes) (pastOf hauntedAt8) ≡ true
 unfolding telling
 haunted-promised = refl
 
@@ -64,7 +97,7 @@ unfolding telling
 mended-figures = refl
 
 -- the premises rule the others out
-pub not-kept : (kept heardTooLate ∷ kept driftedApart ∷ kept hauntedAt10 ∷ []) ≡ false ∷ false ∷ false ∷ []
+pub not-kept : map kept (heardTooLate ∷ driftedApart ∷ hauntedAt10 ∷ steppedTooFar ∷ notStepped ∷ []) ≡ replicate 5 false
 unfolding telling
 not-kept = refl
 

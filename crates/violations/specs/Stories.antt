@@ -1,6 +1,6 @@
 -- Stories: short lists of calls, told so that they are the same under any definition of the tick. A scene names its node and what it sends and
--- hears; its clock is the node's next one, and a message is heard by the bytes that its call sent.
-use Prim.Native.Nat.{ℕ, suc, _+_, _-_, _%_}
+-- hears, and by how many ticks its clock moves; a message is heard by the bytes that its call sent.
+use Prim.Native.Nat.{ℕ, _+_, _-_, _%_}
 use mathlib.Core.Bool.{Bool, true, false}
 use mathlib.Core.List.{List, [], _∷_, _++_, map}
 use mathlib.Core.Option.{Option, none, some}
@@ -17,6 +17,10 @@ use Rattle.theory.specs.Premises.{clockAt}
 abbrev pub group : Setup
 group = record { n = 2; epsilon = 1; delta = 1; modulus = 8 }
 
+-- the same with ε 2
+abbrev pub wideGroup : Setup
+wideGroup = record { n = 2; epsilon = 2; delta = 1; modulus = 14 }
+
 -- an entry of a batch: the message of the call at a position, or an older frame
 pub data StoryEntry : Type 0 where
   message : ℕ → StoryEntry
@@ -25,6 +29,7 @@ pub data StoryEntry : Type 0 where
 -- one call of a story
 pub record Scene : Type 0 where
   pub node : ℕ
+  pub step : ℕ
   pub send : Bool
   pub payload : List ℕ
   pub hears : List StoryEntry
@@ -44,43 +49,49 @@ entrySource (staleFrame bytes) = stale
 abbrev pub batchWith : List (List ℕ) → List ℕ
 batchWith entries = length entries ∷ joined (λ bytes. length bytes ∷ bytes) entries
 
--- a call for a clock
-abbrev pub calling : ℕ → ℕ → Bool → List ℕ → List (List ℕ) → List Source → Call
-calling node clock send payload entries sources =
+-- a call for a clock, to which the node's moves by a step
+abbrev pub calling : Setup → ℕ → ℕ → ℕ → Bool → List ℕ → List (List ℕ) → List Source → Call
+calling s node step clock send payload entries sources =
     record {
       node = node;
-      setup = group;
+      setup = s;
       own = node;
-      clock = clock % 8;
+      clock = clock % s .modulus;
+      step = step;
       batch = batchWith entries;
       sources = sources;
       send = send;
       payload = payload;
       outgoing = replicate 71 3;
       verdicts = replicate 255 3;
-      delivery = replicate (holdbackSize group) 3;
+      delivery = replicate (holdbackSize s) 3;
     }
 
 -- the call that a scene makes
-abbrev pub callWith : World → Scene → Call
-callWith w scene =
-    calling (scene .node) (suc (clockAt (getElem? (w .nodes) (scene .node)))) (scene .send) (scene .payload)
+abbrev pub callWith : Setup → World → Scene → Call
+callWith s w scene =
+    calling s (scene .node) (scene .step) (clockAt (getElem? (w .nodes) (scene .node)) + scene .step) (scene .send) (scene .payload)
     (map (entryBytes (w .past)) (scene .hears)) (map entrySource (scene .hears))
 
 -- the calls of a story
-unfoldable pub callsFrom : World → List Scene → List Call
-callsFrom w [] = []
-callsFrom w (scene ∷ scenes) = callWith w scene ∷ callsFrom (act w (callWith w scene)) scenes
+unfoldable pub callsFrom : Setup → World → List Scene → List Call
+callsFrom s w [] = []
+callsFrom s w (scene ∷ scenes) = callWith s w scene ∷ callsFrom s (act w (callWith s w scene)) scenes
 
+-- a call of which nothing is sent and heard, with a step
+abbrev pub nudged : ℕ → ℕ → Scene
+nudged step node = record { node = node; step = step; send = false; payload = []; hears = [] }
+
+-- with a step of one
 abbrev pub quiet : ℕ → Scene
-quiet node = record { node = node; send = false; payload = []; hears = [] }
+quiet node = nudged 1 node
 
 abbrev pub hearing : ℕ → List StoryEntry → Scene
-hearing node entries = record { node = node; send = false; payload = []; hears = entries }
+hearing node entries = record { node = node; step = 1; send = false; payload = []; hears = entries }
 
 -- a call that sends one byte and hears these
 abbrev pub sending : ℕ → ℕ → List StoryEntry → Scene
-sending node byte entries = record { node = node; send = true; payload = byte ∷ []; hears = entries }
+sending node byte entries = record { node = node; step = 1; send = true; payload = byte ∷ []; hears = entries }
 
 -- a frame's bytes
 abbrev pub bytesOf : ℕ → ℕ → ℕ → List ℕ → List ℕ → List ℕ
@@ -91,22 +102,28 @@ bytesOf station r c kn payload =
 abbrev pub freshTables : ℕ → Timestamp
 freshTables clock = record { r = clock; c = 0; kn = 0 ∷ 1 ∷ replicate 30 255 }
 
--- a node, fresh at its clock, with nonsense behind the count of the shelf
-abbrev pub freshNode : ℕ → ℕ → Node
-freshNode own clock =
+abbrev pub wideTables : ℕ → Timestamp
+wideTables clock = record { r = clock; c = 0; kn = 0 ∷ 0 ∷ 1 ∷ 0 ∷ replicate 28 255 }
+
+-- a node with such tables at its clock, with nonsense behind the count of the shelf
+abbrev pub nodeWith : Setup → (ℕ → Timestamp) → ℕ → ℕ → Node
+nodeWith s tables own clock =
     record {
       own = own;
       clock = clock;
-      tables = freshTables clock;
-      holdback = 0 ∷ 0 ∷ replicate (holdbackSize group - 2) 170;
+      tables = tables clock;
+      holdback = 0 ∷ 0 ∷ replicate (holdbackSize s - 2) 170;
     }
 
--- every story but one starts from these: X is 6, older frames may be heard up to 8, messages are covered from 10 on
+abbrev pub freshNode : ℕ → ℕ → Node
+freshNode own clock = nodeWith group freshTables own clock
+
+-- every story but two starts from these: X is 6, older frames may be heard up to 8, messages are covered from 10 on
 abbrev pub freshNodes : List Node
 freshNodes = freshNode 0 5 ∷ freshNode 1 6 ∷ []
 
 abbrev pub callsOf : List Scene → List Call
-callsOf scenes = callsFrom (atStart freshNodes) scenes
+callsOf scenes = callsFrom group (atStart freshNodes) scenes
 
 abbrev pub pastOf : List Scene → List Done
 pastOf scenes = runFrom (atStart freshNodes) (callsOf scenes) .past
@@ -164,7 +181,34 @@ holdingNodes =
     ∷ freshNode 1 6 ∷ []
 
 abbrev pub holdingCalls : List Call
-holdingCalls = callsFrom (atStart holdingNodes) (quiet 0 ∷ [])
+holdingCalls = callsFrom group (atStart holdingNodes) (quiet 0 ∷ [])
+
+-- with ε 2, nodes at the same clocks: older frames may be heard up to 9, messages are covered from 13 on
+abbrev pub wideNodes : List Node
+wideNodes = nodeWith wideGroup wideTables 0 5 ∷ nodeWith wideGroup wideTables 1 6 ∷ []
+
+-- node 1 sends at 14, and node 0 at 14 because of it, and again at 15. What is due at 17 node 0 delivers there, node 1, which goes from 16 to 18, at 18,
+-- and then what is due at 18. Most steps are of 2
+abbrev pub steppedPast : List Scene
+steppedPast =
+    nudged 2 0 ∷ nudged 2 1 ∷ nudged 2 0 ∷ nudged 2 1 ∷ nudged 2 0 ∷ nudged 2 1 ∷ nudged 2 0
+    ∷ record { node = 1; step = 2; send = true; payload = 66 ∷ []; hears = [] }
+    ∷ sending 0 65 (message 7 ∷ []) ∷ sending 0 67 (message 7 ∷ message 8 ∷ [])
+    ∷ hearing 1 (message 8 ∷ message 7 ∷ message 8 ∷ []) ∷ hearing 1 (message 9 ∷ [])
+    ∷ nudged 2 0 ∷ nudged 2 1 ∷ []
+
+abbrev pub wideCalls : List Call
+wideCalls = callsFrom wideGroup (atStart wideNodes) steppedPast
+
+abbrev pub widePast : List Done
+widePast = runFrom (atStart wideNodes) wideCalls .past
+
+-- a step of ε + 1, and one of 0
+abbrev pub steppedTooFar : List Scene
+steppedTooFar = nudged 2 0 ∷ []
+
+abbrev pub notStepped : List Scene
+notStepped = nudged 0 0 ∷ []
 
 -- the inputs of the calls of a list
 abbrev pub inputTo : Option Node → Call → List Input
@@ -182,7 +226,7 @@ inputsOf scenes = inputsFrom (atStart freshNodes) (callsOf scenes)
 -- a quiet call for clock 7 of a node with these tables and this shelf
 abbrev pub damagedInput : Timestamp → List ℕ → Input
 damagedInput tables holdback =
-    inputOf (record { own = 0; clock = 6; tables = tables; holdback = holdback }) (calling 0 7 false [] [] [])
+    inputOf (record { own = 0; clock = 6; tables = tables; holdback = holdback }) (calling group 0 1 7 false [] [] [])
 
 -- tables of nonsense
 abbrev pub unsoundTables : Input

@@ -1,12 +1,12 @@
 -- The promises as tests: what demands 2 and 3 say of a concrete list of calls, or of one call, tried by computation. A test for each clause;
 -- proofs/Refuting shows that a promise makes its tests true, so that a test that computes to false refutes the promise.
-use Prim.Native.Nat.{ℕ, suc, _+_, _%_}
+use Prim.Native.Nat.{ℕ, suc, _+_, _-_, _%_}
 use mathlib.Core.Bool.{Bool, true, false, _&&_, _||_, cond}
-use mathlib.Core.List.{List, [], _∷_, _++_, map}
+use mathlib.Core.List.{List, [], _∷_, map}
 use mathlib.Core.Option.{Option, none, some}
 use lib.Dec.{ltb, eqb}
 use lib.ListN.{length, take, getD, getElem?}
-use Rattle.laws.specs.Lists.{every, any, select, sortBy, overlay, sameList}
+use Rattle.laws.specs.Lists.{tab, every, any, select, sortBy, overlay, sameList}
 use Rattle.model.specs.Setup.{Setup}
 use Rattle.model.specs.Timestamp.{trimmed, widened, soundTables}
 use Rattle.model.specs.Frame.{encode}
@@ -14,8 +14,8 @@ use Rattle.model.specs.Batch.{batchEntries}
 use Rattle.model.specs.Holdback.{heldBytes, soundHoldback, encodeFrames, encodeHoldback}
 use Rattle.model.specs.Question.{firstNo}
 use Rattle.model.specs.Judge.{judgeQuestions}
-use Rattle.model.specs.Published.{Process, inOrder}
-use Rattle.model.specs.Tick.{Input, holdbackSize, sentBytes, deliveredOf, takenCount, tick}
+use Rattle.model.specs.Published.{Process, Condition, inOrder}
+use Rattle.model.specs.Tick.{Input, holdbackSize, leastDue, sentBytes, deliveredOf, takenCount, tick}
 use Rattle.model.specs.Run.{Source, sentBy, stale, Done, isAccepted, messageBytes}
 use Rattle.theory.specs.Premises.{sameTimestamp}
 use Rattle.theory.specs.Demand2.{Published, Outcome, outcomeOf, publish, heardBefore, reduced, reducedFrame}
@@ -74,7 +74,7 @@ hearingTest s x past =
 abbrev pub deliversRight : Setup → ℕ → List Done → ℕ → Done → Bool
 deliversRight s x past j d =
     implies (isAccepted (d .output)) (sameFrames (select (coveredFrame s x (d .clock)) (heldBytes (s .epsilon) (d .output .delivery)))
-    (map messageBytes (sortBy (earlier s) (dueHere s x (take (j + 1) past) (d .node) (d .clock)))))
+    (map messageBytes (sortBy (earlier s) (dueHere s x (take (j + 1) past) (d .node) (d .last) (d .clock)))))
 
 -- of the list
 unfoldable pub deliveringTest : Setup → ℕ → List Done → Bool
@@ -127,19 +127,25 @@ sentTest i = eqb (tick i .answer .sent) (length (sentBytes i))
 unfoldable pub outgoingTest : Input → Bool
 outgoingTest i = sameList (take (tick i .answer .sent) (tick i .outgoing)) (sentBytes i)
 
+-- a test of every step, 1 to ε
+abbrev pub everyStep : (ℕ → Bool) → ℕ → Bool
+everyStep p epsilon = every p (tab epsilon (λ k. k + 1))
+
 unfoldable pub boundedTest : Input → Bool
 boundedTest i =
-    soundTables (i .setup .n) (i .setup .epsilon) (i .setup .modulus) ((i .clock + 1) % i .setup .modulus)
-    (trimmed (i .setup .epsilon) (tick i .answer .tables))
+    everyStep (λ k. soundTables (i .setup .n) (i .setup .epsilon) (i .setup .modulus) ((i .clock + k) % i .setup .modulus)
+    (trimmed (i .setup .epsilon) (tick i .answer .tables))) (i .setup .epsilon)
 
 unfoldable pub boundedQueueTest : Input → Bool
-boundedQueueTest i = soundHoldback (i .setup) ((i .clock + 1) % i .setup .modulus) (tick i .holdback)
+boundedQueueTest i =
+    everyStep (λ k. soundHoldback (i .setup) ((i .clock + k) % i .setup .modulus) (i .setup .modulus + 1 - k) (tick i .holdback))
+    (i .setup .epsilon)
 
 unfoldable pub repairTest : Input → Bool
 repairTest i =
     eqb (tick i .answer .repair)
     (cond (soundTables (i .setup .n) (i .setup .epsilon) (i .setup .modulus) (i .clock) (trimmed (i .setup .epsilon) (i .tables))) 0 1
-    + cond (soundHoldback (i .setup) (i .clock) (i .holdback)) 0 2)
+    + cond (soundHoldback (i .setup) (i .clock) (leastDue (i .setup) (i .clock) (i .tables)) (i .holdback)) 0 2)
 
 unfoldable pub anyStateTest : Input → Bool
 anyStateTest i =
@@ -188,14 +194,14 @@ sameAll s o d =
     sameTables s o d && (sameRepair s o d && (sameTaken s o d && (sameVerdicts s o d && (sameHoldback s o d && (sameOutgoing s o d
     && (sameSent s o d && (sameDelivery s o d && sameDelivered s o d)))))))
 
--- the test of a call, where its station has a process
-abbrev pub matchedBy : FreshTest → Setup → Published → Done → Option Process → Bool
-matchedBy test s w d none = false
-matchedBy test s w d (some p) = test s (outcomeOf s (w .sent) p (d .clock) (d .call)) d
+-- the test of a call, where its station has a process, by a condition of delivery
+abbrev pub matchedBy : FreshTest → Condition → Setup → Published → Done → Option Process → Bool
+matchedBy test delcond s w d none = false
+matchedBy test delcond s w d (some p) = test s (outcomeOf delcond s (w .sent) p (d .clock) (d .call)) d
 
 -- of every accepted call of a list, the published program being at w before it
-unfoldable pub freshTest : FreshTest → Setup → Published → List Done → Bool
-freshTest test s w [] = true
-freshTest test s w (d ∷ ds) =
-    implies (isAccepted (d .output)) (matchedBy test s w d (getElem? (w .processes) (d .node)))
-    && freshTest test s (publish s w d) ds
+unfoldable pub freshTest : FreshTest → Condition → Setup → Published → List Done → Bool
+freshTest test delcond s w [] = true
+freshTest test delcond s w (d ∷ ds) =
+    implies (isAccepted (d .output)) (matchedBy test delcond s w d (getElem? (w .processes) (d .node)))
+    && freshTest test delcond s (publish delcond s w d) ds

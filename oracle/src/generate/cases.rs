@@ -1,6 +1,6 @@
 //! One call with all its arguments and buffers.
 
-use super::Prng;
+use super::{memory, Prng};
 use crate::words::LINE;
 use crate::{Answer, Buffers, Call, ClockState, Setup};
 
@@ -51,6 +51,18 @@ impl TickCase {
             verdicts: buffer(crate::setup::VERDICTS),
             delivery: buffer(setup.holdback_len()),
         }
+    }
+
+    /// The same call with another memory: tables that are sound but for the step, which is 0 to
+    /// ε + 1, and any queue beside them.
+    pub fn stepped(&self, rng: &mut Prng) -> Self {
+        let (setup, v) = (&self.setup, self.clock);
+        let any = rng.range(1, setup.epsilon);
+        let step = rng.pick(&[0, 1, any, any, setup.epsilon, setup.epsilon + 1]);
+        let state = memory::sound_state(rng, setup, v, step);
+        let least = memory::least_due(rng, setup, v, &state);
+        let holdback = memory::holdback(rng, setup, v, least);
+        TickCase { state, holdback, ..self.clone() }
     }
 
     /// Calls the oracle.
@@ -109,7 +121,7 @@ pub struct WriteCase {
 impl WriteCase {
     /// A call for some clock state, each argument sometimes wrong.
     pub fn random(rng: &mut Prng, mut setup: Setup, v: i64) -> Self {
-        let state = super::memory::state(rng, &setup, v);
+        let state = memory::state(rng, &setup, v);
         let node = rng.below(setup.n);
         let wrong = rng.pick(&[setup.n, node + FAR[0], node + FAR[1], u32::MAX.into()]);
         let node = if rng.one_in(8) { wrong } else { node };

@@ -11,6 +11,8 @@ pub struct Habits {
     pub noise: bool,
     /// Memory that is overwritten between ticks.
     pub dips: bool,
+    /// Nodes step by more than one tick now and then (02: their clocks are nudged).
+    pub nudges: bool,
     /// A node hears a message once in so many ticks.
     pub deafness: i64,
 }
@@ -18,6 +20,8 @@ pub struct Habits {
 /// A group that keeps both limits. All clocks here are true clocks.
 pub struct Group {
     pub setup: Setup,
+    /// From this clock on there is no noise.
+    pub quiet_from: i64,
     habits: Habits,
     nodes: Vec<Member>,
     air: Vec<Message>,
@@ -49,20 +53,36 @@ impl Group {
             Member { clock, state, holdback: vec![0; setup.holdback_len()] }
         };
         let nodes = (0..setup.n).map(member).collect();
-        Group { setup, habits, nodes, air: Vec::new() }
+        Group { setup, quiet_from: i64::MAX, habits, nodes, air: Vec::new() }
+    }
+
+    /// A node's clock.
+    pub fn clock(&self, node: usize) -> i64 {
+        self.nodes[node].clock
+    }
+
+    /// Overwrites memory of every node.
+    pub fn dip_all(&mut self, rng: &mut Prng) {
+        for node in 0..self.nodes.len() {
+            let clock = (self.clock(node) + 1) % self.setup.modulus;
+            self.dip(rng, node, clock);
+        }
     }
 
     /// The next call of some node, and the node. The call is not yet made.
     pub fn next_case(&mut self, rng: &mut Prng) -> (usize, TickCase) {
-        let node = self.next_node(rng);
-        let clock = (self.nodes[node].clock + 1) % self.setup.modulus;
+        let (node, room) = self.next_node(rng);
+        let any = rng.range(1, room);
+        let nudged = self.habits.nudges && rng.one_in(2);
+        let next = self.clock(node) + if nudged { rng.pick(&[any, room]) } else { 1 };
+        let clock = next % self.setup.modulus;
         if self.habits.dips && rng.one_in(6) {
             self.dip(rng, node, clock);
         }
         let setup = Setup { own: node as i64, ..self.setup };
         let Member { state, holdback, .. } = &self.nodes[node];
         let mut case = TickCase::idle(rng, setup, clock, *state, holdback.clone());
-        case.batch = batch::encode(&self.heard(rng, node, clock));
+        case.batch = batch::encode(&self.heard(rng, node, next));
         case.send = !rng.one_in(3);
         case.payload = rng.payload();
         (node, case)
@@ -74,7 +94,7 @@ impl Group {
             return;
         }
         let member = &mut self.nodes[node];
-        member.clock += 1;
+        member.clock += (case.clock - member.clock).rem_euclid(self.setup.modulus);
         let sent = member.clock;
         (member.state, member.holdback) = (case.state, case.holdback);
         if answer.outgoing > 0 {
@@ -85,34 +105,37 @@ impl Group {
         self.air.retain(|message| nodes[message.sender].clock <= message.sent + delta);
     }
 
-    /// A node that may move without leaving the drift limit.
-    fn next_node(&self, rng: &mut Prng) -> usize {
+    /// A node that may move without leaving the drift limit, and how far: at most ε.
+    fn next_node(&self, rng: &mut Prng) -> (usize, i64) {
         let lowest = self.nodes.iter().map(|node| node.clock).min().expect("a node");
         loop {
             let node = rng.place(self.nodes.len());
-            if self.nodes[node].clock < lowest + self.setup.epsilon {
-                return node;
+            let room = lowest + self.setup.epsilon - self.clock(node);
+            if room > 0 {
+                return (node, room);
             }
         }
     }
 
     /// Overwrites a node's memory.
     fn dip(&mut self, rng: &mut Prng, node: usize, clock: i64) {
-        let which = rng.range(1, 3);
+        let (which, setup) = (rng.range(1, 3), &self.setup);
+        let member = &mut self.nodes[node];
         if which & 1 != 0 {
-            self.nodes[node].state = memory::state(rng, &self.setup, clock);
+            member.state = memory::state(rng, setup, clock);
         }
         if which & 2 != 0 {
-            self.nodes[node].holdback = memory::holdback(rng, &self.setup, clock);
+            let least = memory::least_due(rng, setup, clock, &member.state);
+            member.holdback = memory::holdback(rng, setup, clock, least);
         }
     }
 
-    /// What a node hears in a tick: messages still in the air, some twice, and noise.
-    fn heard(&self, rng: &mut Prng, node: usize, clock: i64) -> Vec<Vec<u8>> {
+    /// What a node hears in a tick at its next clock: messages still in the air, some twice, and
+    /// noise.
+    fn heard(&self, rng: &mut Prng, node: usize, next: i64) -> Vec<Vec<u8>> {
         let mut heard = Vec::new();
         for message in &self.air {
-            let late = message.sender == node
-                && self.nodes[node].clock + 1 > message.sent + self.setup.delta;
+            let late = message.sender == node && next > message.sent + self.setup.delta;
             while !late && rng.one_in(self.habits.deafness) {
                 heard.push(message.bytes.clone());
                 if !rng.one_in(4) {
@@ -120,7 +143,8 @@ impl Group {
                 }
             }
         }
-        if self.habits.noise {
+        if self.habits.noise && next < self.quiet_from {
+            let clock = next % self.setup.modulus;
             let flood = if rng.one_in(64) { 255 } else { 4 };
             for _ in 0..rng.range(0, flood) {
                 let at = rng.place(heard.len() + 1);

@@ -3,26 +3,29 @@
 use super::cases::random_state;
 use super::{frames, Prng};
 use crate::holdback::Entry;
-use crate::{ClockState, Frame, Setup};
+use crate::{ClockState, Frame, Setup, Timestamp};
 
-/// Any clock state for a tick at v.
+/// Any clock state for a tick at v, its step often 1 and otherwise up to ε.
 pub fn state(rng: &mut Prng, setup: &Setup, v: i64) -> ClockState {
     if rng.one_in(8) {
         return random_state(rng);
     }
-    let mut state = sound_state(rng, setup, v);
+    let any = rng.range(1, setup.epsilon);
+    let step = rng.pick(&[1, 1, any, setup.epsilon]);
+    let mut state = sound_state(rng, setup, v, step);
     if rng.one_in(2) {
         damage_state(rng, setup, &mut state);
     }
     state
 }
 
-/// A clock state that is sound for v, with junk past its counts.
-pub fn sound_state(rng: &mut Prng, setup: &Setup, v: i64) -> ClockState {
+/// A clock state whose r lies a step before v, with junk past its counts. It is sound for v if
+/// the step is 1 to ε.
+pub fn sound_state(rng: &mut Prng, setup: &Setup, v: i64, step: i64) -> ClockState {
     let any = rng.below(setup.epsilon);
     // With one node no clock ahead can have been counted.
     let c = if setup.n == 1 { 0 } else { rng.pick(&[0, any, any]) };
-    let frame = frames::sound(rng, setup, v, 0, -1, c);
+    let frame = frames::sound(rng, setup, v, 0, -step, c);
     let frame = Frame::parse(setup, &frame).expect("a sound frame");
     let mut state = random_state(rng);
     let sound = frame.timestamp.to_state();
@@ -54,15 +57,25 @@ fn damage_state(rng: &mut Prng, setup: &Setup, state: &mut ClockState) {
     }
 }
 
-/// Any hold-back queue for a tick at v.
-pub fn holdback(rng: &mut Prng, setup: &Setup, v: i64) -> Vec<u8> {
+/// A least due clock for a queue beside these tables, relative to v: mostly the least that is
+/// sound, otherwise one before it, or any before it that is at most ε before v.
+pub fn least_due(rng: &mut Prng, setup: &Setup, v: i64, state: &ClockState) -> i64 {
+    let step = Timestamp::of_state(setup, state).sound_step(setup, v);
+    let least = step.map_or(0, |step| 1 - step);
+    let any = rng.range(-setup.epsilon, least - 1);
+    rng.pick(&[least, least, least, least - 1, any, any])
+}
+
+/// Any hold-back queue for a tick at v, mostly with no due clock below the least.
+pub fn holdback(rng: &mut Prng, setup: &Setup, v: i64, least: i64) -> Vec<u8> {
     if rng.one_in(12) {
         return rng.bytes(setup.holdback_len());
     }
     let away = if rng.one_in(8) { rng.pick(&[-1, 1]) } else { 0 };
-    let mut frames = sound_frames(rng, setup, v + away);
+    let most = setup.capacity() + usize::from(rng.one_in(8));
+    let mut frames = frames_up_to(rng, setup, v + away, least, most);
     if rng.one_in(3) {
-        damage_frames(rng, setup, v, &mut frames);
+        damage_frames(rng, setup, v, least, &mut frames);
     }
     let mut bytes = assemble(rng, setup, &frames);
     if rng.one_in(6) {
@@ -75,27 +88,42 @@ pub fn holdback(rng: &mut Prng, setup: &Setup, v: i64) -> Vec<u8> {
     bytes
 }
 
-/// Frames that make a sound queue for v: few, or as many as there can be.
-pub fn sound_frames(rng: &mut Prng, setup: &Setup, v: i64) -> Vec<Vec<u8>> {
+/// Frames that make a sound queue for v with this least due clock: few, or as many as there can
+/// be.
+pub fn sound_frames(rng: &mut Prng, setup: &Setup, v: i64, least: i64) -> Vec<Vec<u8>> {
+    frames_up_to(rng, setup, v, least, setup.capacity())
+}
+
+/// At most so many frames that make a sound queue, but for their number.
+fn frames_up_to(rng: &mut Prng, setup: &Setup, v: i64, least: i64, most: usize) -> Vec<Vec<u8>> {
     let scarcity = rng.pick(&[1, 3, 1 + setup.capacity() as i64 / 4, setup.capacity() as i64]);
     let mut frames = Vec::new();
     for node in 0..setup.n {
-        for ahead in 1 - setup.delta - 2 * setup.epsilon..setup.epsilon {
+        for ahead in held_range(setup, least) {
             if rng.one_in(scarcity) {
-                frames.push(held_frame(rng, setup, v, node, ahead));
+                frames.push(held_frame(rng, setup, v, least, node, ahead));
             }
         }
+    }
+    while frames.len() > most {
+        frames.swap_remove(rng.place(frames.len()));
     }
     sort(setup, v, &mut frames);
     frames
 }
 
-/// A sound frame that may be held at v: its sum not too far ahead, its due clock not past.
-fn held_frame(rng: &mut Prng, setup: &Setup, v: i64, node: i64, ahead: i64) -> Vec<u8> {
-    let least = (-setup.delta - setup.epsilon - ahead).max(0);
-    let most = (setup.epsilon - 1 - ahead).min(setup.epsilon - 1);
-    let any = rng.range(least, most);
-    let c = rng.pick(&[least, most, any]);
+/// How far the r of a held frame may lie ahead of v.
+fn held_range(setup: &Setup, least: i64) -> std::ops::Range<i64> {
+    least + 1 - setup.delta - 2 * setup.epsilon..setup.epsilon
+}
+
+/// A sound frame that may be held at v: its sum not too far ahead, its due clock not below the
+/// least.
+fn held_frame(rng: &mut Prng, setup: &Setup, v: i64, least: i64, node: i64, ahead: i64) -> Vec<u8> {
+    let lowest = (least - setup.delta - setup.epsilon - ahead).max(0);
+    let highest = (setup.epsilon - 1 - ahead).min(setup.epsilon - 1);
+    let any = rng.range(lowest, highest);
+    let c = rng.pick(&[lowest, highest, any]);
     frames::sound(rng, setup, v, node, ahead, c)
 }
 
@@ -108,7 +136,7 @@ fn sort(setup: &Setup, v: i64, frames: &mut [Vec<u8>]) {
 }
 
 /// Breaks the order, or gives a node and r twice.
-fn damage_frames(rng: &mut Prng, setup: &Setup, v: i64, frames: &mut Vec<Vec<u8>>) {
+fn damage_frames(rng: &mut Prng, setup: &Setup, v: i64, least: i64, frames: &mut Vec<Vec<u8>>) {
     if frames.is_empty() {
         return;
     }
@@ -122,8 +150,8 @@ fn damage_frames(rng: &mut Prng, setup: &Setup, v: i64, frames: &mut Vec<Vec<u8>
             // The same node and r with another c, in order.
             let frame = Frame::parse(setup, &frames[at]).expect("a sound frame");
             let ahead = setup.near(frame.timestamp.r, v);
-            if (1 - setup.delta - 2 * setup.epsilon..setup.epsilon).contains(&ahead) {
-                frames.push(held_frame(rng, setup, v, frame.node, ahead));
+            if held_range(setup, least).contains(&ahead) {
+                frames.push(held_frame(rng, setup, v, least, frame.node, ahead));
                 sort(setup, v, frames);
             }
         }

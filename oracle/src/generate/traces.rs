@@ -1,6 +1,6 @@
 //! Random traces for replay, good and bad.
 
-use super::{Group, Habits, Prng};
+use super::{frames, Group, Habits, Prng};
 use crate::trace::{Trace, TraceTick};
 use crate::{batch, Setup};
 
@@ -11,7 +11,7 @@ pub const TOO_LONG_QUEUE: Setup = Setup { n: 10, epsilon: 15, delta: 50, modulus
 
 /// The bytes of a trace; about five in eight are good.
 pub fn random(rng: &mut Prng) -> Vec<u8> {
-    let mut trace = good(rng);
+    let mut trace = if rng.one_in(3) { unsteady(rng) } else { good(rng) };
     let bad = rng.one_in(2);
     if bad && rng.one_in(2) {
         spoil(rng, &mut trace);
@@ -33,7 +33,8 @@ pub fn random(rng: &mut Prng) -> Vec<u8> {
 /// What one node of a group is given.
 fn good(rng: &mut Prng) -> Trace {
     let setup = super::setup(rng);
-    let habits = Habits { noise: rng.one_in(2), dips: false, deafness: rng.range(1, 4) };
+    let (noise, nudges) = (rng.one_in(2), rng.one_in(2));
+    let habits = Habits { noise, dips: false, nudges, deafness: rng.range(1, 4) };
     let mut group = Group::fresh(rng, setup, habits);
     let mut ticks = Vec::new();
     for _ in 0..rng.below(20 * setup.n) {
@@ -49,6 +50,24 @@ fn good(rng: &mut Prng) -> Trace {
         let answer = case.run();
         group.settle(node, case, &answer);
     }
+    Trace { setup, ticks, count: None, tail: Vec::new() }
+}
+
+/// What a node is given whose clock steps by 0 to ε + 1, often across a wrap, with any frames.
+fn unsteady(rng: &mut Prng) -> Trace {
+    let setup = super::setup(rng);
+    let wrap = setup.modulus - rng.below(4 * setup.epsilon);
+    let any = rng.below(setup.modulus);
+    let (mut clock, count) = (rng.pick(&[wrap, any]), rng.below(30));
+    let tick = |_| {
+        let any = rng.range(0, setup.epsilon + 1);
+        let step = rng.pick(&[1, 1, setup.epsilon, any]);
+        clock = (clock + step) % setup.modulus;
+        let (send, payload) = (rng.below(2) as u8, rng.payload());
+        let batch = (0..rng.range(0, 4)).map(|_| frames::any(rng, &setup, clock)).collect();
+        TraceTick { clock: clock as u16, send, payload, batch }
+    };
+    let ticks = (0..count).map(tick).collect();
     Trace { setup, ticks, count: None, tail: Vec::new() }
 }
 

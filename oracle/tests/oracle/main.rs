@@ -4,6 +4,7 @@ mod checks;
 mod common;
 mod group;
 mod memory;
+mod nudges;
 mod order;
 mod programs;
 mod replaying;

@@ -3,7 +3,7 @@
 use crate::common::{frame, fresh_case, holdback, run, state, SETUP};
 use oracle::generate::{self, memory, Prng};
 use oracle::holdback::Holdback;
-use oracle::{ClockState, Setup};
+use oracle::{ClockState, Setup, Timestamp};
 
 /// The repair of an empty tick at 5 with this memory.
 fn repair(state: ClockState, holdback: &[u8]) -> u8 {
@@ -39,7 +39,9 @@ fn unsound_tables() {
     assert_eq!(repair(4, 0, &[0, 0, 0, 0]), 1, "no count at c");
     assert_eq!(repair(4, 0, &[0, 0, 1, 1]), 1, "a count above c");
     assert_eq!(repair(4, 2, &[0, 0, 1, 1]), 1, "c above ε − 1");
-    assert_eq!(repair(3, 0, &[0, 0, 1, 0]), 1, "r two before");
+    assert_eq!(repair(3, 0, &[0, 0, 1, 0]), 0, "r ε before");
+    assert_eq!(repair(2, 0, &[0, 0, 1, 0]), 1, "r one more before");
+    assert_eq!(repair(3, 1, &[2, 2, 2, 2]), 1, "n ahead of r, though at v");
     assert_eq!(repair(5, 0, &[0, 0, 1, 0]), 1, "r at v");
     assert_eq!(repair(4 + 14, 0, &[0, 0, 1, 0]), 1, "r not below B");
 }
@@ -102,14 +104,17 @@ fn generated_sound_memory_is_sound_and_fills_the_queue() {
     for _ in 0..2_000 {
         let setup: Setup = generate::setup(&mut rng);
         let v = rng.below(setup.modulus);
-        let state = memory::sound_state(&mut rng, &setup, v);
-        assert!(oracle::Timestamp::of_state(&setup, &state).is_sound_before(&setup, v));
-        let frames = memory::sound_frames(&mut rng, &setup, v);
+        let step = rng.range(1, setup.epsilon);
+        let state = memory::sound_state(&mut rng, &setup, v, step);
+        assert_eq!(Timestamp::of_state(&setup, &state).sound_step(&setup, v), Some(step));
+        let frames = memory::sound_frames(&mut rng, &setup, v, 1 - step);
         let bytes = memory::assemble(&mut rng, &setup, &frames);
-        let queue = Holdback::decode(&setup, v, &bytes).expect("a sound queue");
+        let queue = Holdback::decode(&setup, v, 1 - step, &bytes).expect("a sound queue");
         assert_eq!(queue.len(), frames.len());
-        assert!(queue.len() <= setup.capacity() - setup.n as usize);
-        fullest += u32::from(queue.len() == setup.capacity() - setup.n as usize);
+        let possible = (setup.n * (setup.delta + 3 * setup.epsilon - 2 + step)) as usize;
+        let most = possible.min(setup.capacity());
+        assert!(queue.len() <= most);
+        fullest += u32::from(queue.len() == most);
     }
     assert!(fullest > 100);
 }
@@ -123,10 +128,11 @@ fn a_tick_leaves_sound_memory_for_the_next() {
         let heard: Vec<_> = (0..9).map(|_| generate::frames::near(&mut rng, &setup, v)).collect();
         let mut case = fresh_case(setup, v, &heard);
         case.state = memory::state(&mut rng, &setup, v);
-        case.holdback = memory::holdback(&mut rng, &setup, v);
+        let least = memory::least_due(&mut rng, &setup, v, &case.state);
+        case.holdback = memory::holdback(&mut rng, &setup, v, least);
         let (answer, mut after) = run(case);
         assert_eq!(answer.number, 0);
-        after.clock = (v + 1) % setup.modulus;
+        after.clock = (v + rng.range(1, setup.epsilon)) % setup.modulus;
         let answer = run(after).0;
         assert_eq!((answer.number, answer.repair), (0, 0));
     }

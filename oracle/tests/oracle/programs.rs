@@ -63,9 +63,10 @@ fn trace_writes_the_sample_and_reports_a_bad_line() {
 #[test]
 fn compare_meets_every_number_and_finds_every_fault() {
     let mut command = Command::new(env!("CARGO_BIN_EXE_compare"));
-    let output = command.args(["selfcheck", "--calls", "30000", "--traces", "500"]).output();
+    let output = command.args(["selfcheck", "--calls", "50000", "--traces", "500"]).output();
     let output = output.unwrap();
     let text = String::from_utf8(output.stdout).unwrap();
     assert!(output.status.success(), "{text}");
-    assert_eq!(text.lines().filter(|line| line.starts_with("fault ")).count(), 12);
+    let found = text.lines().filter(|line| line.starts_with("fault ")).count();
+    assert_eq!(found, oracle::fault::COUNT.into());
 }

@@ -98,6 +98,24 @@ fn it_starts_fresh_before_the_first_clock_and_mends_a_jump() {
 }
 
 #[test]
+fn a_later_tick_may_step_by_1_to_epsilon_without_a_mend() {
+    let line =
+        |clock: i64, mend: i64| format!("tick {clock} mend {mend} c 0 took 0 sent 0 gave 0\n");
+    let text = "setup 2 2 1 14 0\ntick 11\ntick 13\ntick 1\ntick 2\ntick 2\ntick 5";
+    let lines = [(11, 0), (13, 0), (1, 0), (2, 0), (2, 1), (5, 1)].map(|(v, mend)| line(v, mend));
+    assert_eq!(replay_of(text), lines.concat());
+}
+
+#[test]
+fn a_step_past_a_due_clock_hands_out_what_was_due_before_first() {
+    // Frame A is due at 5; the tick at 6 steps over it and hears one that is due at 6.
+    let text = "setup 2 2 1 14 0\ntick 4\nframe 1 2 0 1,1,1,0 41\ntick 6\nframe 0 3 0 0,1,1,0 42";
+    let lines = "tick 4 mend 0 c 0 took 1 sent 0 gave 0\n\
+                 tick 6 mend 0 c 0 took 1 sent 0 gave 2\ngive 1 2 41\ngive 0 3 42\n";
+    assert_eq!(replay_of(text), lines);
+}
+
+#[test]
 fn an_empty_payload_prints_as_a_dash_and_hexadecimal_is_lower_case() {
     let text = "setup 2 2 1 14 0\ntick 5\nkeep 00\nframe 1 2 0 1,1,1,0 -\nframe 0 2 0 1,1,1,0 00aF";
     let lines = "tick 5 mend 0 c 0 took 2 sent 0 gave 2\ngive 0 2 00af\ngive 1 2 -\n";

@@ -32,7 +32,7 @@ fn the_reader_reads_what_the_writer_writes() {
     for _ in 0..2_000 {
         let setup = generate::setup(&mut rng);
         let v = rng.below(setup.modulus);
-        let state = memory::sound_state(&mut rng, &setup, v);
+        let state = memory::sound_state(&mut rng, &setup, v, 1);
         let (node, payload) = (rng.below(setup.n), rng.payload());
         let mut out = vec![0; setup.longest_frame()];
         let length = write(&setup, node, &state, &payload, &mut out).unwrap();
@@ -65,14 +65,17 @@ fn a_queue_is_written_as_it_was_read() {
     for _ in 0..500 {
         let setup = generate::setup(&mut rng);
         let v = rng.below(setup.modulus);
-        let frames = memory::sound_frames(&mut rng, &setup, v);
+        let least = rng.range(1 - setup.epsilon, 0);
+        let frames = memory::sound_frames(&mut rng, &setup, v, least);
         let bytes = memory::assemble(&mut rng, &setup, &frames);
-        let queue = Holdback::decode(&setup, v, &bytes).expect("a sound queue");
+        let mut queue = Holdback::decode(&setup, v, least, &bytes).expect("a sound queue");
+        let early = queue.take_early(&setup);
+        assert!(early.iter().all(|entry| (least..0).contains(&entry.due(&setup))));
         let (due, rest) = queue.split_due(&setup);
         assert!(due.iter().all(|entry| entry.due(&setup) == 0));
         assert!(rest.iter().all(|entry| entry.due(&setup) > 0));
         let mut out = vec![0; setup.holdback_len()];
-        let used = holdback::put(&[due, rest].concat(), &mut out);
+        let used = holdback::put(&[&early, due, rest].concat(), &mut out);
         assert_eq!(out[..used], bytes[..used]);
         assert_eq!(used, 2 + frames.iter().map(Vec::len).sum::<usize>());
     }

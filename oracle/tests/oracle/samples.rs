@@ -2,7 +2,7 @@
 
 use crate::common::{frame, frame_a, fresh_case, run, state, verdict, SETUP};
 use oracle::holdback::Entry;
-use oracle::{Frame, Setup};
+use oracle::{ClockState, Frame, Setup};
 
 #[test]
 fn a_the_frame_is_taken_and_counted_in() {
@@ -75,13 +75,27 @@ fn j_13_is_one_behind_0() {
     assert_eq!(SETUP.near(13, 0), -1);
 }
 
-#[test]
-fn k_tables_that_missed_a_tick_are_replaced() {
+/// The mend of an empty tick at 5 from these tables, and the new ones.
+fn mend_at_5(tables: ClockState) -> (u8, ClockState) {
     let mut case = fresh_case::<&[u8]>(SETUP, 5, &[]);
-    case.state = state(3, 0, &[1, 1, 1, 0]);
+    case.state = tables;
     let (answer, after) = run(case);
-    assert_eq!((answer.number, answer.repair), (0, 1));
-    assert_eq!(after.state, state(5, 0, &[0, 0, 1, 0]));
+    assert_eq!(answer.number, 0);
+    (answer.repair, after.state)
+}
+
+#[test]
+fn k_tables_with_r_2_at_clock_5_are_replaced() {
+    let replaced = state(5, 0, &[0, 0, 1, 0]);
+    assert_eq!(mend_at_5(state(2, 0, &[1, 1, 1, 0])), (1, replaced));
+    assert_eq!(mend_at_5(state(5, 0, &[1, 1, 1, 0])), (1, replaced), "a step of 0");
+}
+
+#[test]
+fn k_a_step_of_2_is_sound_since_02() {
+    assert_eq!(mend_at_5(state(3, 0, &[1, 1, 2, 0])), (0, state(5, 0, &[2, 0, 1, 0])));
+    assert_eq!(mend_at_5(state(3, 1, &[1, 1, 2, 1])), (0, state(5, 0, &[2, 1, 1, 0])));
+    assert_eq!(mend_at_5(state(4, 1, &[1, 1, 2, 1])), (0, state(5, 0, &[1, 2, 2, 0])));
 }
 
 #[test]

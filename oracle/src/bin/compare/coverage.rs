@@ -13,20 +13,25 @@ const TRACES: u64 = 40;
 
 /// Of calls. 17 is not among the numbers of frames: no queue ever gets full; it is
 /// among those of lines, where verdicts that are not the frames' own are given too. For `sent` and
-/// `gave` (was a frame sent, was one handed out) 1 is yes.
-const OF_CALLS: [Row; 9] = [
+/// `gave` (was a frame sent, was one handed out) 1 is yes. The numbers of `early`, `overdue` and
+/// `step` are kinds: see `nudges`.
+const OF_CALLS: [Row; 12] = [
     ("call", &[0, 1, 2, 3, 4, 5, 6]),
+    ("early", &[0, 1, 2]),
     ("frame", &[0, 10, 11, 12, 13, 14, 15, 16]),
     ("gave", &[0, 1]),
     ("line", &[0, 10, 11, 12, 13, 14, 15, 16, 17]),
     ("mend", &[0, 1, 2, 3]),
+    ("overdue", &[1, 2, 3]),
     ("reader", &[0, 1, 10, 11, 12]),
     ("sent", &[0, 1]),
+    ("step", &[0, 1, 2, 3, 4]),
     ("words", &[0, 1, 5, 6]),
     ("writer", &[0, 1, 4, 6, 11, 12]),
 ];
 /// Of traces. 3 and 6 are not among them: the program's own buffers are right.
-const OF_TRACES: [Row; 2] = [("trace", &[0, 1, 2, 4, 5]), ("trace gave", &[0, 1])];
+const OF_TRACES: [Row; 3] =
+    [("trace", &[0, 1, 2, 4, 5]), ("trace gave", &[0, 1]), ("trace step", &[0, 1, 2, 3, 4])];
 
 /// The counts.
 #[derive(Default)]

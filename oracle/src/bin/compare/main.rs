@@ -10,6 +10,7 @@
 //! library: it compares the oracle with itself, and then with itself and each fault in turn.
 
 mod coverage;
+mod nudges;
 mod run;
 mod subject;
 

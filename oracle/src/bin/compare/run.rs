@@ -1,6 +1,7 @@
 //! Makes the same random calls to two programs and compares all they leave.
 
 use crate::coverage::Coverage;
+use crate::nudges;
 use crate::subject::Subject;
 use oracle::abi;
 use oracle::generate::{self, spoil, Group, Habits, Prng};
@@ -102,8 +103,8 @@ impl<'s> Comparison<'s> {
     pub fn run_calls(&mut self, rng: &mut Prng, count: u64) -> Result<(), String> {
         while self.calls < count {
             let setup = generate::setup(rng);
-            let habits =
-                Habits { noise: !rng.one_in(4), dips: rng.one_in(2), deafness: rng.range(1, 4) };
+            let (noise, dips, nudges) = (!rng.one_in(4), rng.one_in(2), rng.one_in(2));
+            let habits = Habits { noise, dips, nudges, deafness: rng.range(1, 4) };
             let mut group = Group::fresh(rng, setup, habits);
             let rounds = setup.delta + 4 * setup.epsilon;
             for _ in 0..rng.range(1, (setup.n * rounds).min(300)) {
@@ -121,11 +122,14 @@ impl<'s> Comparison<'s> {
             spoil::spoil(rng, &mut wrong);
             self.tick(wrong)?;
         }
+        if rng.one_in(3) {
+            self.tick(case.stepped(rng))?;
+        }
         if rng.one_in(16) {
             let clock = rng.below(case.setup.modulus);
             self.tick(TickCase { clock, ..case.clone() })?;
         }
-        if rng.one_in(4) {
+        if rng.one_in(3) {
             let (_, word) = self.case(ReadCase::random(rng, case.setup, case.clock))?;
             self.coverage.meet("reader", abi::number(word));
             let (_, word) = self.case(WriteCase::random(rng, case.setup, case.clock))?;
@@ -142,10 +146,12 @@ impl<'s> Comparison<'s> {
     }
 
     fn tick(&mut self, case: TickCase) -> Result<(TickCase, Answer), String> {
+        let given = case.clone();
         let (case, word) = self.case(case)?;
         let answer = abi::unpack_tick(word);
         self.coverage.meet("call", answer.number);
         if answer.number == 0 {
+            self.meet_nudges(&given, &case, &answer);
             self.coverage.meet("mend", answer.repair);
             self.coverage.meet("sent", u8::from(answer.outgoing > 0));
             self.coverage.meet("gave", u8::from(answer.delivered > 0));
@@ -154,6 +160,18 @@ impl<'s> Comparison<'s> {
             }
         }
         Ok((case, answer))
+    }
+
+    /// Counts what an accepted call meets of the nudged clocks.
+    fn meet_nudges(&mut self, given: &TickCase, left: &TickCase, answer: &Answer) {
+        let kinds = [
+            ("step", nudges::step_of(given)),
+            ("early", nudges::early_of(left, answer)),
+            ("overdue", nudges::overdue_of(given, answer)),
+        ];
+        for (what, kind) in kinds {
+            kind.into_iter().for_each(|kind| self.coverage.meet(what, kind));
+        }
     }
 
     fn words(&mut self, case: WordsCase) -> Result<(), String> {
@@ -197,7 +215,12 @@ impl<'s> Comparison<'s> {
             }
             let last = left.lines().last().unwrap_or_default();
             let number = last.strip_prefix("refused ").map_or(Ok(0), str::parse);
-            self.coverage.meet("trace", number.expect("a number after refused"));
+            let number = number.expect("a number after refused");
+            self.coverage.meet("trace", number);
+            if number == 0 {
+                let kinds = nudges::steps_of(&trace, &left);
+                kinds.into_iter().for_each(|kind| self.coverage.meet("trace step", kind));
+            }
             self.coverage.meet("trace gave", u8::from(left.contains("\ngive ")));
         }
         Ok(())

@@ -2,14 +2,17 @@
 use native.Mathlib.Omega.{arith}
 use Rattle.setup.specs.Views.{setupOf}
 use Rattle.lemmas.proofs.Questions.{limits-from}
+use Rattle.lemmas.proofs.Bounds.{Limits}
 use mathlib.Core.Path.{ap, _∙_}
-use mathlib.Core.List.{List}
+use mathlib.Core.List.{List, _++_}
 use lib.ListN.{length}
 use Rattle.laws.specs.Lists.{overlay}
+use Rattle.model.specs.Setup.{Setup}
 use Rattle.model.specs.Frame.{Frame}
-use Rattle.model.specs.Holdback.{encodeFrames, encodeHoldback}
+use Rattle.model.specs.Holdback.{held, encodeFrames, encodeHoldback}
 use Rattle.model.specs.Tick.{dueNow}
-use Rattle.holdback.proofs.Cut.{count-small, sound-spans, due-number, due-left, due-taken}
+use Rattle.holdback.specs.Queue.{Spans}
+use Rattle.holdback.proofs.Cut.{count-small, sound-spans, due-number, due-left, due-taken, due-room}
 use borrow.Author.Needs.{needs}
 use Rattle.holdback.proofs.due.cut_due.Statement.{statement}
 use Rattle.holdback.proofs.due.cut_due.Tie as tie
@@ -20,29 +23,40 @@ cast-epsilon c = search needs
 due-prefix-requires : tie.Need-due-prefix-requires
 due-prefix-requires c κs = search needs
 
-write-prefix-requires : tie.Need-write-prefix-requires
-write-prefix-requires c κs =
-    let start = c .before .before .before .before .before .before .before in
-    let limits = limits-from (setupOf (start .args .s)) (start .pre .0 .0) in
-    let s = setupOf (start .args .s) in
-    let b = start .args .buf .now in
-    let sound = start .pre .1 .0 .0 in
-    let count-is = start .pre .1 .0 .1 .1 in
-    let found = c .before .before .due-prefix in
-    let few = count-small s (start .args .v) b sound (start .args .count) limits count-is in
-    (sound-spans s (start .args .v) b sound (dueNow s (start .args .v)) (start .args .count) (start .args .end) (found .result .index) (found .result .at) (start .pre .1 .0 .1 .0) count-is (start .pre .1 .1 .0) (found .ensures), (start .pre .1 .1 .1, omega arith))
+-- what is due, as a prefix of the queue
+module _ (c : tie.After-due-prefix) where
+  abbrev start : tie.Start
+  start = c .before .before .before .before .before
+
+  abbrev s : Setup
+  s = setupOf (start .args .s)
+
+  limits : Limits s
+  limits = limits-from s (start .pre .0 .0)
+
+  spans : Spans (s .epsilon) (start .args .buf .now) (start .args .count) (start .args .end) (c .due-prefix .result .index) (c .due-prefix .result .at)
+  spans =
+      sound-spans s (start .args .v) (s .modulus) (start .args .buf .now) (start .pre .1 .0 .0) (dueNow s (start .args .v)) (start .args .count) (start .args .end) (c .due-prefix .result .index) (c .due-prefix .result .at)
+      (start .pre .1 .0 .1 .0) (start .pre .1 .0 .1 .1) (start .pre .1 .1 .0 .0) (c .due-prefix .ensures)
+
+append-prefix-requires : tie.Need-append-prefix-requires
+append-prefix-requires c κs =
+    let at = c .before .before in
+    let first = start at in
+    let found = at .due-prefix in (
+      spans at,
+      (
+        first .pre .1 .1 .1 .0,
+        due-room (s at) (first .args .v) (first .args .buf .now) (first .pre .1 .0 .0) (found .result .index) (found .result .at) (found .ensures) (limits at) (first .pre .0 .1)
+            (first .pre .1 .1 .1 .0) (first .pre .1 .1 .1 .1) (first .pre .1 .1 .0 .1),
+      ),
+    )
 
 cut-prefix-requires : tie.Need-cut-prefix-requires
 cut-prefix-requires c κs =
-    let start = c .before .before .before .before .before .before .before .before .before .before .before in
-    let limits = limits-from (setupOf (start .args .s)) (start .pre .0 .0) in
-    let s = setupOf (start .args .s) in
-    let b = start .args .buf .now in
-    let sound = start .pre .1 .0 .0 in
-    let count-is = start .pre .1 .0 .1 .1 in
-    let found = c .before .before .before .before .before .before .due-prefix in
-    let few = count-small s (start .args .v) b sound (start .args .count) limits count-is in
-    (sound-spans s (start .args .v) b sound (dueNow s (start .args .v)) (start .args .count) (start .args .end) (found .result .index) (found .result .at) (start .pre .1 .0 .1 .0) count-is (start .pre .1 .1 .0) (found .ensures), omega arith)
+    let at = c .before .before .before .before .before .before in
+    let first = start at in
+    (spans at, omega (arith, count-small (s at) (first .args .v) (s at .modulus) (first .args .buf .now) (first .pre .1 .0 .0) (first .args .count) (limits at) (first .pre .1 .0 .1 .1)))
 
 same-length : tie.Need-same-length
 same-length c = search needs
@@ -52,19 +66,20 @@ same-length-2 c = search needs
 
 returns : tie.Need-returns
 returns c =
-    let start = c .before .before .before .before .before .before .before .before .before .before .before .before .before .before in
-    let limits = limits-from (setupOf (start .args .s)) (start .pre .0 .0) in
-    let s = setupOf (start .args .s) in
-    let b = start .args .buf .now in
-    let sound = start .pre .1 .0 .0 in
-    let count-is = start .pre .1 .0 .1 .1 in
-    let found = c .before .before .before .before .before .before .before .before .before .due-prefix in
+    let at = c .before .before .before .before .before .before .before .before .before in
+    let first = start at in
+    let found = at .due-prefix in
+    let b = first .args .buf .now in
+    let d = first .args .delivery .now in
+    let sound = first .pre .1 .0 .0 in
     let kept = c .before .before .cut-prefix .ensures in
-    let given = c .before .before .before .before .before .before .write-prefix .ensures in (
-      due-number s (start .args .v) b sound (found .result .index) (found .result .at) (found .ensures),
+    let given = c .before .before .before .before .before .before .append-prefix .ensures in (
+      due-number (s at) (first .args .v) b sound (found .result .index) (found .result .at) (found .ensures),
       (
-        kept ∙ ap (encodeHoldback (length b)) (due-left s (start .args .v) b sound (found .result .index) (found .result .at) (found .ensures)),
-        given ∙ ap (λ (q : List Frame). overlay (encodeFrames q) (start .args .delivery .now)) (due-taken s (start .args .v) b sound (found .result .index) (found .result .at) (found .ensures)),
+        kept ∙ ap (encodeHoldback (length b)) (due-left (s at) (first .args .v) b sound (found .result .index) (found .result .at) (found .ensures)),
+        given
+            ∙ ap (λ (q : List Frame). overlay (encodeFrames (held (s at .epsilon) d ++ q)) d)
+            (due-taken (s at) (first .args .v) b sound (found .result .index) (found .result .at) (found .ensures)),
       ),
     )
 
@@ -74,7 +89,7 @@ cut-due-spec =
     (tie.spec
     cast-epsilon
     due-prefix-requires
-    write-prefix-requires
+    append-prefix-requires
     cut-prefix-requires
     same-length
     same-length-2

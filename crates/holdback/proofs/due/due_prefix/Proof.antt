@@ -10,7 +10,7 @@ use Rattle.holdback.proofs.due.due_prefix.Statement.{statement}
 use Rattle.holdback.proofs.due.due_prefix.Tie as tie
 
 abbrev Inv-loop : tie.InvT-loop
-Inv-loop s v buf count epsilon i₀ at₀ i at = Led (dueNow (setupOf s) v) (setupOf s) v buf count i at
+Inv-loop s v buf count epsilon i₀ at₀ i at = Led (dueNow (setupOf s) v) (setupOf s) v (s .modulus) buf count i at
 
 abbrev μ-loop : tie.MeasureT-loop
 μ-loop s v buf count epsilon i₀ at₀ i at = count - i

@@ -1,9 +1,9 @@
 -- `holdback::search::place_for` meets its contract. The search starts at the entry for the frame's sum. The invariant of the loop: every frame passed comes before it, and the next one starts at `at`. The measure is what is left of the count. Assumes nothing.
 use borrow.Author.Needs.{needs}
 use native.Mathlib.Omega.{arith}
-use Prim.Native.Nat.{_-_, _<_}
+use Prim.Native.Nat.{_+_, _-_, _<_}
 use Rattle.model.specs.Frame.{decode}
-use Rattle.model.specs.Order.{before}
+use Rattle.model.specs.Order.{before, dueNear}
 use Rattle.model.specs.Judge.{placeFor}
 use Rattle.setup.specs.Views.{setupOf}
 use Rattle.lemmas.proofs.Questions.{limits-from}
@@ -15,20 +15,20 @@ use Rattle.lemmas.proofs.Bounds.{Limits}
 use Rattle.holdback.proofs.RoundTrip.{passing}
 use Rattle.holdback.proofs.Frames.{counts-end, counts-decoded}
 use Rattle.holdback.proofs.Testing.{fits-passes, ranked, rank-fits, rank-placed, before-rank}
-use Rattle.holdback.proofs.Started.{place-inside, starts-long, starts-at, start-leads}
+use Rattle.holdback.proofs.Started.{place-inside, place-at, starts-long, starts-at, start-leads}
 use Rattle.holdback.proofs.Searching.{Led, led-inside, led-next, led-passes, led-stops, led-turns, led-ends}
 use Rattle.holdback.proofs.search.place_for.Statement.{statement}
 use Rattle.holdback.proofs.search.place_for.Tie as tie
 
 abbrev Inv-loop : tie.InvT-loop
-Inv-loop s v buf count starts frame epsilon rank kn start i₀ at₀ i at = Led (λ g. before (setupOf s) v g (decode (s .epsilon) frame)) (setupOf s) v buf count i at
+Inv-loop s v buf count starts frame epsilon rank kn start i₀ at₀ i at = Led (λ g. before (setupOf s) v g (decode (s .epsilon) frame)) (setupOf s) v (s .modulus) buf count i at
 
 abbrev μ-loop : tie.MeasureT-loop
 μ-loop s v buf count starts frame epsilon rank kn start i₀ at₀ i at = count - i
 
 -- the frame passes 10 to 12
 passed : (c : tie.Start Inv-loop μ-loop) → passes (setupOf (c .args .s)) (c .args .frame .now) ≡ true
-passed c = fits-passes (setupOf (c .args .s)) (c .args .v) (c .args .frame .now) (c .pre .1 .1 .1)
+passed c = fits-passes (setupOf (c .args .s)) (c .args .v) (c .args .s .modulus) (c .args .frame .now) (c .pre .1 .1 .1)
 
 limits : (c : tie.Start Inv-loop μ-loop) → Limits (setupOf (c .args .s))
 limits c = limits-from (setupOf (c .args .s)) (c .pre .0 .0)
@@ -49,7 +49,7 @@ counts-part-requires c κs =
 rank-place-requires : tie.Need-rank-place-requires Inv-loop μ-loop
 rank-place-requires c κs =
     let start = c .before .before .before .before .before .before in
-    (start .pre .0 .0, rank-fits (setupOf (start .args .s)) (start .args .v) (start .args .frame .now) (c .before .rank-of .result) (limits start) (start .pre .1 .1 .1) (c .before .rank-of .ensures))
+    (start .pre .0 .0, rank-fits (setupOf (start .args .s)) (start .args .v) (start .args .s .modulus) (start .args .frame .now) (c .before .rank-of .result) (limits start) (start .pre .1 .1 .1) (c .before .rank-of .ensures))
 
 -- the frame's sum has a place
 place : (c : tie.After-rank-place Inv-loop μ-loop) → c .rank-place .result ≡ sumPlace (setupOf (c .before .before .before .before .before .before .before .args .s)) (c .before .before .before .before .before .before .before .args .v) (decode (c .before .before .before .before .before .before .before .args .s .epsilon) (c .before .before .before .before .before .before .before .args .frame .now))
@@ -58,10 +58,14 @@ place c =
     c .rank-place .ensures
     ∙ rank-placed (setupOf (start .args .s)) (start .args .v) (decode (start .args .s .epsilon) (start .args .frame .now)) (c .before .before .rank-of .result) (c .before .before .rank-of .ensures)
 
+-- which tells its due clock
+due-is : (c : tie.Start Inv-loop μ-loop) → c .args .s .modulus + sumPlace (setupOf (c .args .s)) (c .args .v) (decode (c .args .s .epsilon) (c .args .frame .now)) ≡ dueNear (setupOf (c .args .s)) (c .args .v) (decode (c .args .s .epsilon) (c .args .frame .now))
+due-is c = place-at (setupOf (c .args .s)) (c .args .v) (c .args .s .modulus) (omega arith) (c .args .frame .now) (c .pre .1 .1 .1)
+
 inside : (c : tie.After-rank-place Inv-loop μ-loop) → c .rank-place .result < startPlaces
 inside c =
     let start = c .before .before .before .before .before .before .before in
-    omega (arith, place c, place-inside (setupOf (start .args .s)) (start .args .v) (limits start) (start .args .frame .now) (start .pre .1 .1 .1))
+    omega (arith, place c, due-is start, place-inside (setupOf (start .args .s)) (start .args .v) (start .args .s .modulus) (limits start) (start .args .frame .now) (start .pre .1 .1 .1))
 
 mul-start : tie.Need-mul-start Inv-loop μ-loop
 mul-start c = omega (arith, inside c)
@@ -78,7 +82,7 @@ loop-holds : tie.Need-loop-holds Inv-loop μ-loop
 loop-holds c =
     let start = c .before .before .before .before .before .before .before .before in
     let s = setupOf (start .args .s) in
-    start-leads s (start .args .v) (start .args .buf .now) (limits start) (start .pre .1 .0 .0) (decode (start .args .s .epsilon) (start .args .frame .now)) (start .pre .1 .0 .1 .0) (start .pre .1 .0 .1 .1) (starts-at s (start .args .v) (start .args .buf .now) (start .pre .1 .1 .0) (c .before .rank-place .result) (inside (c .before))) (place (c .before))
+    start-leads s (start .args .v) (start .args .s .modulus) (start .args .buf .now) (limits start) (start .pre .1 .0 .0) (c .before .rank-place .result) (decode (start .args .s .epsilon) (start .args .frame .now)) (start .pre .1 .0 .1 .0) (start .pre .1 .0 .1 .1) (starts-at s (start .args .v) (start .args .buf .now) (start .pre .1 .1 .0) (c .before .rank-place .result) (inside (c .before))) (omega (arith, place (c .before), due-is start))
 
 sub-frame-end : tie.Need-sub-frame-end Inv-loop μ-loop
 sub-frame-end c = led-inside (c .before .loop .inv) (c .loop-test .taken)

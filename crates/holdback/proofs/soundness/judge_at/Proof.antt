@@ -24,11 +24,11 @@ cast-epsilon : tie.Need-cast-epsilon
 cast-epsilon c = search needs
 
 sub-frame-end : tie.Need-sub-frame-end
-sub-frame-end c = at-inside (c .before .before .before .pre .1)
+sub-frame-end c = at-inside (c .before .before .before .pre .1 .1)
 
 part-frame-end-start : tie.Need-part-frame-end-start
 part-frame-end-start c =
-    let h = at-inside (c .before .before .before .pre .1) in
+    let h = at-inside (c .before .before .before .pre .1 .1) in
     omega arith
 
 part-frame-end-end : tie.Need-part-frame-end-end
@@ -41,7 +41,7 @@ add-next : tie.Need-add-next
 add-next c =
     let start = c .before .before .before .before .before in
     let limits = limits-from (setupOf (start .args .s)) (start .pre .0 .0) in
-    let h = at-inside (start .pre .1) in
+    let h = at-inside (start .pre .1 .1) in
     let b = start .args .buf .now in
     let at = start .args .at in
     let small = end-small (start .args .s .epsilon) (take (length b - at) (drop at b)) (limits .epsilon-most) (bytes-take (length b - at) (drop at b) (bytes-drop at b (λ i. omega (arith, c .before .before .before .before .shared-slice-known .given i)))) in
@@ -53,7 +53,7 @@ unsound-requires c κs = search needs
 returns : tie.Need-returns
 returns c =
     let end = c .before .before .frame-end in
-    c .unsound .ensures ∙ judged-cut (c .before .before .before .before .before .before .before .pre .1) (end .result) (end .ensures) (c .before .if1 .taken)
+    c .unsound .ensures ∙ judged-cut (c .before .before .before .before .before .before .before .pre .1 .1) (end .result) (end .ensures) (c .before .if1 .taken)
 
 sub-check : tie.Need-sub-check
 sub-check c = search needs
@@ -74,7 +74,7 @@ returns-2 : tie.Need-returns-2
 returns-2 c =
     let end = c .before .before .before .before .before .frame-end in
     let asked = c .before .before .check in
-    c .unsound2 .ensures ∙ judged-failed (c .before .before .before .before .before .before .before .before .before .before .pre .1) (end .result) (end .ensures) (asked .result) (asked .ensures) (c .before .if2 .taken)
+    c .unsound2 .ensures ∙ judged-failed (c .before .before .before .before .before .before .before .before .before .before .pre .1 .1) (end .result) (end .ensures) (asked .result) (asked .ensures) (c .before .if2 .taken)
 
 sub-rank-of : tie.Need-sub-rank-of
 sub-rank-of c = search needs
@@ -93,8 +93,8 @@ module _ (c : tie.After-rank-of-arg) where
   abbrev setup : Setup
   setup = setupOf (start .args .s)
 
-  abbrev walk : Walking setup (start .args .v) (start .args .buf .now) (start .args .seen .now) (start .args .i) (start .args .prev) (start .args .last) (start .args .at)
-  walk = start .pre .1
+  abbrev walk : Walking setup (start .args .v) (start .args .least) (start .args .buf .now) (start .args .seen .now) (start .args .i) (start .args .prev) (start .args .last) (start .args .at)
+  walk = start .pre .1 .1
 
   limits : Limits setup
   limits = limits-from setup (start .pre .0 .0)
@@ -130,7 +130,7 @@ returns-3 c =
     c .unsound3 .ensures ∙ judged-untimely (walk at) (size at) (ends at) (passed at) (read .result) (read .ensures) (c .before .before .timely .result) (c .before .before .timely .ensures) (c .before .if3 .taken)
 
 -- and is neither early nor overdue
-fit : (c : tie.Else3) → fits (setup (c .before .before .before)) (start (c .before .before .before) .args .v) (bytesAt (setup (c .before .before .before) .epsilon) (start (c .before .before .before) .args .buf .now) (start (c .before .before .before) .args .i)) ≡ true
+fit : (c : tie.Else3) → fits (setup (c .before .before .before)) (start (c .before .before .before) .args .v) (start (c .before .before .before) .args .least) (bytesAt (setup (c .before .before .before) .epsilon) (start (c .before .before .before) .args .buf .now) (start (c .before .before .before) .args .i)) ≡ true
 fit c =
     let at = c .before .before .before in
     let read = c .before .before .rank-of in
@@ -155,7 +155,7 @@ is-marked-requires : tie.Need-is-marked-requires
 is-marked-requires c κs =
     let at = c .before .before .before .before .before in
     let read = c .before .before .before .before .rank-of in
-    ((start at .pre .0 .0, own-within (walk at) (size at) (ends at) (passed at) (read .result) (read .ensures) (fit (c .before .before)) (limits at) (start at .pre .0 .1)), table-long (walk at))
+    ((start at .pre .0 .0, own-within (walk at) (size at) (ends at) (passed at) (read .result) (read .ensures) (fit (c .before .before)) (limits at) (start at .pre .0 .1) (start at .pre .1 .0)), table-long (walk at))
 
 unsound-requires-5 : tie.Need-unsound-requires-5
 unsound-requires-5 c κs = search needs
@@ -164,13 +164,13 @@ returns-5 : tie.Need-returns-5
 returns-5 c =
     let at = c .before .before .before .before .before .before .before .before in
     let read = c .before .before .before .before .before .before .before .rank-of in
-    c .unsound5 .ensures ∙ judged-repeated (walk at) (size at) (ends at) (passed at) (read .result) (read .ensures) (fit (c .before .before .before .before .before)) (limits at) (start at .pre .0 .1) (c .before .before .is-marked .result) (c .before .before .is-marked .ensures) (c .before .if5 .taken)
+    c .unsound5 .ensures ∙ judged-repeated (walk at) (size at) (ends at) (passed at) (read .result) (read .ensures) (fit (c .before .before .before .before .before)) (limits at) (start at .pre .0 .1) (start at .pre .1 .0) (c .before .before .is-marked .result) (c .before .before .is-marked .ensures) (c .before .if5 .taken)
 
 returns-6 : tie.Need-returns-6
 returns-6 c =
     let at = c .before .before .before .before .before .before .before in
     let read = c .before .before .before .before .before .before .rank-of in
-    judged-sound (walk at) (size at) (ends at) (passed at) (read .result) (read .ensures) (fit (c .before .before .before .before)) (limits at) (start at .pre .0 .1) (c .before .before .before .follows .result) (c .before .is-marked .result) (c .before .before .before .follows .ensures) (c .before .before .if4 .left) (c .before .is-marked .ensures) (c .if5 .left)
+    judged-sound (walk at) (size at) (ends at) (passed at) (read .result) (read .ensures) (fit (c .before .before .before .before)) (limits at) (start at .pre .0 .1) (start at .pre .1 .0) (c .before .before .before .follows .result) (c .before .is-marked .result) (c .before .before .before .follows .ensures) (c .before .before .if4 .left) (c .before .is-marked .ensures) (c .if5 .left)
 
 pub judge-at-spec : {M : Type 1} → statement M
 judge-at-spec =

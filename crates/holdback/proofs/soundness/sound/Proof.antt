@@ -37,19 +37,22 @@ returns : tie.Need-returns
 returns c =
     let start = c .before .before .before .before .before .before .before .before .before .before in
     let many : depth (start .args .s .n) (start .args .s .epsilon) (start .args .s .delta) < twoAt (start .args .buf .now) 0 = omega (arith, c .before .before .before .before .before .before .two-at .ensures, c .before .before .depth .ensures, c .before .if1 .taken) in
-    walked-no (c .emptied .ensures) (too-many (setupOf (start .args .s)) (start .args .v) (start .args .buf .now) many) (start .pre .1 .1 .0 ∙ seen-none (setupOf (start .args .s)) (start .args .v)) (start .pre .1 .1 .1)
+    walked-no (c .emptied .ensures) (too-many (setupOf (start .args .s)) (start .args .v) (start .args .least) (start .args .buf .now) many) (start .pre .1 .1 .0 ∙ seen-none (setupOf (start .args .s)) (start .args .v)) (start .pre .1 .1 .1)
 
 walk-frames-requires : tie.Need-walk-frames-requires
 walk-frames-requires c κs =
     let start = c .before .before .before .before .before .before .before .before .before .before .before in (
-      start .pre .0,
-      record {
-        two = start .pre .1 .0;
-        count-is = c .before .before .before .before .before .before .before .two-at .ensures;
-        few = omega (arith, c .before .before .before .depth .ensures, c .before .before .if1 .left);
-        empty = start .pre .1 .1 .0 ∙ seen-none (setupOf (start .args .s)) (start .args .v);
-        all-front = start .pre .1 .1 .1;
-      },
+      (start .pre .0 .0, start .pre .0 .1 .0),
+      (
+        start .pre .0 .1 .1,
+        record {
+          two = start .pre .1 .0;
+          count-is = c .before .before .before .before .before .before .before .two-at .ensures;
+          few = omega (arith, c .before .before .before .depth .ensures, c .before .before .if1 .left);
+          empty = start .pre .1 .1 .0 ∙ seen-none (setupOf (start .args .s)) (start .args .v);
+          all-front = start .pre .1 .1 .1;
+        },
+      ),
     )
 
 same-length : tie.Need-same-length

@@ -14,37 +14,37 @@ use Rattle.holdback.specs.Sound.{Walking}
 use Rattle.holdback.specs.Starts.{startUnit, startPlaces, front}
 use Rattle.holdback.proofs.Seen.{seen-cleared}
 use Rattle.holdback.proofs.Started.{all-front}
-use Rattle.holdback.proofs.Walks.{walk-starts, starting-long, table-long, at-low-enough, Right, judged-bad, judged-good, walk-fails, walked-no, walked-yes, judged-within, judged-timely, judged-place, walk-turns, Filling, filling-starts, filling-turns, filling-ends}
+use Rattle.holdback.proofs.Walks.{walk-starts, starting-long, table-long, at-low-enough, Right, judged-bad, judged-good, walk-fails, walked-no, walked-yes, judged-within, judged-small, judged-place, walk-turns, Filling, filling-starts, filling-turns, filling-ends}
 use Rattle.holdback.proofs.soundness.walk_frames.Statement.{statement}
 use Rattle.holdback.proofs.soundness.walk_frames.Tie as tie
 
 abbrev Inv-loop : tie.InvT-loop
-Inv-loop s v buf count seen₀ starts₀ slots i₀ prev₀ at₀ last₀ filled₀ seen starts i prev at last filled =
-    Walking (setupOf s) v buf seen i prev last at × (Filling (setupOf s) v buf i filled starts × (i ≤ count))
+Inv-loop s v least buf count seen₀ starts₀ slots i₀ prev₀ at₀ last₀ filled₀ seen starts i prev at last filled =
+    Walking (setupOf s) v least buf seen i prev last at × (Filling (setupOf s) v buf i filled starts × (i ≤ count))
 
 abbrev μ-loop : tie.MeasureT-loop
-μ-loop s v buf count seen₀ starts₀ slots i₀ prev₀ at₀ last₀ filled₀ seen starts i prev at last filled = count - i
+μ-loop s v least buf count seen₀ starts₀ slots i₀ prev₀ at₀ last₀ filled₀ seen starts i prev at last filled = count - i
 
 no-rank-requires : tie.Need-no-rank-requires Inv-loop μ-loop
 no-rank-requires c κs = search needs
 
 loop-holds : tie.Need-loop-holds Inv-loop μ-loop
-loop-holds c = let start = c .before .before .before .before in (walk-starts _ (start .pre .1), (filling-starts (start .pre .1 .all-front), omega arith))
+loop-holds c = let start = c .before .before .before .before in (walk-starts _ (start .pre .1 .1), (filling-starts (start .pre .1 .1 .all-front), omega arith))
 
 judge-at-requires : tie.Need-judge-at-requires Inv-loop μ-loop
-judge-at-requires c κs = (c .before .before .before .before .before .before .before .pre .0, c .before .before .loop .inv .0)
+judge-at-requires c κs = (c .before .before .before .before .before .before .before .pre .0, (c .before .before .before .before .before .before .before .pre .1 .0, c .before .before .loop .inv .0))
 
 -- the tables of origins and of starts keep their length
 module _ (c : tie.At-loop Inv-loop μ-loop) where
   seen-same : length (c .loop .seen) ≡ length (c .before .before .before .before .before .args .seen .now)
-  seen-same = table-long (c .loop .inv .0) ∙ sym (starting-long (c .before .before .before .before .before .pre .1))
+  seen-same = table-long (c .loop .inv .0) ∙ sym (starting-long (c .before .before .before .before .before .pre .1 .1))
 
   starts-same : length (c .loop .starts) ≡ length (c .before .before .before .before .before .args .starts .now)
-  starts-same = c .loop .inv .1 .0 .long ∙ sym (ap length (c .before .before .before .before .before .pre .1 .all-front) ∙ length-replicate startPlaces front)
+  starts-same = c .loop .inv .1 .0 .long ∙ sym (ap length (c .before .before .before .before .before .pre .1 .1 .all-front) ∙ length-replicate startPlaces front)
 
   -- an entry has room for where the next frame starts
   low : (c .loop .i ≤ 1792) × (c .loop .at < startUnit)
-  low = at-low-enough (c .loop .inv .0) (limits-from (setupOf (c .before .before .before .before .before .args .s)) (c .before .before .before .before .before .pre .0 .0)) (omega (arith, c .loop .inv .1 .1, c .before .before .before .before .before .pre .1 .few))
+  low = at-low-enough (c .loop .inv .0) (limits-from (setupOf (c .before .before .before .before .before .args .s)) (c .before .before .before .before .before .pre .0 .0)) (omega (arith, c .loop .inv .1 .1, c .before .before .before .before .before .pre .1 .1 .few))
 
 clear-requires : tie.Need-clear-requires Inv-loop μ-loop
 clear-requires c κs = omega (arith, seen-same (c .before .before .before .before .before))
@@ -67,10 +67,10 @@ returns c =
     let b = start .args .buf .now in
     let loop = c .before .before .before .before .before .before .before .before .before .before .before .before .before .loop in
     let judged = c .before .before .before .before .before .before .before .before .before .before .judge-at in
-    let l : loop .i < twoAt b 0 = omega (arith, c .before .before .before .before .before .before .before .before .before .before .before .before .loop-test .taken, start .pre .1 .count-is) in
+    let l : loop .i < twoAt b 0 = omega (arith, c .before .before .before .before .before .before .before .before .before .before .before .before .loop-test .taken, start .pre .1 .1 .count-is) in
     walked-no (c .emptied .ensures)
-    (walk-fails (setupOf (start .args .s)) (start .args .v) b (loop .i) l
-    (judged-bad (setupOf (start .args .s)) (start .args .v) b (loop .i) (judged .result) (judged .ensures) (c .before .before .before .before .before .before .before .before .before .if1 .taken)))
+    (walk-fails (setupOf (start .args .s)) (start .args .v) (start .args .least) b (loop .i) l
+    (judged-bad (setupOf (start .args .s)) (start .args .v) (start .args .least) b (loop .i) (judged .result) (judged .ensures) (c .before .before .before .before .before .before .before .before .before .if1 .taken)))
     (seen-cleared (setupOf (start .args .s)) (start .args .v) (loop .seen) _ (length (start .args .seen .now)) (table-long (loop .inv .0)) (sym (seen-same (c .before .before .before .before .before .before .before .before .before .before .before .before .before))) (c .before .before .before .before .before .before .before .clear .ensures))
     (all-front (loop .starts) (c .before .before .before .fill .ensures))
 
@@ -85,33 +85,30 @@ module _ (c : tie.Else1 Inv-loop μ-loop) where
   abbrev setup : Setup
   setup = setupOf (start .args .s)
 
-  abbrev walk : Walking setup (start .args .v) buffer (c .before .before .before .before .loop .seen) (c .before .before .before .before .loop .i) (c .before .before .before .before .loop .prev) (c .before .before .before .before .loop .last) (c .before .before .before .before .loop .at)
+  abbrev walk : Walking setup (start .args .v) (start .args .least) buffer (c .before .before .before .before .loop .seen) (c .before .before .before .before .loop .i) (c .before .before .before .before .loop .prev) (c .before .before .before .before .loop .last) (c .before .before .before .before .loop .at)
   walk = c .before .before .before .before .loop .inv .0
 
   abbrev judged : Judged
   judged = c .before .judge-at .result
 
-  right : Right setup (start .args .v) buffer (c .before .before .before .before .loop .i) (judged .end) (judged .rank)
-  right = judged-good setup (start .args .v) buffer (c .before .before .before .before .loop .i) judged (c .before .judge-at .ensures) (c .if1 .left)
+  right : Right setup (start .args .v) (start .args .least) buffer (c .before .before .before .before .loop .i) (judged .end) (judged .rank)
+  right = judged-good setup (start .args .v) (start .args .least) buffer (c .before .before .before .before .loop .i) judged (c .before .judge-at .ensures) (c .if1 .left)
 
 set-mark-requires : tie.Need-set-mark-requires Inv-loop μ-loop
 set-mark-requires c κs =
     let at = c .before .before in
-    ((start at .pre .0 .0, judged-within (walk at) (right at) (limits-from (setup at) (start at .pre .0 .0)) (start at .pre .0 .1)), table-long (walk at))
+    ((start at .pre .0 .0, judged-within (walk at) (right at) (limits-from (setup at) (start at .pre .0 .0)) (start at .pre .0 .1) (start at .pre .1 .0)), table-long (walk at))
 
-rank-place-requires : tie.Need-rank-place-requires Inv-loop μ-loop
-rank-place-requires c κs =
+places-to-requires : tie.Need-places-to-requires Inv-loop μ-loop
+places-to-requires c κs =
     let at = c .before .before .before .before .before in
-    (start at .pre .0 .0, judged-timely (walk at) (right at) (limits-from (setup at) (start at .pre .0 .0)))
+    (start at .pre .0 .0, judged-small (walk at) (right at) (limits-from (setup at) (start at .pre .0 .0)))
 
 -- its sum has a place
-placed : (c : tie.After-rank-place Inv-loop μ-loop) → c .rank-place .result < startPlaces
+placed : (c : tie.After-places-to Inv-loop μ-loop) → c .places-to .result ≤ startPlaces
 placed c =
     let at = c .before .before .before .before .before .before in
-    omega (arith, c .rank-place .ensures, judged-place (walk at) (right at) (limits-from (setup at) (start at .pre .0 .0)))
-
-add-k : tie.Need-add-k Inv-loop μ-loop
-add-k c = omega (arith, placed c)
+    omega (arith, c .places-to .ensures, judged-place (walk at) (right at) (limits-from (setup at) (start at .pre .0 .0)))
 
 mul-fill : tie.Need-mul-fill Inv-loop μ-loop
 mul-fill c = omega (arith, low (c .before .before .before .before .before .before .before .before .before .before .before))
@@ -138,7 +135,7 @@ loop-again c =
     let more = c .before .before .before .before .before .before .before .before .before .before .before .before .before .loop-test .taken in (
       walk-turns (walk at) (right at) _ (c .before .before .before .before .before .before .before .set-mark .ensures),
       (
-        filling-turns (walk at) (right at) (loop .inv .1 .0) (omega (arith, more, start at .pre .1 .count-is)) (c .before .before .before .before .rank-place .ensures) (c .before .before .fill2 .ensures),
+        filling-turns (walk at) (right at) (loop .inv .1 .0) (omega (arith, more, start at .pre .1 .1 .count-is)) (c .before .before .before .before .places-to .ensures) (c .before .before .fill2 .ensures),
         omega (arith, more),
       ),
     )
@@ -166,7 +163,7 @@ returns-2 c =
     let loop = c .before .before .before .before .before .loop in
     let start = c .before .before .before .before .before .before .before .before .before .before in
     let left = c .before .before .before .before .loop-test .left in
-    walked-yes (start .pre .1) (loop .inv .0) (filling-ends (loop .inv .0) (loop .inv .1 .0) (start .pre .1 .count-is) (loop .inv .1 .1) left (c .before .before .fill3 .ensures)) (loop .inv .1 .1) left
+    walked-yes (start .pre .1 .1) (loop .inv .0) (filling-ends (loop .inv .0) (loop .inv .1 .0) (start .pre .1 .1 .count-is) (loop .inv .1 .1) left (c .before .before .fill3 .ensures)) (loop .inv .1 .1) left
 
 pub walk-frames-spec : {M : Type 1} → statement M
 walk-frames-spec =
@@ -184,8 +181,7 @@ walk-frames-spec =
     same-length-2
     returns
     set-mark-requires
-    rank-place-requires
-    add-k
+    places-to-requires
     mul-fill
     add-fill
     cast-fill

@@ -27,7 +27,7 @@ cast-result-3 : tie.Need-cast-result-3
 cast-result-3 c = search needs
 
 sub-result : tie.Need-sub-result
-sub-result c = let start = c .before .before .before .before in rank-past (setupOf (start .args .s)) (start .args .rank) (start .pre .1 .1 .1)
+sub-result c = let start = c .before .before .before .before in rank-past (setupOf (start .args .s)) (setupOf (start .args .s) .modulus) (start .args .rank) (start .pre .1 .1 .1)
 
 returns : tie.Need-returns
 unfolding rankPlace due sum

@@ -12,13 +12,13 @@ rank-of-requires : tie.Need-rank-of-requires
 rank-of-requires c κs =
     let start = c .before in
     let setup = setupOf (start .args .s) in
-    (start .pre .0, passing setup (start .args .frame .now) (fits-passes setup (start .args .v) (start .args .frame .now) (start .pre .1)) .r-below)
+    (start .pre .0, passing setup (start .args .frame .now) (fits-passes setup (start .args .v) (setup .modulus) (start .args .frame .now) (start .pre .1)) .r-below)
 
 rank-place-requires : tie.Need-rank-place-requires
 rank-place-requires c κs =
     let start = c .before .before in
     let setup = setupOf (start .args .s) in
-    (start .pre .0 .0, rank-fits setup (start .args .v) (start .args .frame .now) (c .rank-of .result) (limits-from setup (start .pre .0 .0)) (start .pre .1) (c .rank-of .ensures))
+    (start .pre .0 .0, rank-fits setup (start .args .v) (setup .modulus) (start .args .frame .now) (c .rank-of .result) (limits-from setup (start .pre .0 .0)) (start .pre .1) (c .rank-of .ensures))
 
 returns : tie.Need-returns
 returns c =

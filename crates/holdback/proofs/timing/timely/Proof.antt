@@ -23,7 +23,7 @@ add-if1 c = search needs
 returns : tie.Need-returns
 returns c =
     let start = c .before .before .before .before in
-    untimely (setupOf (start .args .s)) (start .args .rank) (c .if1 .taken)
+    untimely (setupOf (start .args .s)) (start .args .least) (start .args .rank) (c .if1 .taken)
 
 cast-result : tie.Need-cast-result
 cast-result c = search needs
@@ -37,7 +37,7 @@ add-result-2 c = search needs
 returns-2 : tie.Need-returns-2
 returns-2 c =
     let start = c .before .before .before .before .before in
-    timely-rest (setupOf (start .args .s)) (start .args .rank) (c .before .if1 .left)
+    timely-rest (setupOf (start .args .s)) (start .args .least) (start .args .rank) (c .before .if1 .left)
 
 pub timely-spec : {M : Type 1} → statement M
 timely-spec =

@@ -8,7 +8,7 @@ use Rattle.model.specs.Holdback.{held}
 use Rattle.holdback.specs.Starts.{startPlaces}
 use Rattle.holdback.proofs.RoundTrip.{Bytes}
 use Rattle.holdback.proofs.Seen.{length-seen}
-use Rattle.holdback.proofs.Started.{place-inside}
+use Rattle.holdback.proofs.Started.{place-inside, place-at}
 use Rattle.setup.specs.Views.{setupOf}
 use Rattle.node.proofs.Places.{Known, known, fits, short, movable, spans, more-held, more-extent, more-queued}
 use Rattle.node.proofs.hearing.enqueue.Statement.{statement}
@@ -37,7 +37,12 @@ sum-place-requires c κs = let start = begin c in ((start .pre .0 .timed .limits
 placed : (c : tie.After-sum-place) → c .sum-place .result < startPlaces
 placed c =
     let start = begin (c .before) in
-    omega (arith, c .sum-place .ensures, place-inside (setupOf (start .args .setup)) (start .args .clock) (here start .limits) (start .args .s .now) (here start .fit))
+    omega (
+      arith,
+      c .sum-place .ensures,
+      place-at (setupOf (start .args .setup)) (start .args .clock) (start .args .setup .modulus) (omega arith) (start .args .s .now) (here start .fit),
+      place-inside (setupOf (start .args .setup)) (start .args .clock) (start .args .setup .modulus) (here start .limits) (start .args .s .now) (here start .fit),
+    )
 
 add-shift-starts : tie.Need-add-shift-starts
 add-shift-starts c = omega (arith, placed (c .before))

@@ -111,7 +111,7 @@ returns-4 c =
 room : (c : tie.Else4) → length (queue (c .before .before .before .before .before .before .before .before .before .before .before .before .before .before .before)) < depth (c .before .before .before .before .before .before .before .before .before .before .before .before .before .before .before .args .setup .n) (c .before .before .before .before .before .before .before .before .before .before .before .before .before .before .before .args .setup .epsilon) (c .before .before .before .before .before .before .before .before .before .before .before .before .before .before .before .args .setup .delta)
 room c = omega (arith, c .before .depth .ensures, long (c .before .before .before .before .before .before .before .before .before .before .before .before .before .before .before))
 
-fit : (c : tie.Else2) → fits (setupOf (c .before .before .before .before .before .before .before .before .args .setup)) (c .before .before .before .before .before .before .before .before .args .clock) (c .before .before .before .before .before .before .before .before .args .s .now) ≡ true
+fit : (c : tie.Else2) → fits (setupOf (c .before .before .before .before .before .before .before .before .args .setup)) (c .before .before .before .before .before .before .before .before .args .clock) (c .before .before .before .before .before .before .before .before .args .setup .modulus) (c .before .before .before .before .before .before .before .before .args .s .now) ≡ true
 fit c =
     let start = c .before .before .before .before .before .before .before .before in
     fits-when (setupOf (start .args .setup)) (start .args .clock) (start .args .s .now) (passed (c .before .before)) (time-late (setupOf (start .args .setup)) (start .args .clock) (frame start) (timely c)) (time-early (setupOf (start .args .setup)) (start .args .clock) (frame start) (timely c))

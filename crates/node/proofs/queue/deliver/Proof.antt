@@ -1,5 +1,5 @@
 -- `node::queue::deliver` meets its contract. Assumes nothing.
-use Prim.Native.Nat.{ℕ, _≤_}
+use Prim.Native.Nat.{ℕ, _+_, _≤_}
 use native.Mathlib.Omega.{arith}
 use mathlib.Core.Path.{sym, _∙_, ap}
 use mathlib.Core.Bool.{not}
@@ -8,17 +8,15 @@ use borrow.Author.Needs.{needs}
 use Rattle.laws.specs.Lists.{select}
 use Rattle.model.specs.Holdback.{held, encodeHoldback}
 use Rattle.model.specs.Tick.{dueNow}
+use Rattle.lemmas.proofs.Questions.{limits-from}
 use Rattle.holdback.specs.Queue.{frameStart}
 use Rattle.setup.specs.Views.{setupOf}
-use Rattle.node.proofs.Places.{size-two}
+use Rattle.node.proofs.Places.{size-two, both-small}
 use Rattle.node.proofs.queue.deliver.Statement.{statement}
 use Rattle.node.proofs.queue.deliver.Tie as tie
 
 two : (c : tie.Start) → 2 ≤ length (c .args .holdback .now)
 two c = size-two (setupOf (c .args .setup)) (length (c .args .holdback .now)) (c .pre .size)
-
-room : (c : tie.Start) → length (c .args .holdback .now) ≤ length (c .args .delivery .now)
-room c = omega (arith, c .pre .size, c .pre .room)
 
 cut-due-requires : tie.Need-cut-due-requires
 cut-due-requires c κs =
@@ -27,8 +25,20 @@ cut-due-requires c κs =
       (start .pre .timed .limits, start .pre .timed .below),
       (
         (start .pre .sound, (two start, extent .count-is)),
-        (extent .ends ∙ ap (frameStart (start .args .setup .epsilon) (start .args .holdback .now)) (sym (extent .count-is)), room start),
+        (
+          (extent .ends ∙ ap (frameStart (start .args .setup .epsilon) (start .args .holdback .now)) (sym (extent .count-is)), start .pre .room),
+          (start .pre .before, start .pre .few),
+        ),
       ),
+    )
+
+add-result : tie.Need-add-result
+add-result c =
+    let start = c .before .before .before .before .before .before .before .before .before .before in
+    let s = setupOf (start .args .setup) in
+    omega (
+      arith,
+      both-small s (start .args .clock) (start .args .holdback .now) (dueNow s (start .args .clock)) (start .args .early .index) (c .before .before .before .before .before .cut-due .result) (limits-from s (start .pre .timed .limits)) (start .pre .sound) (start .pre .few) (c .before .before .before .before .before .cut-due .ensures .0),
     )
 
 same-length : tie.Need-same-length
@@ -39,10 +49,10 @@ same-length-2 c = search needs
 
 returns : tie.Need-returns
 returns c =
-    let start = c .before .before .before .before .before .before .before .before .before in
-    let done = c .before .before .before .before .cut-due .ensures in
+    let start = c .before .before .before .before .before .before .before .before .before .before in
+    let done = c .before .before .before .before .before .cut-due .ensures in
     record {
-      count-is = done .0;
+      count-is = ap (λ (n : ℕ). start .args .early .index + n) (done .0);
       kept =
           done .1 .0
           ∙ ap (λ (n : ℕ). encodeHoldback n (select (λ f. not (dueNow (setupOf (start .args .setup)) (start .args .clock) f)) (held (start .args .setup .epsilon) (start .args .holdback .now)))) (start .pre .size);
@@ -50,4 +60,4 @@ returns c =
     }
 
 pub deliver-spec : {M : Type 1} → statement M
-deliver-spec = tie.close (tie.spec cut-due-requires same-length same-length-2 returns)
+deliver-spec = tie.close (tie.spec cut-due-requires add-result same-length same-length-2 returns)

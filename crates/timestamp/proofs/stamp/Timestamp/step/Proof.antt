@@ -1,4 +1,4 @@
--- `timestamp::stamp::Timestamp::step` meets its contract: the counts but the first are copied, and what stands past them is 0.
+-- `timestamp::stamp::Timestamp::step` meets its contract: the counts but the first k are copied, and what stands past them is 0.
 -- Assumes nothing.
 use Rattle.timestamp.proofs.Steps.{step-widened}
 use mathlib.Core.Path.{_≡_}
@@ -23,12 +23,12 @@ sub-counts-of c = search needs
 counts-of-requires : tie.Need-counts-of-requires
 counts-of-requires c κs = omega (arith, long (c .before .before))
 
-one-less-requires : tie.Need-one-less-requires
-one-less-requires c κs = search needs
+past-requires : tie.Need-past-requires
+past-requires c κs = search needs
 
 returns : tie.Need-returns
 returns c =
-    step-widened _ _ (c .before .before .before .before .pre .1) (long (c .before .before .before .before)) _ _ _ (c .before .before .before .before .pre .0) (c .one-less .ensures) (c .before .counts-of .ensures)
+    step-widened _ _ (c .before .before .before .before .pre .1) (long (c .before .before .before .before)) _ _ _ _ (c .before .before .before .before .pre .0) (c .past .ensures) (c .before .counts-of .ensures)
 
 pub step-spec : {M : Type 1} → statement M
 step-spec =
@@ -38,5 +38,5 @@ step-spec =
     mul-counts-of
     sub-counts-of
     counts-of-requires
-    one-less-requires
+    past-requires
     returns)

@@ -1,0 +1,148 @@
+-- `holdback::early::cut_early` meets its contract: the marks go, the entries fall, and the front is cut off. Assumes nothing.
+use Prim.Native.Nat.{ℕ, _+_, _*_, _-_, _≤_, _<_}
+use native.Mathlib.Omega.{arith}
+use mathlib.Core.Path.{_≡_, refl, sym, ap, ap₂, _∙_}
+use mathlib.Core.List.{List}
+use lib.ListN.{length, drop, getD}
+use Rattle.model.specs.Setup.{Setup}
+use Rattle.model.specs.Frame.{Frame, twoAt}
+use Rattle.model.specs.Holdback.{held, encodeHoldback}
+use Rattle.setup.specs.Views.{setupOf}
+use Rattle.lemmas.proofs.Bounds.{Limits}
+use Rattle.lemmas.proofs.Questions.{limits-from}
+use Rattle.holdback.specs.Queue.{frameStart, Spans}
+use Rattle.holdback.specs.Seen.{seenTable}
+use Rattle.holdback.specs.Starts.{startUnit, startPlaces, startOf, loweredStarts}
+use Rattle.holdback.specs.Early.{SoundBy, EarlyFront, earlyFrames, otherFrames}
+use Rattle.holdback.proofs.RoundTrip.{Bytes}
+use Rattle.holdback.proofs.Changes.{located}
+use Rattle.holdback.proofs.Cut.{count-small}
+use Rattle.holdback.proofs.Started.{starts-long, starts-at}
+use Rattle.holdback.proofs.Releasing.{index-in, early-others, early-small, early-spans, start-lowered, starts-left}
+use borrow.Author.Needs.{needs}
+use Rattle.holdback.proofs.early.cut_early.Statement.{statement}
+use Rattle.holdback.proofs.early.cut_early.Tie as tie
+
+-- the queue as it comes, and its front
+module _ (c : tie.After-slice-known) where
+  abbrev start : tie.Start
+  start = c .before
+
+  abbrev s : Setup
+  s = setupOf (start .args .s)
+
+  abbrev v : ℕ
+  v = start .args .v
+
+  abbrev b : List ℕ
+  b = start .args .buf .now
+
+  abbrev sound : SoundBy s v b
+  sound = start .pre .1 .0 .0
+
+  abbrev front : EarlyFront s v b (start .args .early .index) (start .args .early .at)
+  front = start .pre .1 .1 .0 .1
+
+  limits : Limits s
+  limits = limits-from s (start .pre .0 .0)
+
+  clean : Bytes b
+  clean i = omega (arith, c .slice-known .given i)
+
+  inside : start .args .early .index ≤ twoAt b 0
+  inside = omega (arith, front .number, index-in s v (sound .least) b (sound .sound) limits clean (start .pre .1 .0 .1 .0))
+
+  at-is : start .args .early .at ≡ frameStart (s .epsilon) b (length (earlyFrames s v b))
+  at-is = front .starts ∙ ap (frameStart (s .epsilon) b) (front .number)
+
+  spans : Spans (s .epsilon) b (start .args .count) (start .args .end) (start .args .early .index) (start .args .early .at)
+  spans =
+      early-spans s v (sound .least) b (sound .sound) limits clean (start .pre .1 .0 .1 .0) (start .pre .1 .0 .1 .1) (start .pre .1 .1 .0 .0) front
+
+  small : (start .args .early .index ≤ 1792) × ((2 ≤ start .args .early .at) × (start .args .early .at < startUnit))
+  small =
+      let few = early-small s v (sound .least) b (sound .sound) limits clean (start .pre .1 .0 .1 .0) in
+      let low = located spans clean in
+      (omega (arith, front .number, few .0), (low .0, omega (arith, at-is, few .1)))
+
+  step-is : start .args .early .index * startUnit + (start .args .early .at - 2) ≡ length (earlyFrames s v b) * startUnit + (frameStart (s .epsilon) b (length (earlyFrames s v b)) - 2)
+  step-is = ap₂ (λ (i at : ℕ). i * startUnit + (at - 2)) (front .number) at-is
+
+unmark-requires : tie.Need-unmark-requires
+unmark-requires c κs =
+    let at = c .before .before .before .before in
+    (start at .pre .0, ((sound at, (start at .pre .1 .0 .1 .0, inside at)), start at .pre .1 .1 .1 .0))
+
+mul-lower-starts : tie.Need-mul-lower-starts
+mul-lower-starts c = omega (arith, small (c .before .before .before .before .before .before .before .before .before))
+
+sub-lower-starts : tie.Need-sub-lower-starts
+sub-lower-starts c = omega (arith, small (c .before .before .before .before .before .before .before .before .before .before))
+
+add-lower-starts : tie.Need-add-lower-starts
+add-lower-starts c = omega (arith, small (c .before .before .before .before .before .before .before .before .before .before))
+
+cast-lower-starts : tie.Need-cast-lower-starts
+cast-lower-starts c = omega (arith, small (c .before .before .before .before .before .before .before .before .before .before))
+
+lower-starts-requires : tie.Need-lower-starts-requires
+lower-starts-requires c κs =
+    let at = c .before .before .before .before .before .before .before .before .before .before in
+    let tabled = start at .pre .1 .1 .1 .1 in (
+      starts-long (s at) (v at) (b at) tabled,
+      λ k h.
+          omega (
+            arith,
+            step-is at,
+            starts-at (s at) (v at) (b at) tabled k h,
+            start-lowered (s at) (v at) (sound at .least) (b at) (sound at .sound) (limits at) (clean at) (start at .pre .1 .0 .1 .0) (encodeHoldback (length (b at)) (otherFrames (s at) (v at) (b at))) refl k,
+          ),
+    )
+
+cast-cut-prefix : tie.Need-cast-cut-prefix
+cast-cut-prefix c = search needs
+
+cut-prefix-requires : tie.Need-cut-prefix-requires
+cut-prefix-requires c κs =
+    let at = c .before .before .before .before .before .before .before .before .before .before .before .before .before .before .before in
+    (spans at, omega (arith, count-small (s at) (v at) (sound at .least) (b at) (sound at .sound) (start at .args .count) (limits at) (start at .pre .1 .0 .1 .1)))
+
+same-length : tie.Need-same-length
+same-length c = search needs
+
+same-length-2 : tie.Need-same-length-2
+same-length-2 c = search needs
+
+same-length-3 : tie.Need-same-length-3
+same-length-3 c = search needs
+
+returns : tie.Need-returns
+returns c =
+    let at = c .before .before .before .before .before .before .before .before .before .before .before .before .before .before .before .before .before .before in
+    let rest : drop (start at .args .early .index) (held (s at .epsilon) (b at)) ≡ otherFrames (s at) (v at) (b at) =
+    ap (λ (n : ℕ). drop n (held (s at .epsilon) (b at))) (front at .number) ∙ early-others (s at) (v at) (sound at .least) (b at) (sound at .sound) in
+    let cut = c .before .before .cut-prefix .ensures ∙ ap (encodeHoldback (length (b at))) rest in
+    record {
+      queue-is = cut;
+      table-is = c .before .before .before .before .before .before .before .before .before .before .before .before .before .unmark .ensures ∙ ap (seenTable (s at) (v at)) rest;
+      starts-is =
+          starts-left (s at) (v at) (sound at .least) (b at) (sound at .sound) (limits at) (clean at) (start at .pre .1 .0 .1 .0) _ cut (start at .pre .1 .1 .1 .1)
+          (c .before .before .before .before .before .before .before .lower-starts .ensures ∙ ap (λ (n : ℕ). loweredStarts n (start at .args .starts .now)) (step-is at));
+    }
+
+pub cut-early-spec : {M : Type 1} → statement M
+cut-early-spec =
+    tie.close
+    (tie.spec
+    unmark-requires
+    mul-lower-starts
+    sub-lower-starts
+    add-lower-starts
+    cast-lower-starts
+    lower-starts-requires
+    cast-cut-prefix
+    cut-prefix-requires
+    same-length
+    same-length-2
+    same-length-3
+    returns)

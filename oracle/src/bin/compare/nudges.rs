@@ -1,0 +1,77 @@
+//! What a call meets of 02's nudged clocks, as numbers for the coverage.
+
+use oracle::generate::TickCase;
+use oracle::holdback::{Entry, Holdback};
+use oracle::{Answer, Frame, Setup, Timestamp};
+
+/// The kind of a step: 0, 1, 2 for one between 1 and ε, 3 for ε (above 1), 4 for ε + 1.
+pub fn step_kind(epsilon: i64, step: i64) -> Option<u8> {
+    match step {
+        0 | 1 => Some(step as u8),
+        _ if step < epsilon => Some(2),
+        _ if step == epsilon => Some(3),
+        _ if step == epsilon + 1 => Some(4),
+        _ => None,
+    }
+}
+
+/// The kind of an accepted call's step, from tables that are sound but for it.
+pub fn step_of(given: &TickCase) -> Option<u8> {
+    let tables = Timestamp::of_state(&given.setup, &given.state);
+    let step = tables.step_to(&given.setup, given.clock);
+    if tables.are_sound_tables(&given.setup) {
+        step_kind(given.setup.epsilon, step)
+    } else {
+        None
+    }
+}
+
+/// Of an accepted call's hand-out: 0 if all of it is due at v, 1 if all of it was due before, 2
+/// if it has both. None if it has no frames.
+pub fn early_of(left: &TickCase, answer: &Answer) -> Option<u8> {
+    let due = dues(&left.setup, left.clock, answer.delivered, &left.delivery);
+    let early = due.iter().filter(|&&due| due < 0).count();
+    match early {
+        _ if due.is_empty() => None,
+        0 => Some(0),
+        _ if early == due.len() => Some(1),
+        _ => Some(2),
+    }
+}
+
+/// Of an accepted call whose queue was emptied only because of a due clock: 1 if the tables are
+/// sound and it is that of the tables, 2 if they are and it is before that, 3 if they are
+/// replaced and it is before v.
+pub fn overdue_of(given: &TickCase, answer: &Answer) -> Option<u8> {
+    let TickCase { setup, clock, holdback, .. } = given;
+    if answer.repair & 2 == 0 {
+        return None;
+    }
+    Holdback::decode(setup, *clock, -setup.epsilon, holdback)?;
+    let least = dues(setup, *clock, 1, holdback)[0];
+    match Timestamp::of_state(setup, &given.state).sound_step(setup, *clock) {
+        None => Some(3),
+        Some(step) if least == -step => Some(1),
+        Some(_) => Some(2),
+    }
+}
+
+/// The due clocks of the first frames behind a two-byte count, relative to v.
+fn dues(setup: &Setup, v: i64, count: u16, bytes: &[u8]) -> Vec<i64> {
+    let mut rest = &bytes[2..];
+    let mut due = |_| {
+        let (frame, after) = Frame::split(setup, rest).expect("a frame");
+        rest = after;
+        Entry::near(setup, v, frame).due(setup)
+    };
+    (0..count).map(&mut due).collect()
+}
+
+/// The kinds of the steps between the ticks of a good trace, by its lines.
+pub fn steps_of(trace: &[u8], lines: &str) -> Vec<u8> {
+    let (epsilon, modulus) = (trace[1].into(), u16::from_le_bytes([trace[3], trace[4]]).into());
+    let clock = |line: &str| line.strip_prefix("tick ")?.split(' ').next()?.parse().ok();
+    let clocks: Vec<i64> = lines.lines().filter_map(clock).collect();
+    let step = |pair: &[i64]| step_kind(epsilon, (pair[1] - pair[0]).rem_euclid(modulus));
+    clocks.windows(2).filter_map(step).collect()
+}
