@@ -28,7 +28,8 @@ LIMIT = 300  # seconds that a check may take
 SETTINGS = {**os.environ, "RT_JOBS": "1", "RT_CUT": "0"}
 # how the prover says that a fact does not hold, or that it is not proved by what should prove it
 FACT = (
-    "as printed, the two types ", "as printed, the two sides ", "computed as far as they go, the two types ", "expected type `",
+    "as printed, the two types ", "as printed, the two sides ", "computed as far as they go, the two types ",
+    "computed as far as they go, the two values ", "expected type `",
     "`omega`: the goal does not follow", "`omega`: the part `", "`search`: no proof of `", "give a proof of that as the last argument",
     "`rw`: no occurrence of the path's left endpoint in the ", "`rw`: no occurrence of the path's right endpoint in the ",
     "list the missing equation",

@@ -25,7 +25,7 @@ use Rattle.lemmas.proofs.Bounds.{Limits}
 use Rattle.lemmas.proofs.Queue.{reading-high}
 use Rattle.timestamp.proofs.Ordered.{Tags}
 use Rattle.lemmas.proofs.RoundTrip.{formed-from, decode-wide}
-use Rattle.holdback.specs.Queue.{rankOf, rankBefore}
+use Rattle.holdback.specs.Queue.{rankAt, rankOf, rankBefore}
 use Rattle.holdback.specs.Sound.{fits, timely, Summed}
 use Rattle.holdback.specs.Starts.{rankPlace, placesTo, sumPlace}
 use Rattle.holdback.proofs.RoundTrip.{passing}
@@ -92,6 +92,10 @@ unfolding placesTo dueNear
 places-placed s v f rank e = ap (placesTo s) e
 
 -- ---- the order of two
+
+-- a rank with a reading that is handed on
+pub rank-read : (s : Setup) (v : ℕ) (f : Frame) (reading : ℕ) {rank : Rank} → rank ≡ rankAt reading f → reading ≡ readingOf s v f → rank ≡ rankOf s v f
+rank-read s v f reading e r = e ∙ ap (λ (x : ℕ). rankAt x f) r
 
 key-ranked : (s : Setup) (v : ℕ) (f : Frame) (rank : Rank) (kn : List ℕ) → rank ≡ rankOf s v f → kn ≡ f .stamp .kn
     → keyBy (s .epsilon) (rank .reading) (rankedFrame rank kn) ≡ keyNear s v f

@@ -47,9 +47,13 @@ pub record Stands (epsilon : ℕ) (queue : List ℕ) (place index at : ℕ) : Ty
   pub frames : index ≡ place
   pub starts : at ≡ frameStart epsilon queue index
 
--- what the order looks at beside the counts, of a frame with its r read near v
+-- what the order looks at beside the counts, of a frame whose r stands at a reading
+abbrev pub rankAt : ℕ → Frame → Rank
+rankAt reading f = record { reading = reading; c = f .stamp .c; station = f .station }
+
+-- the same with its r read near v
 abbrev pub rankOf : Setup → ℕ → Frame → Rank
-rankOf s v f = record { reading = readingOf s v f; c = f .stamp .c; station = f .station }
+rankOf s v f = rankAt (readingOf s v f) f
 
 -- the first of two frames comes before the second, by their ranks and counts
 unfoldable pub rankBefore : ℕ → Rank → List ℕ → Rank → List ℕ → Bool

@@ -6,25 +6,32 @@ use timestamp::Rank;
 use timestamp::compare_ranked;
 ghost use mathlib.Core.Path.{_≡_};
 ghost use mathlib.Core.Bool.{true};
-ghost use Prim.Native.Nat.{_<_};
+ghost use Prim.Native.Nat.{ℕ, _<_};
 ghost use Rattle.model.specs.Setup.{inLimits};
 ghost use Rattle.model.specs.Frame.{decode};
 ghost use Rattle.model.specs.Holdback.{passes};
 ghost use Rattle.setup.specs.Views.{setupOf};
 ghost use Rattle.timestamp.specs.Ranks.{Ranked};
-ghost use Rattle.holdback.specs.Queue.{rankOf, rankBefore, newestLess};
+ghost use Rattle.holdback.specs.Queue.{rankAt, rankOf, rankBefore, newestLess};
 
-// What the order looks at beside the counts.
+// What the order looks at beside the counts, of a frame whose r is read already.
+pub fn rank_at(reading: usize, frame: &[u8]) -> Rank
+    ensures { λ r. ⌜ ((epsilon : ℕ) → r ≡ rankAt reading (decode epsilon (now (frame .entry)))) ⌝ }
+{
+    Rank {
+        reading,
+        c: frame::c_of(frame),
+        station: frame::station_of(frame),
+    }
+}
+
+// The same, with r read near v here.
 pub fn rank_of(s: Setup, v: usize, frame: &[u8]) -> Rank
     requires { ⌜ (inLimits (setupOf s) ≡ true) × (v < s .modulus) ⌝ }
     requires { ⌜ decode (s .epsilon) (now frame) .stamp .r < s .modulus ⌝ }
     ensures { λ r. ⌜ r ≡ rankOf (setupOf s) v (decode (s .epsilon) (now (frame .entry))) ⌝ }
 {
-    Rank {
-        reading: reading_of(s, v, frame),
-        c: frame::c_of(frame),
-        station: frame::station_of(frame),
-    }
+    rank_at(reading_of(s, v, frame), frame)
 }
 
 // The sums are the same, and the eight newest counts of the first make the smaller number: so the first of two frames comes before

@@ -1,5 +1,5 @@
 // The table of origins: for each station and reading, whether such a frame is in the queue.
-use crate::compare::rank_of;
+use crate::compare::rank_at;
 use setup::Setup;
 use timestamp::Rank;
 ghost use mathlib.Core.Path.{_≡_};
@@ -8,6 +8,7 @@ ghost use Prim.Native.Nat.{_<_};
 ghost use lib.ListN.{length};
 ghost use Rattle.model.specs.Setup.{inLimits};
 ghost use Rattle.model.specs.Frame.{decode};
+ghost use Rattle.model.specs.Order.{readingOf};
 ghost use Rattle.setup.specs.Views.{setupOf};
 ghost use Rattle.holdback.specs.Seen.{Placeable, Within, rankSlot, tableLength, hasMark, withMark, withoutMark, isMarked, marked};
 
@@ -56,22 +57,22 @@ pub fn clear_mark(s: Setup, rank: Rank, seen: &mut [u8])
     seen[i] = 0;
 }
 
-// A frame's place is marked. 01, 16: "that station and r" are shelved already.
-pub fn repeats(s: Setup, v: usize, frame: &[u8], seen: &[u8]) -> bool
+// The place of a frame, with its r at that reading, is marked. 01, 16: "that station and r" are shelved already.
+pub fn repeats(s: Setup, v: usize, frame: &[u8], reading: usize, seen: &[u8]) -> bool
     requires { ⌜ (inLimits (setupOf s) ≡ true) × (v < s .modulus) ⌝ }
     requires { ⌜ Placeable (setupOf s) v (decode (s .epsilon) (now frame)) ⌝ }
-    requires { ⌜ length (now seen) ≡ tableLength ⌝ }
+    requires { ⌜ (length (now seen) ≡ tableLength) × (reading ≡ readingOf (setupOf s) v (decode (s .epsilon) (now frame))) ⌝ }
     ensures { λ b. ⌜ b ≡ isMarked (setupOf s) v (decode (s .epsilon) (now (frame .entry))) (now (seen .entry)) ⌝ }
 {
-    is_marked(s, rank_of(s, v, frame), seen)
+    is_marked(s, rank_at(reading, frame), seen)
 }
 
-// Marks a frame's place.
-pub fn mark(s: Setup, v: usize, frame: &[u8], seen: &mut [u8])
+// Marks the place of a frame, with its r at that reading.
+pub fn mark(s: Setup, v: usize, frame: &[u8], reading: usize, seen: &mut [u8])
     requires { ⌜ (inLimits (setupOf s) ≡ true) × (v < s .modulus) ⌝ }
     requires { ⌜ Placeable (setupOf s) v (decode (s .epsilon) (now frame)) ⌝ }
-    requires { ⌜ length (now seen) ≡ tableLength ⌝ }
+    requires { ⌜ (length (now seen) ≡ tableLength) × (reading ≡ readingOf (setupOf s) v (decode (s .epsilon) (now frame))) ⌝ }
     ensures { λ _. ⌜ now (seen .exit) ≡ marked (setupOf s) v (decode (s .epsilon) (now (frame .entry))) (now (seen .entry)) ⌝ }
 {
-    set_mark(s, rank_of(s, v, frame), seen);
+    set_mark(s, rank_at(reading, frame), seen);
 }

@@ -1,5 +1,5 @@
 // The times of one frame: its reading near v, its sum, its due clock, and the place of its sum in the table of starts.
-use crate::compare::rank_of;
+use crate::compare::rank_at;
 use setup::Setup;
 use timestamp::Rank;
 use timestamp::near;
@@ -85,11 +85,11 @@ pub fn places_to(s: Setup, rank: Rank) -> usize
     next - modulus
 }
 
-// The place of a frame's sum.
-pub fn sum_place(s: Setup, v: usize, frame: &[u8]) -> usize
+// The place of a frame's sum, with its r at that reading.
+pub fn sum_place(s: Setup, v: usize, frame: &[u8], reading: usize) -> usize
     requires { ⌜ (inLimits (setupOf s) ≡ true) × (v < s .modulus) ⌝ }
-    requires { ⌜ fits (setupOf s) v (s .modulus) (now frame) ≡ true ⌝ }
+    requires { ⌜ (fits (setupOf s) v (s .modulus) (now frame) ≡ true) × (reading ≡ readingOf (setupOf s) v (decode (s .epsilon) (now frame))) ⌝ }
     ensures { λ r. ⌜ r ≡ sumPlace (setupOf s) v (decode (s .epsilon) (now (frame .entry))) ⌝ }
 {
-    rank_place(s, rank_of(s, v, frame))
+    rank_place(s, rank_at(reading, frame))
 }

@@ -22,7 +22,7 @@ use Rattle.holdback.specs.Queue.{frameStart}
 use Rattle.holdback.specs.Seen.{Placeable, isMarked, slotOf}
 use Rattle.holdback.specs.Sound.{fits}
 use Rattle.holdback.proofs.Seen.{seen-at}
-use Rattle.holdback.specs.declared.change.Place.{Place}
+use Rattle.node.specs.declared.verdict.Placed.{Placed}
 use Rattle.node.specs.declared.verdict.Verdict as codes
 use Rattle.node.specs.declared.verdict.Verdict.the-variants.{Taken, Refused}
 use Rattle.node.specs.Views.{verdictOf, Located, timeQuestions}
@@ -145,18 +145,28 @@ refused-number s v queue bytes number e = verdict-refused (firstNo (judgeQuestio
 -- the tags of the code's verdict, by which a match tells them apart
 pub record Tags : Type 0 where
   pub tag : codes.Verdict → ℕ
-  pub at-taken : (place : Place) → tag (Taken place) ≡ 0
+  pub at-taken : (placed : Placed) → tag (Taken placed) ≡ 0
   pub at-refused : (number : ℕ) → tag (Refused number) ≡ 1
 
 pub is-refused : (tags : Tags) (r : codes.Verdict) → tags .tag r ≡ 1 → verdictOf r ≡ refused (verdictNumber (verdictOf r))
-is-refused tags (Taken place) e = absurd (omega (arith, tags .at-taken place))
+is-refused tags (Taken placed) e = absurd (omega (arith, tags .at-taken placed))
 is-refused tags (Refused number) e = refl
 
-pub refused-located : {epsilon : ℕ} {buffer : List ℕ} {number : ℕ} → Located epsilon buffer (Refused number)
-refused-located = record { stands = λ place e. absurd (let z : _≡_ {A = ℕ} 0 1 = cc in omega arith) }
+pub refused-located : {s : Setup} {v : ℕ} {buffer bytes : List ℕ} {number : ℕ} → Located s v buffer bytes (Refused number)
+refused-located =
+    record {
+      stands = λ placed e. absurd (let z : _≡_ {A = ℕ} 0 1 = cc in omega arith);
+      reads = λ placed e. absurd (let z : _≡_ {A = ℕ} 0 1 = cc in omega arith);
+    }
 
-pub taken-located : {epsilon : ℕ} {buffer : List ℕ} {place : Place} → place .at ≡ frameStart epsilon buffer (place .index) → Located epsilon buffer (Taken place)
-taken-located {place} h = record { stands = λ place′ e. let same : place ≡ place′ = cc in rw (← same) h }
+pub taken-located :
+    {s : Setup} {v : ℕ} {buffer bytes : List ℕ} {placed : Placed} → placed .place .at ≡ frameStart (s .epsilon) buffer (placed .place .index)
+    → placed .reading ≡ readingOf s v (decode (s .epsilon) bytes) → Located s v buffer bytes (Taken placed)
+taken-located {placed} h r =
+    record {
+      stands = λ placed′ e. let same : placed ≡ placed′ = cc in rw (← same) h;
+      reads = λ placed′ e. let same : placed ≡ placed′ = cc in rw (← same) r;
+    }
 
 -- ---- a frame that has passed 10 to 14 fits
 

@@ -5,7 +5,8 @@ use mathlib.Core.Path.{_≡_}
 use mathlib.Core.Bool.{Bool}
 use mathlib.Core.List.{List, [], _∷_}
 use Rattle.model.specs.Setup as setups
-use Rattle.model.specs.Frame.{Frame}
+use Rattle.model.specs.Frame.{Frame, decode}
+use Rattle.model.specs.Order.{readingOf}
 use Rattle.model.specs.Question.{Question}
 use Rattle.model.specs.Judge.{taken, refused, askLate, askEarly, askCounts}
 use Rattle.model.specs.Judge as judging
@@ -15,7 +16,7 @@ use Rattle.setup.specs.declared.limits.Setup.{Setup}
 use Rattle.timestamp.specs.Views.{stampOf}
 use Rattle.timestamp.specs.declared.stamp.Timestamp.{Timestamp}
 use Rattle.holdback.specs.Queue.{frameStart}
-use Rattle.holdback.specs.declared.change.Place.{Place}
+use Rattle.node.specs.declared.verdict.Placed.{Placed}
 use Rattle.node.specs.declared.verdict.Verdict.{Verdict}
 use Rattle.node.specs.declared.verdict.Verdict.the-variants.{Taken, Refused}
 
@@ -38,12 +39,13 @@ callInput setup own clock tables holdback batch send payload outgoing verdicts d
 
 -- 01: "A verdict is either taken, with its place on the shelf, or refused, with the number"
 abbrev pub verdictOf : Verdict → judging.Verdict
-verdictOf (Taken place) = taken (place .index)
+verdictOf (Taken placed) = taken (placed .place .index)
 verdictOf (Refused number) = refused number
 
--- where the place of a taken frame stands
-pub record Located (epsilon : ℕ) (buffer : List ℕ) (r : Verdict) : Type 0 where
-  pub stands : (place : Place) → r ≡ Taken place → place .at ≡ frameStart epsilon buffer (place .index)
+-- where the place of a taken frame stands, and the reading of its r near v
+pub record Located (s : setups.Setup) (v : ℕ) (buffer bytes : List ℕ) (r : Verdict) : Type 0 where
+  pub stands : (placed : Placed) → r ≡ Taken placed → placed .place .at ≡ frameStart (s .epsilon) buffer (placed .place .index)
+  pub reads : (placed : Placed) → r ≡ Taken placed → placed .reading ≡ readingOf s v (decode (s .epsilon) bytes)
 
 -- 01, 13 to 15: what is asked of a frame's clock and counts
 unfoldable pub timeQuestions : setups.Setup → ℕ → Frame → List Question

@@ -1,16 +1,15 @@
 // 01, tick 3: "Each frame of the bundle is judged in turn". A taken frame goes on the queue, and its stamp into the own one: two
 // halves that know nothing of each other.
 use crate::questions::judge;
+use crate::verdict::Placed;
 use crate::verdict::Verdict;
 use crate::verdict::number_of;
 use batch::count_of;
 use batch::walker::walk_step;
 use frame::stamp_of;
-use holdback::Place;
 use holdback::START_UNIT;
 use holdback::mark;
 use holdback::put;
-use holdback::reading_of;
 use holdback::shift_starts;
 use holdback::sum_place;
 use setup::Setup;
@@ -18,17 +17,18 @@ use timestamp::Timestamp;
 ghost use mathlib.Core.Path.{_≡_};
 ghost use Rattle.model.specs.Timestamp.{trimmed, widened};
 ghost use Rattle.model.specs.Frame.{decode};
+ghost use Rattle.model.specs.Order.{readingOf};
 ghost use Rattle.model.specs.Judge.{absorbBy};
 ghost use Rattle.setup.specs.Views.{setupOf};
 ghost use Rattle.timestamp.specs.Views.{stampOf};
 ghost use Rattle.node.specs.States.{Timed, Readable, Queued, Extent, Taking, Enqueued, Listening, HeardQueue, HeardStamp};
 
 // "A taken frame goes on the shelf". Its origin is marked, and the starts of the larger sums move. The queue has `count` frames,
-// which end at `end`.
+// which end at `end`; the frame's r is read already.
 fn enqueue(
     setup: Setup,
     clock: usize,
-    place: Place,
+    placed: Placed,
     count: usize,
     end: usize,
     s: &[u8],
@@ -36,27 +36,28 @@ fn enqueue(
     seen: &mut [u8],
     starts: &mut [u32],
 )
-    requires { ⌜ Taking (setupOf setup) clock (now holdback) (place .index) (place .at) (now s) ⌝ }
+    requires { ⌜ Taking (setupOf setup) clock (now holdback) (placed .place .index) (placed .place .at) (now s) ⌝ }
     requires { ⌜ Queued (setupOf setup) clock (now holdback) (now seen) (now starts) ⌝ }
-    requires { ⌜ Extent (setup .epsilon) (now holdback) count end ⌝ }
-    ensures { λ _. ⌜ Enqueued (setupOf setup) clock (place .index) (now (s .entry)) (now (holdback .entry)) count end
+    requires { ⌜ Extent (setup .epsilon) (now holdback) count end × (placed .reading ≡ readingOf (setupOf setup) clock (decode (setup .epsilon) (now s))) ⌝ }
+    ensures { λ _. ⌜ Enqueued (setupOf setup) clock (placed .place .index) (now (s .entry)) (now (holdback .entry)) count end
         (now (holdback .exit)) (now (seen .exit)) (now (starts .exit)) ⌝ }
 {
+    let place = placed.place;
+    let reading = placed.reading;
     put(setup.epsilon as usize, holdback, count, end, place, s);
-    let k = sum_place(setup, clock, s);
+    let k = sum_place(setup, clock, s, reading);
     shift_starts(starts, k + 1, (START_UNIT + s.len()) as u32);
-    mark(setup, clock, s, seen);
+    mark(setup, clock, s, reading, seen);
 }
 
-// "c and each count become the larger of own and frame's, both placed relative to v".
-fn absorb_frame(setup: Setup, clock: usize, stamp: Timestamp, s: &[u8]) -> Timestamp
-    requires { ⌜ Readable (setupOf setup) clock (now s) ⌝ }
+// "c and each count become the larger of own and frame's, both placed relative to v": the frame's r is read already.
+fn absorb_frame(setup: Setup, clock: usize, stamp: Timestamp, s: &[u8], reading: usize) -> Timestamp
+    requires { ⌜ Readable (setupOf setup) clock (now s) × (reading ≡ readingOf (setupOf setup) clock (decode (setup .epsilon) (now s))) ⌝ }
     ensures { λ r. ⌜ stampOf r
         ≡ widened (absorbBy 0 (setupOf setup) clock (decode (setup .epsilon) (now (s .entry))) (trimmed (setup .epsilon) (stampOf stamp))) ⌝ }
 {
     let epsilon = setup.epsilon as usize;
     let modulus = setup.modulus as usize;
-    let reading = reading_of(setup, clock, s);
     let other = stamp_of(epsilon, s);
     stamp.absorb(epsilon, modulus, reading, other)
 }
@@ -107,13 +108,13 @@ pub fn hear(
         at = step.end;
         let s = &batch[start..at];
         let verdict = judge(setup, clock, holdback, held, seen, starts, s);
-        let Verdict::Taken(place) = verdict else {
+        let Verdict::Taken(placed) = verdict else {
             verdicts[i] = number_of(verdict);
             i += 1;
             continue;
         };
-        enqueue(setup, clock, place, held, stop, s, holdback, seen, starts);
-        absorbed = absorb_frame(setup, clock, absorbed, s);
+        enqueue(setup, clock, placed, held, stop, s, holdback, seen, starts);
+        absorbed = absorb_frame(setup, clock, absorbed, s, placed.reading);
         held += 1;
         stop += s.len();
         verdicts[i] = 0;

@@ -1,4 +1,5 @@
 // 01, "Of each frame, in order": questions 10 to 17, and the verdict.
+use crate::verdict::Placed;
 use crate::verdict::Verdict;
 use frame::c_of;
 use frame::check;
@@ -11,6 +12,7 @@ use setup::depth;
 use timestamp::counts_at_most;
 ghost use mathlib.Core.Path.{_≡_};
 ghost use Rattle.model.specs.Frame.{twoAt, decode};
+ghost use Rattle.model.specs.Order.{readingOf};
 ghost use Rattle.model.specs.Question.{firstNo};
 ghost use Rattle.model.specs.Holdback.{held};
 ghost use Rattle.model.specs.Judge as model;
@@ -18,14 +20,13 @@ ghost use Rattle.setup.specs.Views.{setupOf};
 ghost use Rattle.node.specs.Views.{verdictOf, Located, timeQuestions};
 ghost use Rattle.node.specs.States.{Timed, Readable, Queued};
 
-// 01, 13 to 15: the number of the first no, or 0.
-pub fn check_time(setup: Setup, clock: usize, s: &[u8]) -> u8
-    requires { ⌜ Readable (setupOf setup) clock (now s) ⌝ }
+// 01, 13 to 15, of a frame whose r is read already: the number of the first no, or 0.
+pub fn check_time(setup: Setup, clock: usize, s: &[u8], reading: usize) -> u8
+    requires { ⌜ Readable (setupOf setup) clock (now s) × (reading ≡ readingOf (setupOf setup) clock (decode (setup .epsilon) (now s))) ⌝ }
     ensures { λ r. ⌜ r ≡ firstNo (timeQuestions (setupOf setup) clock (decode (setup .epsilon) (now (s .entry)))) ⌝ }
 {
     let epsilon = setup.epsilon as usize;
     let modulus = setup.modulus as usize;
-    let reading = reading_of(setup, clock, s);
     if reading + (setup.delta as usize + epsilon) < modulus {
         return 13;
     }
@@ -41,7 +42,8 @@ pub fn check_time(setup: Setup, clock: usize, s: &[u8]) -> u8
 }
 
 // One frame judged: the first no's number, or its place in the queue, and where that stands. The queue has `count` frames, and
-// the tables of origins and of starts are those of its frames.
+// the tables of origins and of starts are those of its frames. Once the frame passes 10 to 12 its r is read near v, once for the whole tick:
+// what follows is handed the reading.
 pub fn judge(
     setup: Setup,
     clock: usize,
@@ -55,17 +57,18 @@ pub fn judge(
     requires { ⌜ Queued (setupOf setup) clock (now holdback) (now seen) (now starts) ⌝ }
     requires { ⌜ count ≡ twoAt (now holdback) 0 ⌝ }
     ensures { λ r. ⌜ verdictOf r ≡ model.judge (setupOf setup) clock (model.judgeQuestions (setupOf setup) clock) (held (setup .epsilon) (now (holdback .entry))) (now (s .entry)) ⌝ }
-    ensures { λ r. ⌜ Located (setup .epsilon) (now (holdback .entry)) r ⌝ }
+    ensures { λ r. ⌜ Located (setupOf setup) clock (now (holdback .entry)) (now (s .entry)) r ⌝ }
 {
     let form = check(setup, s);
     if form != 0 {
         return Verdict::Refused(form);
     }
-    let time = check_time(setup, clock, s);
+    let reading = reading_of(setup, clock, s);
+    let time = check_time(setup, clock, s, reading);
     if time != 0 {
         return Verdict::Refused(time);
     }
-    if repeats(setup, clock, s, seen) {
+    if repeats(setup, clock, s, reading, seen) {
         return Verdict::Refused(16);
     }
     if depth(
@@ -77,6 +80,6 @@ pub fn judge(
     {
         return Verdict::Refused(17);
     }
-    let place = place_for(setup, clock, holdback, count, starts, s);
-    Verdict::Taken(place)
+    let place = place_for(setup, clock, holdback, count, starts, s, reading);
+    Verdict::Taken(Placed { place, reading })
 }

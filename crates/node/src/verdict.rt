@@ -4,9 +4,17 @@ ghost use mathlib.Core.Path.{_≡_};
 ghost use Rattle.model.specs.Judge.{verdictNumber};
 ghost use Rattle.node.specs.Views.{verdictOf};
 
-pub enum Verdict {
+// Where a taken frame goes.
+pub struct Placed {
     // its place in the queue (01: the shelf), and where that stands
-    Taken(Place),
+    pub place: Place,
+    // the reading of its r near v
+    pub reading: usize,
+}
+
+pub enum Verdict {
+    // its place, with the reading by which it was found
+    Taken(Placed),
     // the number of the first no
     Refused(u8),
 }

@@ -1,24 +1,32 @@
 -- `holdback::origins::mark` meets its contract: the place of its rank is marked. Assumes nothing.
-use mathlib.Core.Path.{ap, _∙_}
+use mathlib.Core.Path.{_≡_, ap, _∙_}
 use Rattle.setup.specs.Views.{setupOf}
 use Rattle.lemmas.proofs.Questions.{limits-from}
 use Rattle.model.specs.Frame.{decode}
 use Rattle.holdback.specs.Seen.{withMark, marked}
 use Rattle.holdback.proofs.Seen.{within, rank-slot}
+use Rattle.holdback.specs.Queue.{rankOf}
+use Rattle.holdback.proofs.Testing.{rank-read}
 use borrow.Author.Needs.{needs}
 use Rattle.holdback.proofs.origins.mark.Statement.{statement}
 use Rattle.holdback.proofs.origins.mark.Tie as tie
 
-rank-of-requires : tie.Need-rank-of-requires
-rank-of-requires c κs = search needs
+rank-at-requires : tie.Need-rank-at-requires
+rank-at-requires c κs = search needs
+
+-- the rank with the reading that is handed on
+ranked : (c : tie.After-rank-at) → c .rank-at .result ≡ rankOf (setupOf (c .before .before .before .args .s)) (c .before .before .before .args .v) (decode (c .before .before .before .args .s .epsilon) (c .before .before .before .args .frame .now))
+ranked c =
+    let start = c .before .before .before in
+    rank-read (setupOf (start .args .s)) (start .args .v) (decode (start .args .s .epsilon) (start .args .frame .now)) (start .args .reading) (c .rank-at .ensures (start .args .s .epsilon)) (start .pre .1 .1 .1)
 
 set-mark-requires : tie.Need-set-mark-requires
 set-mark-requires c κs =
     let start = c .before .before .before .before in
     let setup = setupOf (start .args .s) in
-    let read = c .before .rank-of in (
-      (start .pre .0 .0, within setup (start .args .v) (limits-from setup (start .pre .0 .0)) (start .pre .0 .1) (decode (start .args .s .epsilon) (start .args .frame .now)) (read .result) (start .pre .1 .0) (read .ensures)),
-      start .pre .1 .1,
+    let read = c .before .rank-at in (
+      (start .pre .0 .0, within setup (start .args .v) (limits-from setup (start .pre .0 .0)) (start .pre .0 .1) (decode (start .args .s .epsilon) (start .args .frame .now)) (read .result) (start .pre .1 .0) (ranked (c .before))),
+      start .pre .1 .1 .0,
     )
 
 same-length : tie.Need-same-length
@@ -28,8 +36,8 @@ returns : tie.Need-returns
 unfolding marked
 returns c =
     let start = c .before .before .before .before .before .before .before in
-    let read = c .before .before .before .before .rank-of in
-    c .before .before .set-mark .ensures ∙ ap (withMark (start .args .seen .now)) (rank-slot (setupOf (start .args .s)) (start .args .v) (decode (start .args .s .epsilon) (start .args .frame .now)) (read .result) (read .ensures))
+    let read = c .before .before .before .before .rank-at in
+    c .before .before .set-mark .ensures ∙ ap (withMark (start .args .seen .now)) (rank-slot (setupOf (start .args .s)) (start .args .v) (decode (start .args .s .epsilon) (start .args .frame .now)) (read .result) (ranked (c .before .before .before .before)))
 
 pub mark-spec : {M : Type 1} → statement M
-mark-spec = tie.close (tie.spec rank-of-requires set-mark-requires same-length returns)
+mark-spec = tie.close (tie.spec rank-at-requires set-mark-requires same-length returns)

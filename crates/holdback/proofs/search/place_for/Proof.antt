@@ -14,21 +14,22 @@ use mathlib.Core.Bool.{true}
 use Rattle.lemmas.proofs.Bounds.{Limits}
 use Rattle.holdback.proofs.RoundTrip.{passing}
 use Rattle.holdback.proofs.Frames.{counts-end, counts-decoded}
-use Rattle.holdback.proofs.Testing.{fits-passes, ranked, rank-fits, rank-placed, before-rank}
+use Rattle.holdback.specs.Queue.{rankOf}
+use Rattle.holdback.proofs.Testing.{rank-read, fits-passes, ranked, rank-fits, rank-placed, before-rank}
 use Rattle.holdback.proofs.Started.{place-inside, place-at, starts-long, starts-at, start-leads}
 use Rattle.holdback.proofs.Searching.{Led, led-inside, led-next, led-passes, led-stops, led-turns, led-ends}
 use Rattle.holdback.proofs.search.place_for.Statement.{statement}
 use Rattle.holdback.proofs.search.place_for.Tie as tie
 
 abbrev Inv-loop : tie.InvT-loop
-Inv-loop s v buf count starts frame epsilon rank kn start i₀ at₀ i at = Led (λ g. before (setupOf s) v g (decode (s .epsilon) frame)) (setupOf s) v (s .modulus) buf count i at
+Inv-loop s v buf count starts frame reading epsilon rank kn start i₀ at₀ i at = Led (λ g. before (setupOf s) v g (decode (s .epsilon) frame)) (setupOf s) v (s .modulus) buf count i at
 
 abbrev μ-loop : tie.MeasureT-loop
-μ-loop s v buf count starts frame epsilon rank kn start i₀ at₀ i at = count - i
+μ-loop s v buf count starts frame reading epsilon rank kn start i₀ at₀ i at = count - i
 
 -- the frame passes 10 to 12
 passed : (c : tie.Start Inv-loop μ-loop) → passes (setupOf (c .args .s)) (c .args .frame .now) ≡ true
-passed c = fits-passes (setupOf (c .args .s)) (c .args .v) (c .args .s .modulus) (c .args .frame .now) (c .pre .1 .1 .1)
+passed c = fits-passes (setupOf (c .args .s)) (c .args .v) (c .args .s .modulus) (c .args .frame .now) (c .pre .1 .1 .1 .0)
 
 limits : (c : tie.Start Inv-loop μ-loop) → Limits (setupOf (c .args .s))
 limits c = limits-from (setupOf (c .args .s)) (c .pre .0 .0)
@@ -36,10 +37,14 @@ limits c = limits-from (setupOf (c .args .s)) (c .pre .0 .0)
 cast-epsilon : tie.Need-cast-epsilon Inv-loop μ-loop
 cast-epsilon c = search needs
 
-rank-of-requires : tie.Need-rank-of-requires Inv-loop μ-loop
-rank-of-requires c κs =
-    let start = c .before .before .before .before in
-    (start .pre .0, passing (setupOf (start .args .s)) (start .args .frame .now) (passed start) .r-below)
+rank-at-requires : tie.Need-rank-at-requires Inv-loop μ-loop
+rank-at-requires c κs = search needs
+
+-- the rank with the reading that is handed on
+own-rank : (c : tie.After-rank-at Inv-loop μ-loop) → c .rank-at .result ≡ rankOf (setupOf (c .before .before .before .before .before .args .s)) (c .before .before .before .before .before .args .v) (decode (c .before .before .before .before .before .args .s .epsilon) (c .before .before .before .before .before .args .frame .now))
+own-rank c =
+    let start = c .before .before .before .before .before in
+    rank-read (setupOf (start .args .s)) (start .args .v) (decode (start .args .s .epsilon) (start .args .frame .now)) (start .args .reading) (c .rank-at .ensures (start .args .s .epsilon)) (start .pre .1 .1 .1 .1)
 
 counts-part-requires : tie.Need-counts-part-requires Inv-loop μ-loop
 counts-part-requires c κs =
@@ -49,23 +54,23 @@ counts-part-requires c κs =
 rank-place-requires : tie.Need-rank-place-requires Inv-loop μ-loop
 rank-place-requires c κs =
     let start = c .before .before .before .before .before .before in
-    (start .pre .0 .0, rank-fits (setupOf (start .args .s)) (start .args .v) (start .args .s .modulus) (start .args .frame .now) (c .before .rank-of .result) (limits start) (start .pre .1 .1 .1) (c .before .rank-of .ensures))
+    (start .pre .0 .0, rank-fits (setupOf (start .args .s)) (start .args .v) (start .args .s .modulus) (start .args .frame .now) (c .before .rank-at .result) (limits start) (start .pre .1 .1 .1 .0) (own-rank (c .before)))
 
 -- the frame's sum has a place
 place : (c : tie.After-rank-place Inv-loop μ-loop) → c .rank-place .result ≡ sumPlace (setupOf (c .before .before .before .before .before .before .before .args .s)) (c .before .before .before .before .before .before .before .args .v) (decode (c .before .before .before .before .before .before .before .args .s .epsilon) (c .before .before .before .before .before .before .before .args .frame .now))
 place c =
     let start = c .before .before .before .before .before .before .before in
     c .rank-place .ensures
-    ∙ rank-placed (setupOf (start .args .s)) (start .args .v) (decode (start .args .s .epsilon) (start .args .frame .now)) (c .before .before .rank-of .result) (c .before .before .rank-of .ensures)
+    ∙ rank-placed (setupOf (start .args .s)) (start .args .v) (decode (start .args .s .epsilon) (start .args .frame .now)) (c .before .before .rank-at .result) (own-rank (c .before .before))
 
 -- which tells its due clock
 due-is : (c : tie.Start Inv-loop μ-loop) → c .args .s .modulus + sumPlace (setupOf (c .args .s)) (c .args .v) (decode (c .args .s .epsilon) (c .args .frame .now)) ≡ dueNear (setupOf (c .args .s)) (c .args .v) (decode (c .args .s .epsilon) (c .args .frame .now))
-due-is c = place-at (setupOf (c .args .s)) (c .args .v) (c .args .s .modulus) (omega arith) (c .args .frame .now) (c .pre .1 .1 .1)
+due-is c = place-at (setupOf (c .args .s)) (c .args .v) (c .args .s .modulus) (omega arith) (c .args .frame .now) (c .pre .1 .1 .1 .0)
 
 inside : (c : tie.After-rank-place Inv-loop μ-loop) → c .rank-place .result < startPlaces
 inside c =
     let start = c .before .before .before .before .before .before .before in
-    omega (arith, place c, due-is start, place-inside (setupOf (start .args .s)) (start .args .v) (start .args .s .modulus) (limits start) (start .args .frame .now) (start .pre .1 .1 .1))
+    omega (arith, place c, due-is start, place-inside (setupOf (start .args .s)) (start .args .v) (start .args .s .modulus) (limits start) (start .args .frame .now) (start .pre .1 .1 .1 .0))
 
 mul-start : tie.Need-mul-start Inv-loop μ-loop
 mul-start c = omega (arith, inside c)
@@ -111,18 +116,18 @@ part-frame-before-end c = omega (arith, led-next (c .before .before .before .loo
 frame-before-requires : tie.Need-frame-before-requires Inv-loop μ-loop
 frame-before-requires c κs =
     let start = c .before .before .before .before .before .before .before .before .before .before .before .before .before in
-    let read = c .before .before .before .before .before .before .before .before .rank-of in
+    let read = c .before .before .before .before .before .before .before .before .rank-at in
     let counts = counts-decoded (start .args .s .epsilon) (start .args .frame .now) (c .before .before .before .before .before .before .before .counts-part .ensures) in
     let ok = led-passes (c .before .before .before .before .loop .inv) (c .before .before .before .loop-test .taken) (c .before .frame-end .ensures) in
-    (start .pre .0, (ok, ranked (setupOf (start .args .s)) (start .args .v) (start .args .frame .now) _ (read .result) (limits start) (passed start) counts (read .ensures)))
+    (start .pre .0, (ok, ranked (setupOf (start .args .s)) (start .args .v) (start .args .frame .now) _ (read .result) (limits start) (passed start) counts (own-rank (c .before .before .before .before .before .before .before .before))))
 
 returns : tie.Need-returns Inv-loop μ-loop
 unfolding placeFor
 returns c =
     let start = c .before .before .before .before .before .before .before .before .before .before .before .before .before .before .before in
-    let read = c .before .before .before .before .before .before .before .before .before .before .rank-of in
+    let read = c .before .before .before .before .before .before .before .before .before .before .rank-at in
     let counts = counts-decoded (start .args .s .epsilon) (start .args .frame .now) (c .before .before .before .before .before .before .before .before .before .counts-part .ensures) in
-    let tested = before-rank (setupOf (start .args .s)) (start .args .v) _ (decode (start .args .s .epsilon) (start .args .frame .now)) (read .result) _ (read .ensures) counts (c .before .frame-before .ensures) in
+    let tested = before-rank (setupOf (start .args .s)) (start .args .v) _ (decode (start .args .s .epsilon) (start .args .frame .now)) (read .result) _ (own-rank (c .before .before .before .before .before .before .before .before .before .before)) counts (c .before .frame-before .ensures) in
     led-stops (c .before .before .before .before .before .before .loop .inv) (c .before .before .before .before .before .loop-test .taken) (c .before .before .before .frame-end .ensures) tested (c .if1 .taken)
 
 add-i : tie.Need-add-i Inv-loop μ-loop
@@ -134,9 +139,9 @@ loop-less c = omega arith
 loop-again : tie.Need-loop-again Inv-loop μ-loop
 loop-again c =
     let start = c .before .before .before .before .before .before .before .before .before .before .before .before .before .before .before in
-    let read = c .before .before .before .before .before .before .before .before .before .before .rank-of in
+    let read = c .before .before .before .before .before .before .before .before .before .before .rank-at in
     let counts = counts-decoded (start .args .s .epsilon) (start .args .frame .now) (c .before .before .before .before .before .before .before .before .before .counts-part .ensures) in
-    let tested = before-rank (setupOf (start .args .s)) (start .args .v) _ (decode (start .args .s .epsilon) (start .args .frame .now)) (read .result) _ (read .ensures) counts (c .before .frame-before .ensures) in
+    let tested = before-rank (setupOf (start .args .s)) (start .args .v) _ (decode (start .args .s .epsilon) (start .args .frame .now)) (read .result) _ (own-rank (c .before .before .before .before .before .before .before .before .before .before)) counts (c .before .frame-before .ensures) in
     led-turns (c .before .before .before .before .before .before .loop .inv) (c .before .before .before .before .before .loop-test .taken) (c .before .before .before .frame-end .ensures) tested (c .if1 .left)
 
 returns-2 : tie.Need-returns-2 Inv-loop μ-loop
@@ -150,7 +155,7 @@ place-for-spec =
     Inv-loop
     μ-loop
     cast-epsilon
-    rank-of-requires
+    rank-at-requires
     counts-part-requires
     rank-place-requires
     mul-start

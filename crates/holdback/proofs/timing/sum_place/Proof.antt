@@ -1,30 +1,34 @@
 -- `holdback::timing::sum_place` meets its contract: the place of its rank. Assumes nothing.
+use mathlib.Core.Path.{_≡_, _∙_}
 use Rattle.setup.specs.Views.{setupOf}
 use Rattle.model.specs.Frame.{decode}
-use mathlib.Core.Path.{_∙_}
 use Rattle.lemmas.proofs.Questions.{limits-from}
-use Rattle.holdback.proofs.RoundTrip.{passing}
-use Rattle.holdback.proofs.Testing.{fits-passes, rank-fits, rank-placed}
+use Rattle.holdback.specs.Queue.{rankOf}
+use Rattle.holdback.proofs.Testing.{rank-read, rank-fits, rank-placed}
+use borrow.Author.Needs.{needs}
 use Rattle.holdback.proofs.timing.sum_place.Statement.{statement}
 use Rattle.holdback.proofs.timing.sum_place.Tie as tie
 
-rank-of-requires : tie.Need-rank-of-requires
-rank-of-requires c κs =
-    let start = c .before in
-    let setup = setupOf (start .args .s) in
-    (start .pre .0, passing setup (start .args .frame .now) (fits-passes setup (start .args .v) (setup .modulus) (start .args .frame .now) (start .pre .1)) .r-below)
+rank-at-requires : tie.Need-rank-at-requires
+rank-at-requires c κs = search needs
+
+-- the rank with the reading that is handed on
+ranked : (c : tie.After-rank-at) → c .rank-at .result ≡ rankOf (setupOf (c .before .before .args .s)) (c .before .before .args .v) (decode (c .before .before .args .s .epsilon) (c .before .before .args .frame .now))
+ranked c =
+    let start = c .before .before in
+    rank-read (setupOf (start .args .s)) (start .args .v) (decode (start .args .s .epsilon) (start .args .frame .now)) (start .args .reading) (c .rank-at .ensures (start .args .s .epsilon)) (start .pre .1 .1)
 
 rank-place-requires : tie.Need-rank-place-requires
 rank-place-requires c κs =
     let start = c .before .before in
     let setup = setupOf (start .args .s) in
-    (start .pre .0 .0, rank-fits setup (start .args .v) (setup .modulus) (start .args .frame .now) (c .rank-of .result) (limits-from setup (start .pre .0 .0)) (start .pre .1) (c .rank-of .ensures))
+    (start .pre .0 .0, rank-fits setup (start .args .v) (setup .modulus) (start .args .frame .now) (c .rank-at .result) (limits-from setup (start .pre .0 .0)) (start .pre .1 .0) (ranked c))
 
 returns : tie.Need-returns
 returns c =
     let start = c .before .before .before in
     c .rank-place .ensures
-    ∙ rank-placed (setupOf (start .args .s)) (start .args .v) (decode (start .args .s .epsilon) (start .args .frame .now)) (c .before .rank-of .result) (c .before .rank-of .ensures)
+    ∙ rank-placed (setupOf (start .args .s)) (start .args .v) (decode (start .args .s .epsilon) (start .args .frame .now)) (c .before .rank-at .result) (ranked (c .before))
 
 pub sum-place-spec : {M : Type 1} → statement M
-sum-place-spec = tie.close (tie.spec rank-of-requires rank-place-requires returns)
+sum-place-spec = tie.close (tie.spec rank-at-requires rank-place-requires returns)

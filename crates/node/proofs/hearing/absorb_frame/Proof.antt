@@ -4,7 +4,6 @@ use native.Mathlib.Omega.{arith}
 use mathlib.Core.Path.{_≡_, _∙_, ap, ap₂}
 use borrow.Author.Needs.{needs}
 use Rattle.model.specs.Timestamp.{Timestamp, trimmed, widened, absorb}
-use Rattle.model.specs.Order.{readingOf}
 use Rattle.model.specs.Frame.{Frame, decode}
 use Rattle.frame.proofs.Asking.{stamp-kept}
 use Rattle.setup.specs.Views.{setupOf}
@@ -17,7 +16,7 @@ abbrev frame : tie.Start → Frame
 frame c = decode (c .args .setup .epsilon) (c .args .s .now)
 
 known : (c : tie.Start) → Given (setupOf (c .args .setup)) (c .args .clock) (c .args .s .now)
-known c = given (setupOf (c .args .setup)) (c .args .clock) (c .args .s .now) (c .pre)
+known c = given (setupOf (c .args .setup)) (c .args .clock) (c .args .s .now) (c .pre .0)
 
 cast-epsilon : tie.Need-cast-epsilon
 cast-epsilon c = search needs
@@ -25,51 +24,34 @@ cast-epsilon c = search needs
 cast-modulus : tie.Need-cast-modulus
 cast-modulus c = search needs
 
-reading-of-requires : tie.Need-reading-of-requires
-reading-of-requires c κs = let start = c .before .before .before in ((start .pre .timed .limits, start .pre .timed .below), known start .r-below)
+high : (c : tie.Start) → c .args .reading ≤ 2 ^ 17
+high c = omega (arith, c .pre .1, known c .high, known c .limits .modulus-most, known c .limits .epsilon-most)
 
-module _ (c : tie.After-reading-of) where
+stamp-of-requires : tie.Need-stamp-of-requires
+stamp-of-requires c κs = (known (c .before .before .before) .limits .epsilon-most, known (c .before .before .before) .formed)
+
+module _ (c : tie.After-stamp-of) where
   abbrev begin : tie.Start
   begin = c .before .before .before .before
 
-  reads : c .reading-of .result ≡ readingOf (setupOf (begin .args .setup)) (begin .args .clock) (frame begin)
-  reads = c .reading-of .ensures
-
-  high : c .reading-of .result ≤ 2 ^ 17
-  high = omega (arith, reads, known begin .high, known begin .limits .modulus-most, known begin .limits .epsilon-most)
-
-stamp-of-requires : tie.Need-stamp-of-requires
-stamp-of-requires c κs = (known (begin c) .limits .epsilon-most, known (begin c) .formed)
-
-module _ (c : tie.After-stamp-of) where
   lead : c .stamp-of .result .c ≤ 2 ^ 16
   unfolding widened
   lead =
-      let start = begin (c .before) in
-      let same : c .stamp-of .result .c ≡ frame start .stamp .c = ap (λ (t : Timestamp). t .c) (c .stamp-of .ensures) in
-      omega (arith, known start .c-below, known start .limits .epsilon-most)
+      let same : c .stamp-of .result .c ≡ frame begin .stamp .c = ap (λ (t : Timestamp). t .c) (c .stamp-of .ensures) in
+      omega (arith, known begin .c-below, known begin .limits .epsilon-most)
 
-  other : trimmed (begin (c .before) .args .setup .epsilon) (stampOf (c .stamp-of .result)) ≡ frame (begin (c .before)) .stamp
+  other : trimmed (begin .args .setup .epsilon) (stampOf (c .stamp-of .result)) ≡ frame begin .stamp
   other =
-      let start = begin (c .before) in
-      ap (trimmed (start .args .setup .epsilon)) (c .stamp-of .ensures) ∙ stamp-kept (start .args .setup .epsilon) (start .args .s .now) (known start .limits .epsilon-most) (known start .formed)
+      ap (trimmed (begin .args .setup .epsilon)) (c .stamp-of .ensures) ∙ stamp-kept (begin .args .setup .epsilon) (begin .args .s .now) (known begin .limits .epsilon-most) (known begin .formed)
 
 absorb-requires : tie.Need-absorb-requires
-absorb-requires c κs = let lim = known (begin (c .before)) .limits in (lim .epsilon-most, (lim .modulus-most, (high (c .before), lead c)))
+absorb-requires c κs = let lim = known (begin c) .limits in (lim .epsilon-most, (lim .modulus-most, (high (begin c), lead c)))
 
 returns : tie.Need-returns
 returns c =
-    let start = begin (c .before .before) in
+    let start = begin (c .before) in
     c .absorb .ensures
-    ∙ ap₂ (λ (x : ℕ) (t : Timestamp). widened (absorb (start .args .setup .epsilon) (start .args .setup .modulus) (trimmed (start .args .setup .epsilon) (stampOf (start .args .stamp))) x t)) (reads (c .before .before)) (other (c .before))
+    ∙ ap₂ (λ (x : ℕ) (t : Timestamp). widened (absorb (start .args .setup .epsilon) (start .args .setup .modulus) (trimmed (start .args .setup .epsilon) (stampOf (start .args .stamp))) x t)) (start .pre .1) (other (c .before))
 
 pub absorb-frame-spec : {M : Type 1} → statement M
-absorb-frame-spec =
-    tie.close
-    (tie.spec
-    cast-epsilon
-    cast-modulus
-    reading-of-requires
-    stamp-of-requires
-    absorb-requires
-    returns)
+absorb-frame-spec = tie.close (tie.spec cast-epsilon cast-modulus stamp-of-requires absorb-requires returns)

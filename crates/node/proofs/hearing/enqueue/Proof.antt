@@ -14,24 +14,24 @@ use Rattle.node.proofs.Places.{Known, known, fits, short, movable, span
 use Rattle.node.proofs.hearing.enqueue.Statement.{statement}
 use Rattle.node.proofs.hearing.enqueue.Tie as tie
 
-here : (c : tie.Start) → Known (setupOf (c .args .setup)) (c .args .clock) (c .args .holdback .now) (c .args .place .index) (c .args .s .now)
+here : (c : tie.Start) → Known (setupOf (c .args .setup)) (c .args .clock) (c .args .holdback .now) (c .args .placed .place .index) (c .args .s .now)
 here c = known (c .pre .0)
 
 -- where it starts, from its second call
 abbrev begin : tie.After-slice-known4 → tie.Start
-begin c = c .before .before .before .before .before .before .before .before .before
+begin c = c .before .before .before .before .before .before .before .before .before .before
 
 cast-put : tie.Need-cast-put
 cast-put c = search needs
 
 put-requires : tie.Need-put-requires
 put-requires c κs =
-    let start = c .before .before .before .before .before .before in
-    let extent = start .pre .1 .1 in
+    let start = c .before .before .before .before .before .before .before in
+    let extent = start .pre .1 .1 .0 in
     (spans (start .pre .0) extent, (here start .form, (omega (arith, fits (start .pre .0), extent .ends), omega (arith, extent .count-is, here start .few))))
 
 sum-place-requires : tie.Need-sum-place-requires
-sum-place-requires c κs = let start = begin c in ((start .pre .0 .timed .limits, start .pre .0 .timed .below), here start .fit)
+sum-place-requires c κs = let start = begin c in ((start .pre .0 .timed .limits, start .pre .0 .timed .below), (here start .fit, start .pre .1 .1 .1))
 
 -- the sum has a place
 placed : (c : tie.After-sum-place) → c .sum-place .result < startPlaces
@@ -58,9 +58,9 @@ shift-starts-requires c κs = let start = begin (c .before .before) in movable (
 
 mark-requires : tie.Need-mark-requires
 mark-requires c κs =
-    let start = c .before .before .before .before .before .before .before .before .before .before .before .before .before .before .before in (
+    let start = c .before .before .before .before .before .before .before .before .before .before .before .before .before .before .before .before in (
       (start .pre .0 .timed .limits, start .pre .0 .timed .below),
-      (here start .placeable, ap length (start .pre .1 .0 .table-is) ∙ length-seen (setupOf (start .args .setup)) (start .args .clock) (held (start .args .setup .epsilon) (start .args .holdback .now))),
+      (here start .placeable, (ap length (start .pre .1 .0 .table-is) ∙ length-seen (setupOf (start .args .setup)) (start .args .clock) (held (start .args .setup .epsilon) (start .args .holdback .now)), start .pre .1 .1 .1)),
     )
 
 same-length : tie.Need-same-length
@@ -74,13 +74,13 @@ same-length-3 c = search needs
 
 returns : tie.Need-returns
 returns c =
-    let start = c .before .before .before .before .before .before .before .before .before .before .before .before .before .before .before .before .before .before in
+    let start = c .before .before .before .before .before .before .before .before .before .before .before .before .before .before .before .before .before .before .before in
     let put = c .before .before .before .before .before .before .before .before .before .before .before .put .ensures in
-    let clean : Bytes (start .args .holdback .now) = λ i. omega (arith, c .before .before .before .before .before .before .before .before .before .before .before .before .before .before .before .before .slice-known .given i) in
-    let bytes-clean : Bytes (start .args .s .now) = λ i. omega (arith, c .before .before .before .before .before .before .before .before .before .before .before .before .before .before .before .before .before .shared-slice-known .given i) in
+    let clean : Bytes (start .args .holdback .now) = λ i. omega (arith, c .before .before .before .before .before .before .before .before .before .before .before .before .before .before .before .before .before .slice-known .given i) in
+    let bytes-clean : Bytes (start .args .s .now) = λ i. omega (arith, c .before .before .before .before .before .before .before .before .before .before .before .before .before .before .before .before .before .before .shared-slice-known .given i) in
     record {
       queued = more-queued (start .pre .0) put clean bytes-clean (start .pre .1 .0) (c .before .before .mark .ensures) (c .before .before .before .before .before .before .before .before .sum-place .ensures) (c .before .before .before .before .before .before .shift-starts .ensures);
-      extent = more-extent (start .pre .0) put clean bytes-clean (start .pre .1 .1);
+      extent = more-extent (start .pre .0) put clean bytes-clean (start .pre .1 .1 .0);
       buffer-is = put;
       queue = more-held (start .pre .0) put;
     }

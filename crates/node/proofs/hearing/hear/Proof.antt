@@ -16,6 +16,8 @@ use Rattle.holdback.proofs.Started.{starts-long}
 use Rattle.batch.specs.Walk.{countOf, entryAt, nextAt}
 use Rattle.batch.specs.declared.Step.{Step}
 use Rattle.batch.proofs.Walk.{step-ordered, step-within, step-next, step-entry}
+use Rattle.model.specs.Frame.{decode}
+use Rattle.model.specs.Order.{readingOf}
 use Rattle.setup.specs.Views.{setupOf}
 use Rattle.timestamp.specs.Views.{stampOf}
 use Rattle.node.specs.Views.{verdictOf}
@@ -28,7 +30,7 @@ use Rattle.node.proofs.hearing.hear.Statement.{statement}
 use Rattle.node.proofs.hearing.hear.Tie as tie
 
 abbrev tags : Tags
-tags = record { tag = Declared.tagOf Rattle.node.proofs.verdict.Verdict.the-type; at-taken = λ place. refl; at-refused = λ number. refl }
+tags = record { tag = Declared.tagOf Rattle.node.proofs.verdict.Verdict.the-type; at-taken = λ placed. refl; at-refused = λ number. refl }
 
 -- the two halves: what goes on the queue, and what goes into the stamp
 abbrev Inv-loop : tie.InvT-loop
@@ -140,7 +142,7 @@ loop-again c =
 
 -- what taking it asks
 module _ (c : tie.After-known-told Inv-loop μ-loop) where
-  taking : Taking (setupOf (c .before .before .before .before .before .before .before .before .before .before .before .before .before .before .before .before .before .args .setup)) (c .before .before .before .before .before .before .before .before .before .before .before .before .before .before .before .before .before .args .clock) (c .before .before .before .before .before .before .before .before .before .before .loop .holdback) (c .before .verdict .given .0 .0 .index) (c .before .verdict .given .0 .0 .at) (bytes (c .before .before .before .before .before .before .before .before))
+  taking : Taking (setupOf (c .before .before .before .before .before .before .before .before .before .before .before .before .before .before .before .before .before .args .setup)) (c .before .before .before .before .before .before .before .before .before .before .before .before .before .before .before .before .before .args .clock) (c .before .before .before .before .before .before .before .before .before .before .loop .holdback) (c .before .verdict .given .0 .0 .place .index) (c .before .verdict .given .0 .0 .place .at) (bytes (c .before .before .before .before .before .before .before .before))
   taking =
       record {
         timed = c .before .before .before .before .before .before .before .before .before .before .before .before .before .before .before .before .before .pre .0;
@@ -150,14 +152,18 @@ module _ (c : tie.After-known-told Inv-loop μ-loop) where
         starts = c .before .before .before .judge .ensures .1 .stands (c .before .verdict .given .0 .0) (c .before .verdict .given .1);
       }
 
+  -- its reading is handed on
+  read : c .before .verdict .given .0 .0 .reading ≡ readingOf (setupOf (c .before .before .before .before .before .before .before .before .before .before .before .before .before .before .before .before .before .args .setup)) (c .before .before .before .before .before .before .before .before .before .before .before .before .before .before .before .before .before .args .clock) (decode (c .before .before .before .before .before .before .before .before .before .before .before .before .before .before .before .before .before .args .setup .epsilon) (bytes (c .before .before .before .before .before .before .before .before)))
+  read = c .before .before .before .judge .ensures .1 .reads (c .before .verdict .given .0 .0) (c .before .verdict .given .1)
+
 enqueue-requires : tie.Need-enqueue-requires Inv-loop μ-loop
-enqueue-requires c κs = let queue = c .before .before .before .before .before .before .before .before .before .before .before .before .before .loop .inv .0 in (taking (c .before .before .before), (queue .queued, queue .extent))
+enqueue-requires c κs = let queue = c .before .before .before .before .before .before .before .before .before .before .before .before .before .loop .inv .0 in (taking (c .before .before .before), (queue .queued, (queue .extent, read (c .before .before .before))))
 
 absorb-frame-requires : tie.Need-absorb-frame-requires Inv-loop μ-loop
 absorb-frame-requires c κs =
     let start = c .before .before .before .before .before .before .before .before .before .before .before .before .before .before .before .before .before .before .before .before .before .before .before .before .before .before .before in
     let taken = taking (c .before .before .before .before .before .before .before .before .before .before) in
-    taken-readable (setupOf (start .args .setup)) (start .args .clock) (held (start .args .setup .epsilon) (c .before .before .before .before .before .before .before .before .before .before .before .before .before .before .before .before .before .before .before .before .loop .holdback)) (bytes (c .before .before .before .before .before .before .before .before .before .before .before .before .before .before .before .before .before .before)) (c .before .before .before .before .before .before .before .before .before .before .before .verdict .given .0 .0 .index) (taken .timed) (taken .judged)
+    (taken-readable (setupOf (start .args .setup)) (start .args .clock) (held (start .args .setup .epsilon) (c .before .before .before .before .before .before .before .before .before .before .before .before .before .before .before .before .before .before .before .before .loop .holdback)) (bytes (c .before .before .before .before .before .before .before .before .before .before .before .before .before .before .before .before .before .before)) (c .before .before .before .before .before .before .before .before .before .before .before .verdict .given .0 .0 .place .index) (taken .timed) (taken .judged), read (c .before .before .before .before .before .before .before .before .before .before))
 
 add-held : tie.Need-add-held Inv-loop μ-loop
 add-held c = omega (arith, known (taking (c .before .before .before .before .before .before .before .before .before .before .before)) .few, c .before .before .before .before .before .before .before .before .before .before .before .before .before .before .before .before .before .before .before .before .before .loop .inv .0 .extent .count-is)

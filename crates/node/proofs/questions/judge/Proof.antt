@@ -54,39 +54,44 @@ passed c = sym (c .before .check .ensures) ∙ c .if1 .left
 readable : (c : tie.Else1) → Readable (setupOf (c .before .before .before .before .before .before .args .setup)) (c .before .before .before .before .before .before .args .clock) (c .before .before .before .before .before .before .args .s .now)
 readable c = record { timed = c .before .before .before .before .before .before .pre .0; passed = passed c }
 
+reading-of-requires : tie.Need-reading-of-requires
+reading-of-requires c κs =
+    let start = c .before .before .before .before .before .before in
+    ((start .pre .0 .limits, start .pre .0 .below), given (setupOf (start .args .setup)) (start .args .clock) (start .args .s .now) (readable c) .r-below)
+
 check-time-requires : tie.Need-check-time-requires
-check-time-requires c κs = readable c
+check-time-requires c κs = (readable (c .before), c .reading-of .ensures)
 
 returns-2 : tie.Need-returns-2
 returns-2 c =
-    let start = c .before .before .before .before .before .before .before .before in
-    (time-no (setupOf (start .args .setup)) (start .args .clock) (queue start) (start .args .s .now) (passed (c .before .before)) (c .before .check-time .result) (c .before .check-time .ensures) (c .if2 .taken), refused-located)
+    let start = c .before .before .before .before .before .before .before .before .before in
+    (time-no (setupOf (start .args .setup)) (start .args .clock) (queue start) (start .args .s .now) (passed (c .before .before .before)) (c .before .check-time .result) (c .before .check-time .ensures) (c .if2 .taken), refused-located)
 
-timely : (c : tie.Else2) → firstNo (timeQuestions (setupOf (c .before .before .before .before .before .before .before .before .args .setup)) (c .before .before .before .before .before .before .before .before .args .clock) (frame (c .before .before .before .before .before .before .before .before))) ≡ 0
+timely : (c : tie.Else2) → firstNo (timeQuestions (setupOf (c .before .before .before .before .before .before .before .before .before .args .setup)) (c .before .before .before .before .before .before .before .before .before .args .clock) (frame (c .before .before .before .before .before .before .before .before .before))) ≡ 0
 timely c = sym (c .before .check-time .ensures) ∙ c .if2 .left
 
-placeable : (c : tie.Else2) → Placeable (setupOf (c .before .before .before .before .before .before .before .before .args .setup)) (c .before .before .before .before .before .before .before .before .args .clock) (frame (c .before .before .before .before .before .before .before .before))
+placeable : (c : tie.Else2) → Placeable (setupOf (c .before .before .before .before .before .before .before .before .before .args .setup)) (c .before .before .before .before .before .before .before .before .before .args .clock) (frame (c .before .before .before .before .before .before .before .before .before))
 placeable c =
-    let start = c .before .before .before .before .before .before .before .before in
-    late-placeable (setupOf (start .args .setup)) (start .args .clock) (frame start) (given (setupOf (start .args .setup)) (start .args .clock) (start .args .s .now) (readable (c .before .before)) .frame)
+    let start = c .before .before .before .before .before .before .before .before .before in
+    late-placeable (setupOf (start .args .setup)) (start .args .clock) (frame start) (given (setupOf (start .args .setup)) (start .args .clock) (start .args .s .now) (readable (c .before .before .before)) .frame)
     (time-late (setupOf (start .args .setup)) (start .args .clock) (frame start) (timely c))
 
 repeats-requires : tie.Need-repeats-requires
 repeats-requires c κs =
-    let start = c .before .before .before .before .before .before .before .before in (
+    let start = c .before .before .before .before .before .before .before .before .before in (
       (start .pre .0 .limits, start .pre .0 .below),
-      (placeable c, ap length (start .pre .1 .0 .table-is) ∙ length-seen (setupOf (start .args .setup)) (start .args .clock) (queue start)),
+      (placeable c, (ap length (start .pre .1 .0 .table-is) ∙ length-seen (setupOf (start .args .setup)) (start .args .clock) (queue start), c .before .before .reading-of .ensures)),
     )
 
-repeated : (c : tie.After-repeats) → c .repeats .result ≡ any (sameOrigin (frame (c .before .before .before .before .before .before .before .before .before))) (queue (c .before .before .before .before .before .before .before .before .before))
+repeated : (c : tie.After-repeats) → c .repeats .result ≡ any (sameOrigin (frame (c .before .before .before .before .before .before .before .before .before .before))) (queue (c .before .before .before .before .before .before .before .before .before .before))
 repeated c =
-    let start = c .before .before .before .before .before .before .before .before .before in
+    let start = c .before .before .before .before .before .before .before .before .before .before in
     c .repeats .ensures ∙ marked-is (setupOf (start .args .setup)) (start .args .clock) (start .args .holdback .now) (start .args .seen .now) (start .args .starts .now) (frame start) (start .pre .0) (start .pre .1 .0) (placeable (c .before))
 
 returns-3 : tie.Need-returns-3
 returns-3 c =
-    let start = c .before .before .before .before .before .before .before .before .before .before in
-    (repeat-no (setupOf (start .args .setup)) (start .args .clock) (queue start) (start .args .s .now) (passed (c .before .before .before .before)) (timely (c .before .before)) (sym (repeated (c .before)) ∙ c .if3 .taken), refused-located)
+    let start = c .before .before .before .before .before .before .before .before .before .before .before in
+    (repeat-no (setupOf (start .args .setup)) (start .args .clock) (queue start) (start .args .s .now) (passed (c .before .before .before .before .before)) (timely (c .before .before)) (sym (repeated (c .before)) ∙ c .if3 .taken), refused-located)
 
 cast-depth : tie.Need-cast-depth
 cast-depth c = search needs
@@ -98,40 +103,40 @@ cast-depth-3 : tie.Need-cast-depth-3
 cast-depth-3 c = search needs
 
 depth-requires : tie.Need-depth-requires
-depth-requires c κs = let lim = limits (c .before .before .before .before .before .before .before .before .before .before .before .before .before) in (lim .n-most, (lim .epsilon-most, lim .delta-most))
+depth-requires c κs = let lim = limits (c .before .before .before .before .before .before .before .before .before .before .before .before .before .before) in (lim .n-most, (lim .epsilon-most, lim .delta-most))
 
-full : (c : tie.Then4) → depth (c .before .before .before .before .before .before .before .before .before .before .before .before .before .before .before .args .setup .n) (c .before .before .before .before .before .before .before .before .before .before .before .before .before .before .before .args .setup .epsilon) (c .before .before .before .before .before .before .before .before .before .before .before .before .before .before .before .args .setup .delta) ≤ length (queue (c .before .before .before .before .before .before .before .before .before .before .before .before .before .before .before))
-full c = omega (arith, c .before .depth .ensures, long (c .before .before .before .before .before .before .before .before .before .before .before .before .before .before .before))
+full : (c : tie.Then4) → depth (c .before .before .before .before .before .before .before .before .before .before .before .before .before .before .before .before .args .setup .n) (c .before .before .before .before .before .before .before .before .before .before .before .before .before .before .before .before .args .setup .epsilon) (c .before .before .before .before .before .before .before .before .before .before .before .before .before .before .before .before .args .setup .delta) ≤ length (queue (c .before .before .before .before .before .before .before .before .before .before .before .before .before .before .before .before))
+full c = omega (arith, c .before .depth .ensures, long (c .before .before .before .before .before .before .before .before .before .before .before .before .before .before .before .before))
 
 returns-4 : tie.Need-returns-4
 returns-4 c =
-    let start = c .before .before .before .before .before .before .before .before .before .before .before .before .before .before .before in
-    (room-no (setupOf (start .args .setup)) (start .args .clock) (queue start) (start .args .s .now) (passed (c .before .before .before .before .before .before .before .before .before)) (timely (c .before .before .before .before .before .before .before)) (sym (repeated (c .before .before .before .before .before .before)) ∙ c .before .before .before .before .before .if3 .left) (full c), refused-located)
+    let start = c .before .before .before .before .before .before .before .before .before .before .before .before .before .before .before .before in
+    (room-no (setupOf (start .args .setup)) (start .args .clock) (queue start) (start .args .s .now) (passed (c .before .before .before .before .before .before .before .before .before .before)) (timely (c .before .before .before .before .before .before .before)) (sym (repeated (c .before .before .before .before .before .before)) ∙ c .before .before .before .before .before .if3 .left) (full c), refused-located)
 
-room : (c : tie.Else4) → length (queue (c .before .before .before .before .before .before .before .before .before .before .before .before .before .before .before)) < depth (c .before .before .before .before .before .before .before .before .before .before .before .before .before .before .before .args .setup .n) (c .before .before .before .before .before .before .before .before .before .before .before .before .before .before .before .args .setup .epsilon) (c .before .before .before .before .before .before .before .before .before .before .before .before .before .before .before .args .setup .delta)
-room c = omega (arith, c .before .depth .ensures, long (c .before .before .before .before .before .before .before .before .before .before .before .before .before .before .before))
+room : (c : tie.Else4) → length (queue (c .before .before .before .before .before .before .before .before .before .before .before .before .before .before .before .before)) < depth (c .before .before .before .before .before .before .before .before .before .before .before .before .before .before .before .before .args .setup .n) (c .before .before .before .before .before .before .before .before .before .before .before .before .before .before .before .before .args .setup .epsilon) (c .before .before .before .before .before .before .before .before .before .before .before .before .before .before .before .before .args .setup .delta)
+room c = omega (arith, c .before .depth .ensures, long (c .before .before .before .before .before .before .before .before .before .before .before .before .before .before .before .before))
 
-fit : (c : tie.Else2) → fits (setupOf (c .before .before .before .before .before .before .before .before .args .setup)) (c .before .before .before .before .before .before .before .before .args .clock) (c .before .before .before .before .before .before .before .before .args .setup .modulus) (c .before .before .before .before .before .before .before .before .args .s .now) ≡ true
+fit : (c : tie.Else2) → fits (setupOf (c .before .before .before .before .before .before .before .before .before .args .setup)) (c .before .before .before .before .before .before .before .before .before .args .clock) (c .before .before .before .before .before .before .before .before .before .args .setup .modulus) (c .before .before .before .before .before .before .before .before .before .args .s .now) ≡ true
 fit c =
-    let start = c .before .before .before .before .before .before .before .before in
-    fits-when (setupOf (start .args .setup)) (start .args .clock) (start .args .s .now) (passed (c .before .before)) (time-late (setupOf (start .args .setup)) (start .args .clock) (frame start) (timely c)) (time-early (setupOf (start .args .setup)) (start .args .clock) (frame start) (timely c))
+    let start = c .before .before .before .before .before .before .before .before .before in
+    fits-when (setupOf (start .args .setup)) (start .args .clock) (start .args .s .now) (passed (c .before .before .before)) (time-late (setupOf (start .args .setup)) (start .args .clock) (frame start) (timely c)) (time-early (setupOf (start .args .setup)) (start .args .clock) (frame start) (timely c))
 
 place-for-requires : tie.Need-place-for-requires
 place-for-requires c κs =
-    let start = c .before .before .before .before .before .before .before .before .before .before .before .before .before .before .before in (
+    let start = c .before .before .before .before .before .before .before .before .before .before .before .before .before .before .before .before in (
       (start .pre .0 .limits, start .pre .0 .below),
       (
         (start .pre .1 .0 .sound, (size-two (setupOf (start .args .setup)) (length (start .args .holdback .now)) (start .pre .1 .0 .size), start .pre .1 .1)),
-        (start .pre .1 .0 .starts-is, fit (c .before .before .before .before .before .before .before)),
+        (start .pre .1 .0 .starts-is, (fit (c .before .before .before .before .before .before .before), c .before .before .before .before .before .before .before .before .before .reading-of .ensures)),
       ),
     )
 
 returns-5 : tie.Need-returns-5
 returns-5 c =
-    let start = c .before .before .before .before .before .before .before .before .before .before .before .before .before .before .before .before in (
+    let start = c .before .before .before .before .before .before .before .before .before .before .before .before .before .before .before .before .before in (
       ap taken (c .place-for .ensures .frames)
-          ∙ all-yes (setupOf (start .args .setup)) (start .args .clock) (queue start) (start .args .s .now) (passed (c .before .before .before .before .before .before .before .before .before .before)) (timely (c .before .before .before .before .before .before .before .before)) (sym (repeated (c .before .before .before .before .before .before .before)) ∙ c .before .before .before .before .before .before .if3 .left) (room (c .before)),
-      taken-located (c .place-for .ensures .starts),
+          ∙ all-yes (setupOf (start .args .setup)) (start .args .clock) (queue start) (start .args .s .now) (passed (c .before .before .before .before .before .before .before .before .before .before .before)) (timely (c .before .before .before .before .before .before .before .before)) (sym (repeated (c .before .before .before .before .before .before .before)) ∙ c .before .before .before .before .before .before .if3 .left) (room (c .before)),
+      taken-located (c .place-for .ensures .starts) (c .before .before .before .before .before .before .before .before .before .before .reading-of .ensures),
     )
 
 pub judge-spec : {M : Type 1} → statement M
@@ -140,6 +145,7 @@ judge-spec =
     (tie.spec
     check-requires
     returns
+    reading-of-requires
     check-time-requires
     returns-2
     repeats-requires
