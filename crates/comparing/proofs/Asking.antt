@@ -67,7 +67,7 @@ module _ (s : Setup) (own v : ℕ) (first second : List ℕ) where
   all-passed e =
       let clock : firstNo fromClock ≡ 0 = other-yes valid 0 fromClock e in
       let frames : firstNo fromFrames ≡ 0 = other-yes (ltb v (s .modulus)) 1 fromFrames clock in
-      let front : firstNo (frameQuestions s first) ≡ 0 = front-append (frameQuestions s first) (frameQuestions s second) refl frames in
+      let front : firstNo (frameQuestions s first) ≡ 0 = front-append (frameQuestions s first) (frameQuestions s second) frames in
       let back : firstNo (frameQuestions s second) ≡ 0 = sym (yes-append (frameQuestions s first) (frameQuestions s second) refl front) ∙ frames in
       record {
         limits = and-left (inLimits s) (isMember s own) (first-yes valid 0 fromClock e);

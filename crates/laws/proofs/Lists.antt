@@ -278,22 +278,19 @@ module _ {A : Type 0} where
       → length (select p l) + length (select q (select (λ x. not (p x)) l)) ≡ length (select r l)
   unfolding select
   select-either p q r [] h = refl
-  select-either p q r (x ∷ l) h = go (p x) (q x) (r x) (h x (List·Memᴰ·head refl)) refl
+  select-either p q r (x ∷ l) h =
+      go (p x) (q x) (r x) (h x (List·Memᴰ·head refl)) refl (select-either p q r l (λ y m. h y (List·Memᴰ·tail m)))
     where
-      rest : length (select p l) + length (select q (select (λ y. not (p y)) l)) ≡ length (select r l)
-      rest = select-either p q r l (λ y m. h y (List·Memᴰ·tail m))
-
-      first : (b : Bool) → q x ≡ b → select q (x ∷ select (λ y. not (p y)) l) ≡ cond b (x ∷ select q (select (λ y. not (p y)) l)) (select q (select (λ y. not (p y)) l))
-      unfolding select
-      first b e = rw e refl
+      rest : List A
+      rest = select (λ y. not (p y)) l
 
       go :
-          (a b c : Bool) → c ≡ (a || b) → q x ≡ b
-          → length (cond a (x ∷ select p l) (select p l)) + length (select q (cond (not a) (x ∷ select (λ y. not (p y)) l) (select (λ y. not (p y)) l)))
+          (a b c : Bool) → c ≡ (a || b) → q x ≡ b → length (select p l) + length (select q rest) ≡ length (select r l)
+          → length (cond a (x ∷ select p l) (select p l)) + length (select q (cond (not a) (x ∷ rest) rest))
           ≡ length (cond c (x ∷ select r l) (select r l))
-      go true b c e f = rw e (omega (arith, rest))
-      go false true c e f = rw (e, first true f) (omega (arith, rest))
-      go false false c e f = rw (e, first false f) rest
+      go true b c e f k = rw e (omega (arith, k))
+      go false true c e f k = rw (e, f) (omega (arith, k))
+      go false false c e f k = rw (e, f) k
 
   pub select-length-le : (p : A → Bool) (l : List A) → length (select p l) ≤ length l
   unfolding select

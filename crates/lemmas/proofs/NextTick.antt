@@ -6,6 +6,7 @@ use mathlib.Core.Bool.{Bool, not}
 use mathlib.Core.List.{List, [], _∷_}
 use lib.Dec.{eqb}
 use lib.ListN.{length, length-append}
+use borrow.Author.Tests.{ne-eqb}
 use Rattle.laws.specs.Lists.{select}
 use Rattle.model.specs.Setup.{Setup}
 use Rattle.model.specs.Timestamp.{Timestamp, widened, clockStep}
@@ -41,13 +42,13 @@ module _ (i : Input) (k : ℕ) (a : Accepted i) (pos : 1 ≤ k) (few : k ≤ i .
 none-taken : (number : ℕ) (verdicts : List ℕ) → takenCount (number ∷ verdicts) ≡ 0 → (number ≡ 0 → ⊥) × (takenCount verdicts ≡ 0)
 unfolding takenCount select
 none-taken zero verdicts e = absurd (omega arith)
-none-taken (suc k) verdicts e = ((λ z. omega arith), e)
+none-taken (suc k) verdicts e = ((λ z. omega arith), rw (ne-eqb (suc k) 0 (λ z. omega arith)) at e)
 
 -- a hearing that takes no frame leaves the queue as it was
 pub hear-none :
     (s : Setup) (v : ℕ) (h : Heard) (entries : List (List ℕ)) → takenCount (numbersOf s v h entries) ≡ 0
     → hear s v (judgeQuestions s v) h entries .queue ≡ h .queue
-unfolding hear numbersOf
+unfolding hear numbersOf hearOne judge
 hear-none s v h [] e = refl
 hear-none s v h (bytes ∷ rest) e =
     let none = none-taken (firstNo (judgeQuestions s v (h .queue) bytes)) (numbersOf s v (hearOne s v (judgeQuestions s v) h bytes) rest) e in
@@ -57,7 +58,6 @@ hear-none s v h (bytes ∷ rest) e =
     f = decode (s .epsilon) bytes
 
     one : (firstNo (judgeQuestions s v (h .queue) bytes) ≡ 0 → ⊥) → hearOne s v (judgeQuestions s v) h bytes .queue ≡ h .queue
-    unfolding hearOne judge
     one = go (firstNo (judgeQuestions s v (h .queue) bytes))
       where
         go : (k : ℕ) → (k ≡ 0 → ⊥) → hearBy (verdictBy k (placeFor s v (h .queue) f)) f h .queue ≡ h .queue
@@ -70,14 +70,13 @@ pub delivered-quiet :
     → tick i .answer .delivered
     ≡ length (select (dueBefore (i .setup) (i .clock)) (openedQueue i))
     + length (select (dueNow (i .setup) (i .clock)) (select (λ f. not (dueBefore (i .setup) (i .clock) f)) (openedQueue i)))
-unfolding acceptance deliveredOf earlyOf
+unfolding acceptance deliveredOf earlyOf heardOf
 delivered-quiet i a e =
     ap (λ (o : Output). o .answer .delivered) (a .accepted)
     ∙ (length-append (select (dueBefore (i .setup) (i .clock)) (openedQueue i)) (select (dueNow (i .setup) (i .clock)) (heardOf i .queue))
     ∙ ap (λ (queue : List Frame). length (select (dueBefore (i .setup) (i .clock)) (openedQueue i)) + length (select (dueNow (i .setup) (i .clock)) queue)) quiet)
   where
     quiet : heardOf i .queue ≡ opening i .queue
-    unfolding heardOf acceptance
     quiet =
         hear-none (i .setup) (i .clock) (opening i) (batchEntries (i .batch))
         (ap takenCount (sym (heard-verdicts i)) ∙ (sym (ap (λ (o : Output). o .answer .taken) (a .accepted)) ∙ e))

@@ -41,31 +41,31 @@ no-cons holds k qs h = rw h
 pub no-append : (qs rs : List Question) (k : ℕ) → k ≡ firstNo qs → (k ≡ 0 → ⊥) → k ≡ firstNo (qs ++ rs)
 unfolding firstNo
 no-append [] rs k e h = absurd (h e)
-no-append (q ∷ qs) rs k e h = go (q .holds) e
+no-append (q ∷ qs) rs k e h = go (q .holds) (λ f. no-append qs rs k f h) e
   where
-    go : (b : Bool) → k ≡ cond b (firstNo qs) (q .number) → k ≡ cond b (firstNo (qs ++ rs)) (q .number)
-    go true f = no-append qs rs k f h
-    go false f = f
+    go : (b : Bool) → (k ≡ firstNo qs → k ≡ firstNo (qs ++ rs)) → k ≡ cond b (firstNo qs) (q .number) → k ≡ cond b (firstNo (qs ++ rs)) (q .number)
+    go true rest f = rest f
+    go false rest f = f
 
 -- and where none of them gets a no, the others are asked; no question has the number 0
 pub yes-append : (qs rs : List Question) → every (λ q. ltb 0 (q .number)) qs ≡ true → firstNo qs ≡ 0 → firstNo (qs ++ rs) ≡ firstNo rs
 unfolding firstNo every
 yes-append [] rs p e = refl
-yes-append (q ∷ qs) rs p e = go (q .holds) e
+yes-append (q ∷ qs) rs p e = go (q .holds) (λ f. yes-append qs rs (and-right (ltb 0 (q .number)) _ p) f) e
   where
-    go : (b : Bool) → cond b (firstNo qs) (q .number) ≡ 0 → cond b (firstNo (qs ++ rs)) (q .number) ≡ firstNo rs
-    go true f = yes-append qs rs (and-right (ltb 0 (q .number)) _ p) f
-    go false f = absurd (omega (arith, ltb-true 0 (q .number) (and-left (ltb 0 (q .number)) _ p)))
+    go : (b : Bool) → (firstNo qs ≡ 0 → firstNo (qs ++ rs) ≡ firstNo rs) → cond b (firstNo qs) (q .number) ≡ 0 → cond b (firstNo (qs ++ rs)) (q .number) ≡ firstNo rs
+    go true rest f = rest f
+    go false rest f = absurd (omega (arith, ltb-true 0 (q .number) (and-left (ltb 0 (q .number)) _ p)))
 
 -- nor did those before them get one
-pub front-append : (qs rs : List Question) → every (λ q. ltb 0 (q .number)) qs ≡ true → firstNo (qs ++ rs) ≡ 0 → firstNo qs ≡ 0
-unfolding firstNo every
-front-append [] rs p e = refl
-front-append (q ∷ qs) rs p e = go (q .holds) e
+pub front-append : (qs rs : List Question) → firstNo (qs ++ rs) ≡ 0 → firstNo qs ≡ 0
+unfolding firstNo
+front-append [] rs e = refl
+front-append (q ∷ qs) rs e = go (q .holds) (λ f. front-append qs rs f) e
   where
-    go : (b : Bool) → cond b (firstNo (qs ++ rs)) (q .number) ≡ 0 → cond b (firstNo qs) (q .number) ≡ 0
-    go true f = front-append qs rs (and-right (ltb 0 (q .number)) _ p) f
-    go false f = f
+    go : (b : Bool) → (firstNo (qs ++ rs) ≡ 0 → firstNo qs ≡ 0) → cond b (firstNo (qs ++ rs)) (q .number) ≡ 0 → cond b (firstNo qs) (q .number) ≡ 0
+    go true rest f = rest f
+    go false rest f = f
 
 -- questions 2 and 3
 pub shelf-passed : (s : Setup) (v : ℕ) (holdback : List ℕ) → firstNo (shelfQuestions s v holdback) ≡ 0 → (v < s .modulus) × (length holdback ≡ holdbackSize s)

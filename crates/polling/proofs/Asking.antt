@@ -4,8 +4,9 @@ use native.Mathlib.Omega.{arith}
 use native.Mathlib.Nat.{mod-lt}
 use mathlib.Core.Path.{_≡_, refl, sym, ap, _∙_}
 use mathlib.Core.Bool.{Bool, true, false, _&&_}
-use mathlib.Core.List.{List}
+use mathlib.Core.List.{List, [], _∷_}
 use mathlib.Core.Option.{Option, none, some, Option·map}
+use lib.Dec.{ltb, eqb}
 use lib.ListN.{length}
 use borrow.Author.Tests.{lt-ltb, eq-eqb}
 use Rattle.laws.specs.Lists.{select}
@@ -14,7 +15,7 @@ use Rattle.laws.proofs.Lists.{select-length-le}
 use Rattle.model.specs.Setup.{Setup, inLimits, isMember, holdbackLength}
 use Rattle.model.specs.Frame.{Frame}
 use Rattle.model.specs.Order.{clockAt}
-use Rattle.model.specs.Question.{firstNo, askSetup}
+use Rattle.model.specs.Question.{ask, firstNo, askSetup}
 use Rattle.model.specs.Holdback.{held, soundHoldback}
 use Rattle.model.specs.Tick.{holdbackSize, shelfQuestions, openingQueue}
 use Rattle.model.specs.Poll.{pollQuestions, polledQueue, soonestDue, nextDue, dueWithin, numberWithin, pollBy, poll}
@@ -39,7 +40,9 @@ module _ (s : Setup) (own v : ℕ) (shelf : List ℕ) where
   pub questions-passed : valid ≡ true → v < s .modulus → length shelf ≡ holdbackSize s → 0 ≡ firstNo (pollQuestions s own v shelf)
   unfolding firstNo
   questions-passed h below size =
-      sym (yes-cons _ 2 _ (lt-ltb v (s .modulus) below) ∙ yes-cons _ 3 _ (eq-eqb (length shelf) (holdbackSize s) size)) ∙ shelf-asked h
+      sym (yes-cons (ltb v (s .modulus)) 2 (ask (eqb (length shelf) (holdbackSize s)) 3 ∷ []) (lt-ltb v (s .modulus) below)
+      ∙ yes-cons (eqb (length shelf) (holdbackSize s)) 3 [] (eq-eqb (length shelf) (holdbackSize s) size))
+      ∙ shelf-asked h
 
   -- what a poll that is not refused has
   pub record Passed : Type 0 where
@@ -84,7 +87,6 @@ unfolding nextDue clockAt
 next-small s v queue limits = go (soonestDue s v queue)
   where
     go : (o : Option ℕ) → Small (Option·map (clockAt s v) o)
-    unfolding clockAt
     go none = tt
     go (some d) =
         let some-clock : 0 < s .modulus = omega (arith, limits .modulus-least) in
