@@ -90,7 +90,7 @@ now-within s v f h = go (lt-or-ge (s .modulus) (dueNear s v f))
 
     go : (s .modulus < dueNear s v f) ⊎ (dueNear s v f ≤ s .modulus) → eqb (dueNear s v f) (s .modulus) ≡ leb (dueNear s v f) (s .modulus + 0)
     go (inl l) = ne-eqb (dueNear s v f) (s .modulus) (λ e. omega arith) ∙ sym (lt-leb (dueNear s v f) (s .modulus + 0) (omega arith))
-    go (inr l) = eq-eqb (dueNear s v f) (s .modulus) (omega arith) ∙ sym (le-leb (dueNear s v f) (s .modulus + 0) (omega arith))
+    go (inr l) = eq-eqb (dueNear s v f) (s .modulus) (omega (arith, late)) ∙ sym (le-leb (dueNear s v f) (s .modulus + 0) (omega arith))
 
 -- so of a queue in order of which none is overdue, that is a prefix
 module _ (s : Setup) (v : ℕ) (queue : List Frame) (ordered : chained (before s v) queue ≡ true) (kept : every (notOverdue s v (s .modulus)) queue ≡ true) where
