@@ -3,7 +3,7 @@ use Prim.Native.Nat.{ℕ, zero, suc, _+_, _≤_, _<_}
 use native.Mathlib.Omega.{arith}
 use native.Mathlib.Nat.{mod-lt}
 use mathlib.Core.Path.{_≡_, refl, sym, ap, _∙_}
-use mathlib.Core.Bool.{Bool, true, false, _&&_}
+use mathlib.Core.Bool.{Bool, true, false, _&&_, cond}
 use mathlib.Core.List.{List, [], _∷_}
 use mathlib.Core.Option.{Option, none, some, Option·map}
 use lib.Dec.{ltb, eqb}
@@ -13,7 +13,7 @@ use Rattle.laws.specs.Lists.{select}
 use Rattle.laws.proofs.Numbers.{and-left}
 use Rattle.laws.proofs.Lists.{select-length-le}
 use Rattle.model.specs.Setup.{Setup, inLimits, isMember, holdbackLength}
-use Rattle.model.specs.Frame.{Frame}
+use Rattle.model.specs.Frame.{Frame, twoAt}
 use Rattle.model.specs.Order.{clockAt}
 use Rattle.model.specs.Question.{ask, firstNo, askSetup}
 use Rattle.model.specs.Holdback.{held, soundHoldback}
@@ -79,6 +79,11 @@ polled-unsound s v d shelf e = rw (e, next-none s v) refl
 pub polled-sound : (s : Setup) (v : ℕ) (shelf : List ℕ) → soundHoldback s v (s .modulus + 1) shelf ≡ true → polledQueue s v shelf ≡ held (s .epsilon) shelf
 unfolding polledQueue openingQueue
 polled-sound s v shelf e = rw e refl
+
+-- the walk's count, of a sound one
+pub polled-count : (s : Setup) (v : ℕ) (shelf : List ℕ) {count : ℕ} → soundHoldback s v (s .modulus + 1) shelf ≡ true
+    → count ≡ cond (soundHoldback s v (s .modulus + 1) shelf) (twoAt shelf 0) 0 → count ≡ twoAt shelf 0
+polled-count s v shelf e count-is = count-is ∙ rw e refl
 
 -- ---- the answer's numbers are below 65,536
 

@@ -19,7 +19,7 @@ use Rattle.model.specs.Order.{readingOf, due, dueNear}
 use Rattle.model.specs.Question.{firstNo}
 use Rattle.model.specs.Holdback.{held, soundHoldback}
 use Rattle.model.specs.Tick.{Input, leastDue, openingQueue, openedQueue, dueBefore, dueNow, keptOf, tick}
-use Rattle.model.specs.Poll.{pollQuestions, polledQueue, nextDue, dueWithin, numberWithin, pollBy, poll}
+use Rattle.model.specs.Poll.{PollAnswer, dueWithin, numberWithin, pollBy, poll}
 use Rattle.lemmas.proofs.OneTick.{Accepted, accepted-call, kept-left, kept-held, shelf-sound, shelf-size}
 use Rattle.lemmas.proofs.NextTick.{opened-next, delivered-quiet}
 use Rattle.lemmas.proofs.Queue.{QueueLeft, left-moved}
@@ -31,8 +31,13 @@ module _ (i : Input) (a : Accepted i) where
   same-clock : (i .clock + 0) % i .setup .modulus ≡ i .clock
   same-clock = ap (λ (v : ℕ). v % i .setup .modulus) (add-zero (i .clock)) ∙ mod-eq-of-lt (a .clock-below)
 
+  whole : i .setup .modulus + 1 - 0 ≡ i .setup .modulus + 1
+  whole = omega arith
+
   left-sound : soundHoldback (i .setup) (i .clock) (i .setup .modulus + 1) (tick i .holdback) ≡ true
-  left-sound = subst (λ (v : ℕ). soundHoldback (i .setup) v (i .setup .modulus + 1) (tick i .holdback) ≡ true) same-clock (shelf-sound i 0 a (omega arith))
+  left-sound =
+      subst (λ (v : ℕ). soundHoldback (i .setup) v (i .setup .modulus + 1) (tick i .holdback) ≡ true) same-clock
+      (subst (λ (least : ℕ). soundHoldback (i .setup) ((i .clock + 0) % i .setup .modulus) least (tick i .holdback) ≡ true) whole (shelf-sound i 0 a (omega arith)))
 
   left-told : (d : ℕ) → poll (i .setup) (i .own) (i .clock) d (tick i .holdback) ≡ pollBy 0 (i .setup) (i .clock) d (keptOf i)
   left-told d =
@@ -88,9 +93,21 @@ opened-follows : (i j : Input) (k : ℕ) → Accepted i → Follows i j k → 1 
 unfolding openedQueue
 opened-follows i j k a f pos few = rw (f .setup, f .clock, f .tables, f .holdback) (opened-next i k a pos few)
 
+-- what a call counts as due by its clock, of what the tick before it left
+abbrev dueBy : Setup → ℕ → List Frame → ℕ
+dueBy s v queue = length (select (dueBefore s v) queue) + length (select (dueNow s v) (select (λ f. not (dueBefore s v f)) queue))
+
+follows-number :
+    (i j : Input) (k : ℕ) → Accepted i → Follows i j k → 1 ≤ k → k ≤ i .setup .epsilon
+    → dueBy (j .setup) (j .clock) (openedQueue j) ≡ dueBy (i .setup) ((i .clock + k) % i .setup .modulus) (keptOf i)
+follows-number i j k a f pos few =
+    ap (λ (queue : List Frame). dueBy (j .setup) (j .clock) queue) (opened-follows i j k a f pos few)
+    ∙ (ap (λ (s : Setup). dueBy s (j .clock) (keptOf i)) (f .setup) ∙ ap (λ (v : ℕ). dueBy (i .setup) v (keptOf i)) (f .clock))
+
 pub poll-foretells : PollForetells
 poll-foretells i j k e e′ f pos few quiet =
     let a : Accepted i = accepted-call i e in
     let b : Accepted j = accepted-call j e′ in
-    rw (f .setup, f .clock, opened-follows i j k a f pos few) at (delivered-quiet j b quiet)
-    ∙ (due-by-then i k a few ∙ sym (ap (λ p. p .within) (left-told i a k)))
+    delivered-quiet j b quiet
+    ∙ (follows-number i j k a f pos few
+    ∙ (due-by-then i k a few ∙ sym (ap (λ (p : PollAnswer). p .within) (left-told i a k))))

@@ -1,6 +1,7 @@
 -- In a sound queue the frame at the front is due soonest, and those due at most d ticks after v are at the front. Assumes nothing.
-use Prim.Native.Nat.{ℕ, zero, suc}
-use mathlib.Core.Path.{_≡_, refl, sym, ap, _∙_}
+use Prim.Native.Nat.{ℕ, zero, suc, _<_}
+use native.Mathlib.Omega.{arith}
+use mathlib.Core.Path.{_≡_, refl, sym, ap, subst, _∙_}
 use mathlib.Core.Bool.{true}
 use mathlib.Core.List.{List, [], _∷_, map}
 use mathlib.Core.Option.{none, some, Option·map}
@@ -55,12 +56,16 @@ module _ (s : Setup) (v : ℕ) (b : List ℕ) where
   unfolding tab
   held-some k e = held-tab (s .epsilon) b ∙ rw e refl
 
-  pub next-front : {least due : ℕ} → soundHoldback s v least b ≡ true → (twoAt b 0 ≡ 0 → ⊥) → due ≡ dueNear s v (frameAt (s .epsilon) b 0) → some (clockAt s v due) ≡ nextDue s v (held (s .epsilon) b)
-  next-front {least} {due} sound more e = go (twoAt b 0) refl
+  pub next-front : (least : ℕ) {due : ℕ} → soundHoldback s v least b ≡ true → (twoAt b 0 ≡ 0 → ⊥) → due ≡ dueNear s v (frameAt (s .epsilon) b 0) → some (clockAt s v due) ≡ nextDue s v (held (s .epsilon) b)
+  next-front least {due} sound more e = go (twoAt b 0) refl
     where
       go : (k : ℕ) → twoAt b 0 ≡ k → some (clockAt s v due) ≡ nextDue s v (held (s .epsilon) b)
       go zero q = absurd (more q)
       go (suc k) q =
-          let ordered = rw (held-some k q) at sound-ordered s v least b sound in
+          let ordered = subst (λ (l : List Frame). chained (before s v) l ≡ true) (held-some k q) (sound-ordered s v least b sound) in
           ap (λ (d : ℕ). some (clockAt s v d)) e
           ∙ (sym (next-first s v (frameAt (s .epsilon) b 0) (tab k (λ i. frameAt (s .epsilon) b (suc i))) ordered) ∙ ap (nextDue s v) (sym (held-some k q)))
+
+pub some-frame : (count : ℕ) → (count ≡ 0 → ⊥) → 0 < count
+some-frame zero h = absurd (h refl)
+some-frame (suc k) h = omega arith

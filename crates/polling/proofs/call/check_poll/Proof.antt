@@ -1,26 +1,34 @@
+-- `polling::call::check_poll` meets its contract: question by question. Assumes nothing.
+use mathlib.Core.Path.{_≡_, _∙_, sym}
+use mathlib.Core.Bool.{true, _&&_}
+use borrow.Author.Tests.{not-true, not-false}
 use borrow.Author.Needs.{needs}
+use Rattle.laws.proofs.Numbers.{and-left}
+use Rattle.model.specs.Setup.{inLimits, isMember}
+use Rattle.setup.specs.Views.{setupOf}
+use Rattle.polling.proofs.Asking.{setup-no, shelf-asked}
 use Rattle.polling.proofs.call.check_poll.Statement.{statement}
 use Rattle.polling.proofs.call.check_poll.Tie as tie
-use Rattle.polling.proofs.call.check_poll.Reads as reads
-use Rattle.polling.proofs.call.check_poll.Lts as lts
-use Rattle.setup.proofs.valid_for.Reads as valid-for-reads
-use Rattle.setup.proofs.check_shelf.Reads as check-shelf-reads
 
--- src/call.rt:38:9
+-- a setup in its limits
+right : (c : tie.Else1) → (inLimits (setupOf (c .before .before .before .args .setup)) && isMember (setupOf (c .before .before .before .args .setup)) (c .before .before .before .args .own)) ≡ true
+right c = sym (c .before .valid-for .ensures) ∙ not-false (c .before .valid-for .result) (c .if1 .left)
+
 valid-for-requires : tie.Need-valid-for-requires
 valid-for-requires c κs = search needs
 
--- src/call.rt:39:9
 returns : tie.Need-returns
-returns c = search needs
+returns c =
+    let a = c .before .before .before .args in
+    setup-no (setupOf (a .setup)) (a .own) (a .clock) (a .shelf .now) (sym (c .before .valid-for .ensures) ∙ not-true (c .before .valid-for .result) (c .if1 .taken))
 
--- src/call.rt:41:5
 check-shelf-requires : tie.Need-check-shelf-requires
-check-shelf-requires c κs = search needs
+check-shelf-requires c κs = and-left (inLimits (setupOf (c .before .before .before .args .setup))) _ (right c)
 
--- src/call.rt:35:1
 returns-2 : tie.Need-returns-2
-returns-2 c = search needs
+returns-2 c =
+    let a = c .before .before .before .before .args in
+    c .check-shelf .ensures ∙ shelf-asked (setupOf (a .setup)) (a .own) (a .clock) (a .shelf .now) (right (c .before))
 
 pub check-poll-spec : {M : Type 1} → statement M
 check-poll-spec = tie.close (tie.spec valid-for-requires returns check-shelf-requires returns-2)

@@ -1,31 +1,34 @@
+-- `polling::call::poll` meets its contract. Assumes nothing.
+use mathlib.Core.Path.{_≡_, _∙_, sym}
 use borrow.Author.Needs.{needs}
+use Rattle.setup.specs.Views.{setupOf}
+use Rattle.polling.proofs.Asking.{all-passed, size-two, poll-refused, poll-accepted}
 use Rattle.polling.proofs.call.poll.Statement.{statement}
 use Rattle.polling.proofs.call.poll.Tie as tie
-use Rattle.polling.proofs.call.poll.Reads as reads
-use Rattle.polling.proofs.call.poll.Lts as lts
-use Rattle.polling.proofs.call.ask_shelf.Reads as ask-shelf-reads
-use Rattle.polling.proofs.call.check_poll.Reads as check-poll-reads
-use Rattle.polling.proofs.call.nothing.Reads as nothing-reads
 
--- src/call.rt:91:9
 check-poll-requires : tie.Need-check-poll-requires
 check-poll-requires c κs = search needs
 
--- src/call.rt:93:9
 nothing-requires : tie.Need-nothing-requires
 nothing-requires c κs = search needs
 
--- src/call.rt:93:9
 returns : tie.Need-returns
-returns c = search needs
+returns c =
+    let a = c .before .before .before .before .args in
+    let asked = c .before .before .check-poll in
+    c .nothing .ensures ∙ poll-refused (setupOf (a .setup)) (a .own) (a .clock) (a .shelf .now) (a .d) (asked .result) (asked .ensures) (c .before .if1 .taken)
 
--- src/call.rt:95:5
 ask-shelf-requires : tie.Need-ask-shelf-requires
-ask-shelf-requires c κs = search needs
+ask-shelf-requires c κs =
+    let a = c .before .before .before .args in
+    let p = all-passed (setupOf (a .setup)) (a .own) (a .clock) (a .shelf .now) (sym (c .before .check-poll .ensures) ∙ c .if1 .left) in
+    ((p .limits, (p .below, search needs)), size-two (setupOf (a .setup)) (a .own) (a .clock) (a .shelf .now) (p .size))
 
--- src/call.rt:88:1
 returns-2 : tie.Need-returns-2
-returns-2 c = search needs
+returns-2 c =
+    let a = c .before .before .before .before .args in
+    c .ask-shelf .ensures
+    ∙ poll-accepted (setupOf (a .setup)) (a .own) (a .clock) (a .shelf .now) (a .d) (sym (c .before .if1 .left) ∙ c .before .before .check-poll .ensures)
 
 pub poll-spec : {M : Type 1} → statement M
 poll-spec =

@@ -1,22 +1,29 @@
+-- `polling::call::tell` meets its contract. Assumes nothing.
+use mathlib.Core.Path.{_≡_, refl, _∙_}
 use borrow.Author.Needs.{needs}
+use Rattle.model.specs.Holdback.{held}
+use Rattle.model.specs.Poll.{numberWithin}
+use Rattle.setup.specs.Views.{setupOf}
+use Rattle.holdback.proofs.Judging.{sound-ordered}
+use Rattle.polling.proofs.Fronts.{number-leading}
 use Rattle.polling.proofs.call.tell.Statement.{statement}
 use Rattle.polling.proofs.call.tell.Tie as tie
-use Rattle.polling.proofs.call.tell.Reads as reads
-use Rattle.polling.proofs.call.tell.Lts as lts
-use Rattle.holdback.proofs.due_prefix.Reads as due-prefix-reads
-use Rattle.polling.proofs.front.next_due.Reads as next-due-reads
 
--- src/call.rt:61:9
 next-due-requires : tie.Need-next-due-requires
 next-due-requires c κs = search needs
 
--- src/call.rt:62:9
 due-prefix-requires : tie.Need-due-prefix-requires
 due-prefix-requires c κs = search needs
 
--- src/call.rt:56:1
 returns : tie.Need-returns
-returns c = search needs
+returns c =
+    let start = c .before .before .before in
+    let s = setupOf (start .args .setup) in
+    let queue = held (s .epsilon) (start .args .shelf .now) in
+    let number : c .due-prefix .result .index ≡ numberWithin s (start .args .clock) (start .args .d) queue =
+    c .due-prefix .ensures .frames
+    ∙ number-leading s (start .args .clock) (start .args .d) queue (sound-ordered s (start .args .clock) (s .modulus) (start .args .shelf .now) (start .pre .1 .0)) in
+    rw (c .before .next-due .ensures, number) refl
 
 pub tell-spec : {M : Type 1} → statement M
 tell-spec = tie.close (tie.spec next-due-requires due-prefix-requires returns)
