@@ -11,7 +11,7 @@ ghost use lib.ListN.{length};
 ghost use Rattle.timestamp.specs.Views.{stampOf};
 ghost use Rattle.comparing.specs.Answers.{compareAnswer};
 ghost use Rattle.node.specs.Answers.{answerOf};
-ghost use Rattle.polling.specs.Answers.{Small, nextOf, pollAnswer};
+ghost use Rattle.polling.specs.Answers.{SmallNext, nextOf, pollAnswer};
 ghost use Rattle.abi.specs.Packing.{tablesLength, tablesIn, tablesBytes, answerWord, compareWord, nextBits, pollWord};
 
 // The tables that stand in the bytes: r in two, the low one first, c, and 32 counts. Written back they are those bytes.
@@ -75,7 +75,7 @@ pub fn pack_compared(a: Compared) -> u64
 
 // The next due clock as a number.
 fn pack_next(next: Next) -> u64
-    requires { ⌜ Small (nextOf next) ⌝ }
+    requires { ⌜ SmallNext (nextOf next) ⌝ }
     ensures { λ r. ⌜ (r ≡ nextBits (nextOf next)) × (r < 16777216) ⌝ }
 {
     match next {
@@ -86,7 +86,7 @@ fn pack_next(next: Next) -> u64
 
 // What a poll found as one number.
 pub fn pack_polled(a: Polled) -> u64
-    requires { ⌜ Small (nextOf (a .next)) × (a .within < 65536) ⌝ }
+    requires { ⌜ SmallNext (nextOf (a .next)) × (a .within < 65536) ⌝ }
     ensures { λ r. ⌜ r ≡ pollWord (pollAnswer a) ⌝ }
 {
     let next = a.next;

@@ -22,7 +22,7 @@ use Rattle.model.specs.Poll.{pollQuestions, polledQueue, soonestDue, nextDue, d
 use Rattle.lemmas.proofs.Bounds.{Limits}
 use Rattle.lemmas.proofs.Questions.{limits-from, first-yes, other-yes, yes-cons, no-cons, shelf-passed}
 use Rattle.lemmas.proofs.Queue.{opening-queue, queue-room, depth-small}
-use Rattle.polling.specs.Answers.{Small}
+use Rattle.polling.specs.Answers.{SmallNext}
 use Rattle.polling.proofs.Fronts.{next-none}
 
 module _ (s : Setup) (own v : ℕ) (shelf : List ℕ) where
@@ -87,11 +87,11 @@ polled-count s v shelf e count-is = count-is ∙ rw e refl
 
 -- ---- the answer's numbers are below 65,536
 
-next-small : (s : Setup) (v : ℕ) (queue : List Frame) → Limits s → Small (nextDue s v queue)
+next-small : (s : Setup) (v : ℕ) (queue : List Frame) → Limits s → SmallNext (nextDue s v queue)
 unfolding nextDue clockAt
 next-small s v queue limits = go (soonestDue s v queue)
   where
-    go : (o : Option ℕ) → Small (Option·map (clockAt s v) o)
+    go : (o : Option ℕ) → SmallNext (Option·map (clockAt s v) o)
     go none = tt
     go (some d) =
         let some-clock : 0 < s .modulus = omega (arith, limits .modulus-least) in
@@ -108,11 +108,11 @@ number-small s v d shelf limits below =
       depth-small s limits,
     )
 
-pub poll-small : (s : Setup) (own v d : ℕ) (shelf : List ℕ) → Small (poll s own v d shelf .next) × (poll s own v d shelf .within < 65536)
+pub poll-small : (s : Setup) (own v d : ℕ) (shelf : List ℕ) → SmallNext (poll s own v d shelf .next) × (poll s own v d shelf .within < 65536)
 unfolding poll
 poll-small s own v d shelf = go (firstNo (pollQuestions s own v shelf)) refl
   where
-    go : (k : ℕ) → firstNo (pollQuestions s own v shelf) ≡ k → Small (pollBy k s v d (polledQueue s v shelf) .next) × (pollBy k s v d (polledQueue s v shelf) .within < 65536)
+    go : (k : ℕ) → firstNo (pollQuestions s own v shelf) ≡ k → SmallNext (pollBy k s v d (polledQueue s v shelf) .next) × (pollBy k s v d (polledQueue s v shelf) .within < 65536)
     go zero e =
         let p = all-passed s own v shelf e in
         let limits = limits-from s (p .limits) in

@@ -14,6 +14,6 @@ abbrev pub pollAnswer : Polled → PollAnswer
 pollAnswer a = record { number = a .number; next = nextOf (a .next); within = a .within }
 
 -- the next clock, if there is one, fits in two bytes
-abbrev pub Small : Option ℕ → Type 0
-Small none = Unit {0}
-Small (some clock) = clock < 65536
+abbrev pub SmallNext : Option ℕ → Type 0
+SmallNext none = Unit {0}
+SmallNext (some clock) = clock < 65536
