@@ -668,7 +668,6 @@ smallest-first x (y ∷ l) e =
     let least = smallest-least x y l (leb-true x y (and-left (leb x y) _ e)) (and-right (leb x y) _ e) in
     ap some (omega (arith, least))
 
-
 module _ {A : Type 0} where
   pub largest-map-mem : (f : A → ℕ) {l : List A} {x : A} → List·Memᴰ x l → f x ≤ largest (map f l)
   largest-map-mem f m = largest-mem (mem-map f m)
