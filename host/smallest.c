@@ -1,5 +1,5 @@
-/* The smallest host: two stations that hear each other, and themselves, without loss. Each board shows both tickets in one order;
- * of station 0 it also prints what became of each frame. */
+/* The smallest host: two stations that hear each other, and themselves, without loss. Each board shows both tickets in one order,
+ * and what put the second behind the first; of station 0 it also prints what became of each frame. */
 #include <stdio.h>
 #include <stdlib.h>
 #include <string.h>
@@ -32,14 +32,22 @@ static void hear(struct station *s, const uint8_t *frame, size_t len) {
     s->bundle_len += len;
 }
 
-static void show(unsigned board, const uint8_t *frames, unsigned count) {
-    for (; count > 0; count--) {
+/* Shows a hand-out of the tick at the clock, each frame with what put it behind the one before it. */
+static void show(unsigned board, unsigned clock, const uint8_t *frames, unsigned count) {
+    static const char *const reasons[] = {"-", "sum", "count", "station", "r"};
+    const uint8_t *last = frames; /* the first is compared with itself, and nothing decides */
+    for (size_t last_len = 0; count > 0; count--) {
         size_t len = 7 + 2 * EPSILON + frames[6 + 2 * EPSILON];
         uint8_t stamp[YARNGRAVEL_TABLES];
         uint64_t read = yarngravel_read(N, EPSILON, DELTA, B, board, frames, len, stamp);
         expect_accepted("reader", read);
-        printf("board %u: station %u says %.*s\n", board, yarngravel_station(read), (int)yarngravel_ticket_len(read),
-               (const char *)frames + yarngravel_ticket_at(read));
+        if (last == frames) last_len = len;
+        uint64_t compared = yarngravel_compare(N, EPSILON, DELTA, B, board, clock % B, last, last_len, frames, len);
+        expect_accepted("comparison", compared);
+        printf("board %u: station %u says %.*s (%s)\n", board, yarngravel_station(read), (int)yarngravel_ticket_len(read),
+               (const char *)frames + yarngravel_ticket_at(read), reasons[yarngravel_reason(compared)]);
+        last = frames;
+        last_len = len;
         frames += len;
     }
 }
@@ -70,7 +78,7 @@ int main(void) {
                                 YARNGRAVEL_VERDICTS, handout, SHELF);
             expect_accepted("tick", answer);
             if (own == 0) tell(own, s, verdicts);
-            show(own, handout + 2, yarngravel_gave(answer));
+            show(own, clock, handout + 2, yarngravel_gave(answer));
             s->bundle[0] = 0;
             s->bundle_len = 1;
             for (unsigned to = 0; to < N && yarngravel_sent(answer) > 0; to++) {

@@ -49,7 +49,7 @@ extern "C" {
 #define YARNGRAVEL_BAD_BUNDLE 5u   /* the bundle does not end exactly after its last entry */
 #define YARNGRAVEL_BAD_BUFFERS 6u  /* the outgoing, verdict, hand-out or text buffer is too short; of the words also: a verdict
                                       that no judgement gives */
-/* Of a frame, in the verdict buffer (and 10 to 12 from the reader, 11 and 12 from the writer): */
+/* Of a frame, in the verdict buffer (and 10 to 12 from the reader and the comparison, 11 and 12 from the writer): */
 #define YARNGRAVEL_BAD_FORM 10u    /* a section's count is wrong, or something is left over */
 #define YARNGRAVEL_BAD_RANGE 11u   /* the station is not below n, or r not below B */
 #define YARNGRAVEL_BAD_STAMP 12u   /* the stamp is not sound */
@@ -82,6 +82,18 @@ static inline unsigned yarngravel_written(uint64_t answer) { return (unsigned)(a
 
 /* The length of the text of the words. */
 static inline unsigned yarngravel_text_len(uint64_t answer) { return (unsigned)(answer >> 8); }
+
+/* The fields of a comparison's answer: 0 the first frame is first, 1 the second, 2 they are alike. */
+static inline unsigned yarngravel_order(uint64_t answer) { return (unsigned)(answer >> 8 & 0xffu); }
+/* what decided */
+static inline unsigned yarngravel_reason(uint64_t answer) { return (unsigned)(answer >> 16 & 0xffu); }
+#define YARNGRAVEL_BY_NOTHING 0u   /* they are alike */
+#define YARNGRAVEL_BY_SUM 1u       /* r + c */
+#define YARNGRAVEL_BY_COUNT 2u     /* the count at a clock */
+#define YARNGRAVEL_BY_STATION 3u
+#define YARNGRAVEL_BY_R 4u
+/* that clock, modulo B; 0 where no count decided */
+static inline unsigned yarngravel_count_clock(uint64_t answer) { return (unsigned)(answer >> 32 & 0xffffu); }
 
 /* One tick at the clock (modulo B): judges the frames of the bundle, sends if asked to, and hands out what is due. A frame is due
  * at its r + c + delta + epsilon; it is handed out in the station's first tick at or past that clock.
@@ -142,6 +154,14 @@ uint64_t yarngravel_write(uint32_t n, uint32_t epsilon, uint32_t delta, uint32_t
 uint64_t yarngravel_words(uint32_t n, uint32_t epsilon, uint32_t delta, uint32_t modulus, uint32_t own,
                           const uint8_t *bundle, size_t bundle_len, const uint8_t *verdicts, size_t verdicts_len,
                           uint8_t *text, size_t text_len);
+
+/* Says which of two frames comes first in the order of two stamps, and what decided: the first of sum, count at the sum's clock, at the
+ * clock before and so on (epsilon counts), station, r in which they differ. Each r is read near the clock, as a tick at it does; in
+ * a hand-out that is the tick's own clock. The tickets are not looked at.
+ * Refusals: 1, 2, then 10 to 12 of the first frame, then of the second.
+ */
+uint64_t yarngravel_compare(uint32_t n, uint32_t epsilon, uint32_t delta, uint32_t modulus, uint32_t own, uint32_t clock,
+                            const uint8_t *first, size_t first_len, const uint8_t *second, size_t second_len);
 
 #ifdef __cplusplus
 }

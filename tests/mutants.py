@@ -20,7 +20,9 @@ from edits import ROOT, Edit, controls_of, first_fact, run, summary, unknown_mes
 VIOLATIONS = ROOT / "tests" / "violations"
 # what a violation states; without an edit it has no proof, since the demands are proved
 STATED = re.compile(r"^violated : Demand(3|2Any|2Fresh|2Ones|2Codec) → ⊥$", re.M)
-SAMPLES, UNEDITED = "model/proofs/Samples.antt", "violations/proofs/Unedited.antt"
+UNEDITED = "violations/proofs/Unedited.antt"
+# what is computed from the definitions of model, and may come to something else under a mutant
+SAMPLES = [f"model/proofs/{path.name}" for path in sorted((ROOT / "crates" / "model" / "proofs").glob("*.antt")) if path.stem not in ("Lib", "Computing")]
 
 
 class Copy:
@@ -112,8 +114,8 @@ def main():
         sys.exit(f"mutants: violations that refute no demand: {strange}; without an edit: {sorted(alone)}")
     with ThreadPoolExecutor(2) as pool:
         theorems, tests = pool.map(lambda parts: Copy(*parts), (
-            (("laws", "model", "lemmas", "theory"), (SAMPLES,)),
-            (("laws", "model", "theory", "violations"), (SAMPLES, "theory/proofs", UNEDITED)),
+            (("laws", "model", "lemmas", "theory"), SAMPLES),
+            (("laws", "model", "theory", "violations"), (*SAMPLES, "theory/proofs", UNEDITED)),
         ))
         answers = [pool.submit(try_definitions, theorems, edit) for edit in mutants + controls]
         answers += [pool.submit(try_tests, tests, "model", edit, "Unedited") for edit in controls]

@@ -1,6 +1,7 @@
 //! The proved static library behind safe functions, and how its answers are packed.
 
-use crate::Answer;
+use crate::{Answer, Reason};
+use std::cmp::Ordering;
 
 /// Where a number lies in an answer: its lowest bit and how many bits it has.
 pub struct Field {
@@ -38,6 +39,10 @@ const READ_PAYLOAD_LEN: Field = Field::new(32, 16);
 const WRITE_LEN: Field = Field::new(8, 16);
 
 const WORDS_LEN: Field = Field::new(8, 56);
+
+const COMPARE_ORDER: Field = Field::new(8, 8);
+const COMPARE_REASON: Field = Field::new(16, 8);
+const COMPARE_CLOCK: Field = Field::new(32, 16);
 
 /// The number in any answer.
 pub fn number(word: u64) -> u8 {
@@ -79,7 +84,25 @@ pub fn pack_words(length: u64) -> u64 {
     WORDS_LEN.put(length)
 }
 
-/// The answer of a refused reader or writer, and of refused words.
+/// The answer of the comparison: 0 the first is first, 1 the second, 2 they are alike; the reason's
+/// number, and the count's clock.
+pub fn pack_compare(order: Ordering, reason: Reason) -> u64 {
+    let first = match order {
+        Ordering::Less => 0,
+        Ordering::Greater => 1,
+        Ordering::Equal => 2,
+    };
+    COMPARE_ORDER.put(first)
+        | COMPARE_REASON.put(reason.number().into())
+        | COMPARE_CLOCK.put(reason.clock() as u64)
+}
+
+/// Which is first and the reason's number, from a packed comparison.
+pub fn unpack_compare(word: u64) -> [u8; 2] {
+    [COMPARE_ORDER.get(word) as u8, COMPARE_REASON.get(word) as u8]
+}
+
+/// The answer of a refused reader or writer, of refused words and of a refused comparison.
 pub fn pack_refusal(number: u8) -> u64 {
     NUMBER.put(number.into())
 }
@@ -88,7 +111,7 @@ pub fn pack_refusal(number: u8) -> u64 {
 pub mod library {
     //! The calls themselves.
 
-    use crate::generate::{ReadCase, TickCase, WordsCase, WriteCase};
+    use crate::generate::{CompareCase, ReadCase, TickCase, WordsCase, WriteCase};
     use crate::{ClockState, Setup};
 
     #[link(name = "abi", kind = "static")]
@@ -153,6 +176,19 @@ pub mod library {
             verdicts_len: usize,
             text: *mut u8,
             text_len: usize,
+        ) -> u64;
+
+        fn yarngravel_compare(
+            n: u32,
+            epsilon: u32,
+            delta: u32,
+            modulus: u32,
+            own: u32,
+            clock: u32,
+            first: *const u8,
+            first_len: usize,
+            second: *const u8,
+            second_len: usize,
         ) -> u64;
     }
 
@@ -244,6 +280,26 @@ pub mod library {
                 case.verdicts.len(),
                 case.text.as_mut_ptr(),
                 case.text.len(),
+            )
+        }
+    }
+
+    /// The comparison.
+    pub fn compare(case: &mut CompareCase) -> u64 {
+        let [n, epsilon, delta, modulus, own] = numbers(&case.setup);
+        // SAFETY: as in `tick`.
+        unsafe {
+            yarngravel_compare(
+                n,
+                epsilon,
+                delta,
+                modulus,
+                own,
+                narrow(case.clock),
+                case.first.as_ptr(),
+                case.first.len(),
+                case.second.as_ptr(),
+                case.second.len(),
             )
         }
     }

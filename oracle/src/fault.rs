@@ -1,4 +1,4 @@
-//! Eighteen small faults that can be planted in the oracle, to show that a comparison finds them.
+//! Twenty-three small faults that can be planted in the oracle, to show that a comparison finds them.
 //! Without the feature `plant` nothing of this is left in the code.
 //!
 //!  1. the writer alone refuses a buffer of exactly the frame's length
@@ -19,9 +19,14 @@
 //! 16. frames due before v are handed out behind those due at v
 //! 17. where the tables are replaced, a shelved frame due one before v passes as sound
 //! 18. a queue of one frame more than its count limit passes as sound
+//! 19. the clock of a count that decided is one too late
+//! 20. that clock is not reduced modulo B
+//! 21. where the station decided r is said to have, and the other way round
+//! 22. a give line has the reason against the first line of its hand-out
+//! 23. where a count decided the sum is said to have
 
 /// How many faults there are.
-pub const COUNT: u8 = 18;
+pub const COUNT: u8 = 23;
 
 #[cfg(feature = "plant")]
 mod switch {

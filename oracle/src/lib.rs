@@ -10,6 +10,7 @@ pub mod frame;
 pub mod generate;
 pub mod holdback;
 pub mod node;
+pub mod reason;
 pub mod replay;
 pub mod setup;
 pub mod streaming;
@@ -19,6 +20,7 @@ pub mod words;
 
 pub use frame::{read, write, Frame};
 pub use node::{tick, Answer, Buffers, Call};
+pub use reason::{compare, Reason};
 pub use replay::replay;
 pub use setup::Setup;
 pub use timestamp::{ClockState, Timestamp};

@@ -1,7 +1,9 @@
 //! The replay program: a trace of one node's ticks in, its lines out.
 
+use crate::holdback::Entry;
 use crate::timestamp::fresh;
-use crate::{ask, batch, fault, tick, Answer, Buffers, Call, ClockState, Frame, Setup};
+use crate::{ask, batch, fault, reason, tick};
+use crate::{Answer, Buffers, Call, ClockState, Frame, Reason, Setup};
 use std::fmt::Write as _;
 use std::io::{self, Read, Write};
 
@@ -162,17 +164,25 @@ impl Node {
         Ok(self.lines(given.clock, &answer))
     }
 
-    /// The tick line and a give line for each delivered frame.
+    /// The tick line and a give line for each delivered frame, with the reason against the one
+    /// before it.
     fn lines(&self, clock: i64, answer: &Answer) -> String {
         let Answer { repair, taken, delivered, outgoing, .. } = *answer;
         let (c, sent) = (self.state[2], u8::from(outgoing > 0));
         let mut text =
             format!("tick {clock} mend {repair} c {c} took {taken} sent {sent} gave {delivered}\n");
         let mut rest = &self.delivery[2..];
+        let mut last: Option<Entry> = None;
         for _ in 0..delivered {
             let (frame, after) = Frame::split(&self.setup, rest).expect("a delivered frame");
             let Frame { node, timestamp, payload, .. } = frame;
-            writeln!(text, "give {node} {} {}", timestamp.r, hex(payload)).expect("text");
+            let entry = Entry::near(&self.setup, clock, frame);
+            let reason = last.map_or(Reason::Nothing, |last| {
+                reason::decide(&self.setup, clock, &last, &entry).1
+            });
+            let (r, payload) = (timestamp.r, hex(payload));
+            writeln!(text, "give {node} {r} {payload} {reason}").expect("text");
+            last = if fault::planted(22) { last.or(Some(entry)) } else { Some(entry) };
             rest = after;
         }
         text

@@ -9,6 +9,7 @@ use Rattle.model.specs.Setup.{Setup, widest}
 use Rattle.model.specs.Timestamp.{Timestamp}
 use Rattle.model.specs.Frame.{twoBytes, twoAt, payloadCountAt}
 use Rattle.model.specs.Codec.{ReadAnswer, WriteAnswer}
+use Rattle.model.specs.Comparison.{CompareAnswer}
 use Rattle.model.specs.Tick.{Input, Answer, Output}
 use Rattle.words.specs.Words.{WordsAnswer}
 
@@ -85,3 +86,7 @@ writeWord a = a .number + 256 * a .size
 -- the number in bits 0 to 7, the text's length from bit 8 on
 unfoldable pub wordsWord : WordsAnswer → ℕ
 wordsWord a = a .number + 256 * a .size
+
+-- the number in bits 0 to 7, which frame is first in 8 to 15, what decided in 16 to 23, the count's clock in 32 to 47
+unfoldable pub compareWord : CompareAnswer → ℕ
+compareWord a = a .number + 256 * (a .order + 256 * (a .reason + 65536 * a .clock))

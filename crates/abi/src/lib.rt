@@ -1,9 +1,11 @@
-// The boundary to C: the tick, the reader, the writer and the words over numbers and byte slices. A slice is a pointer and a length;
+// The boundary to C: the tick, the reader, the writer, the words and the comparison over numbers and byte slices. A slice is a pointer and a length;
 // the tables are a pointer to 35 bytes (r low, r high, c, 32 counts); the answer is one number. Any arguments get an answer.
 mod packing;
 
+use comparing::compare_call;
 use node::tick;
 use packing::pack_answer;
+use packing::pack_compared;
 use packing::pack_reading;
 use packing::pack_written;
 use packing::put_tables;
@@ -13,8 +15,9 @@ use words::write_words;
 ghost use mathlib.Core.Path.{_≡_};
 ghost use Rattle.model.specs.Codec as codec;
 ghost use Rattle.model.specs.Tick as model;
+ghost use Rattle.model.specs.Comparison.{compareCall};
 ghost use Rattle.words.specs.Words.{words};
-ghost use Rattle.abi.specs.Packing.{setupBy, inputBy, tablesIn, returned, packed, readWord, readTables, writeWord, wordsWord};
+ghost use Rattle.abi.specs.Packing.{setupBy, inputBy, tablesIn, returned, packed, readWord, readTables, writeWord, wordsWord, compareWord};
 
 // One tick. The number in bits 0 to 7, 01's mend in 8 to 15, frames taken in 16 to 23, the outgoing length in 24 to 31,
 // frames handed out in 32 to 47. A refusal is the number alone, and changes nothing.
@@ -154,4 +157,29 @@ pub extern "C" fn yarngravel_words(
     };
     let told = write_words(setup, own, batch, verdicts, text);
     pack_written(told.number, told.size)
+}
+
+// 02, 2.4: the comparison. The number in bits 0 to 7, which frame is first in 8 to 15 (0 the first, 1 the second, 2 they are alike),
+// what decided in 16 to 23 (0 nothing, 1 sum, 2 count, 3 station, 4 r), the count's clock in 32 to 47. A refusal is the number alone.
+#[no_mangle]
+pub extern "C" fn yarngravel_compare(
+    n: u32,
+    epsilon: u32,
+    delta: u32,
+    modulus: u32,
+    own: u32,
+    clock: u32,
+    first: &[u8],
+    second: &[u8],
+) -> u64
+    ensures { λ r. ⌜ r ≡ compareWord (compareCall (setupBy n epsilon delta modulus) own clock (now (first .entry)) (now (second .entry))) ⌝ }
+{
+    let setup = Setup {
+        n,
+        epsilon,
+        delta,
+        modulus,
+    };
+    let compared = compare_call(setup, own, clock as usize, first, second);
+    pack_compared(compared)
 }

@@ -1,4 +1,5 @@
 // Tables in 35 bytes, and answers in one number.
+use comparing::Compared;
 use node::Answer;
 use timestamp::Timestamp;
 use timestamp::counts_of;
@@ -6,8 +7,9 @@ ghost use mathlib.Core.Path.{_≡_};
 ghost use Prim.Native.Nat.{_+_, _*_, _<_};
 ghost use lib.ListN.{length};
 ghost use Rattle.timestamp.specs.Views.{stampOf};
+ghost use Rattle.comparing.specs.Answers.{compareAnswer};
 ghost use Rattle.node.specs.Answers.{answerOf};
-ghost use Rattle.abi.specs.Packing.{tablesLength, tablesIn, tablesBytes, answerWord};
+ghost use Rattle.abi.specs.Packing.{tablesLength, tablesIn, tablesBytes, answerWord, compareWord};
 
 // The tables that stand in the bytes: r in two, the low one first, c, and 32 counts. Written back they are those bytes.
 pub fn tables_of(s: &[u8]) -> Timestamp
@@ -58,4 +60,12 @@ pub fn pack_written(number: u8, size: usize) -> u64
     ensures { λ r. ⌜ r ≡ number + 256 * size ⌝ }
 {
     number as u64 + 256 * (size as u64)
+}
+
+// A comparison as one number.
+pub fn pack_compared(a: Compared) -> u64
+    requires { ⌜ a .clock < 65536 ⌝ }
+    ensures { λ r. ⌜ r ≡ compareWord (compareAnswer a) ⌝ }
+{
+    a.number as u64 + 256 * (a.order as u64 + 256 * (a.reason as u64 + 65536 * (a.clock as u64)))
 }

@@ -1,6 +1,6 @@
 -- The tests of one frame, and of two, as the code makes them.
 -- Assumes nothing.
-use Prim.Native.Nat.{ℕ, _+_, _-_, _≤_, _<_, _^_, Ordering, Ordering·lt, Ordering·eq, Ordering·gt}
+use Prim.Native.Nat.{ℕ, _+_, _-_, _≤_, _<_, _^_}
 use native.Mathlib.Omega.{arith}
 use mathlib.Core.Path.{_≡_, refl, sym, ap, ap₂, _∙_}
 use mathlib.Core.Bool.{Bool, true, false}
@@ -16,13 +16,17 @@ use Rattle.model.specs.Timestamp.{sum}
 use Rattle.model.specs.Frame.{Frame, decode}
 use Rattle.model.specs.Question.{firstNo, frameQuestions}
 use Rattle.model.specs.Order.{readingOf, countsDown, keyBy, key, keyNear, compareFrames, before, due, dueNear}
+use Rattle.model.specs.Comparison.{compareKeys}
+use Rattle.model.specs.Comparison as model
 use Rattle.model.specs.Holdback.{passes, notEarly, notOverdue}
 use Rattle.model.specs.Tick.{dueNow}
-use Rattle.timestamp.specs.declared.ordering.Order.{Order}
+use Rattle.timestamp.specs.declared.ordering.Comparison.{Comparison}
+use Rattle.timestamp.specs.declared.ordering.Comparison.the-variants.{First, Second, Alike}
 use Rattle.timestamp.specs.declared.ordering.Rank.{Rank}
-use Rattle.timestamp.specs.Ranks.{orderOf, rankedFrame, Ranked}
+use Rattle.timestamp.specs.Ranks.{comparisonOf, rankedFrame, Ranked}
 use Rattle.lemmas.proofs.Bounds.{Limits}
 use Rattle.lemmas.proofs.Queue.{reading-high}
+use Rattle.lemmas.proofs.Comparing.{keys-order, length-key}
 use Rattle.timestamp.proofs.Ordered.{Tags}
 use Rattle.lemmas.proofs.RoundTrip.{formed-from, decode-wide}
 use Rattle.holdback.specs.Queue.{rankAt, rankOf, rankBefore}
@@ -97,33 +101,37 @@ places-placed s v f rank e = ap (placesTo s) e
 pub rank-read : (s : Setup) (v : ℕ) (f : Frame) (reading : ℕ) {rank : Rank} → rank ≡ rankAt reading f → reading ≡ readingOf s v f → rank ≡ rankOf s v f
 rank-read s v f reading e r = e ∙ ap (λ (x : ℕ). rankAt x f) r
 
-key-ranked : (s : Setup) (v : ℕ) (f : Frame) (rank : Rank) (kn : List ℕ) → rank ≡ rankOf s v f → kn ≡ f .stamp .kn
+pub key-ranked : (s : Setup) (v : ℕ) (f : Frame) (rank : Rank) (kn : List ℕ) → rank ≡ rankOf s v f → kn ≡ f .stamp .kn
     → keyBy (s .epsilon) (rank .reading) (rankedFrame rank kn) ≡ keyNear s v f
 unfolding keyNear key keyBy countsDown
 key-ranked s v f rank kn er ek =
     ap₂ (λ (q : Rank) (l : List ℕ). keyBy (s .epsilon) (q .reading) (rankedFrame q l)) er ek
 
-less-first : (tags : Tags) (o : Order) (x : Ordering) → o ≡ orderOf x → tags .tag o ≡ 0 → true ≡ isLess x
-less-first tags o Ordering·lt e t = refl
-less-first tags o Ordering·eq e t = let z : _≡_ {A = ℕ} 0 1 = sym t ∙ ap (tags .tag) e ∙ tags .at-same in absurd (omega arith)
-less-first tags o Ordering·gt e t = let z : _≡_ {A = ℕ} 0 2 = sym t ∙ ap (tags .tag) e ∙ tags .at-after in absurd (omega arith)
+less-first : (tags : Tags) (o : Comparison) → tags .tag o ≡ 0 → true ≡ isLess (comparisonOf o .order)
+less-first tags (First reason) t = refl
+less-first tags (Second reason) t = absurd (omega (arith, tags .at-second reason))
+less-first tags Alike t = absurd (omega (arith, tags .at-alike))
 
-less-not : (tags : Tags) (o : Order) (x : Ordering) → o ≡ orderOf x → (tags .tag o ≡ 1) ⊎ (tags .tag o ≡ 2) → false ≡ isLess x
-less-not tags o Ordering·lt e t =
-    let z : tags .tag o ≡ 0 = ap (tags .tag) e ∙ tags .at-first in
-    absurd (elim t [ inl a ↦ omega arith | inr a ↦ omega arith ])
-less-not tags o Ordering·eq e t = refl
-less-not tags o Ordering·gt e t = refl
+less-not : (tags : Tags) (o : Comparison) → (tags .tag o ≡ 1) ⊎ (tags .tag o ≡ 2) → false ≡ isLess (comparisonOf o .order)
+less-not tags (First reason) (inl t) = absurd (omega (arith, tags .at-first reason))
+less-not tags (First reason) (inr t) = absurd (omega (arith, tags .at-first reason))
+less-not tags (Second reason) t = refl
+less-not tags Alike t = refl
 
-module _ (tags : Tags) (epsilon : ℕ) (f g : Rank) (kf kg : List ℕ) (o : Order)
-    (e : o ≡ orderOf (lexCompare (keyBy epsilon (f .reading) (rankedFrame f kf)) (keyBy epsilon (g .reading) (rankedFrame g kg)))) where
+module _ (tags : Tags) (epsilon : ℕ) (f g : Rank) (kf kg : List ℕ) (o : Comparison)
+    (e : comparisonOf o ≡ compareKeys epsilon (keyBy epsilon (f .reading) (rankedFrame f kf)) (keyBy epsilon (g .reading) (rankedFrame g kg))) where
+  same-order : comparisonOf o .order ≡ lexCompare (keyBy epsilon (f .reading) (rankedFrame f kf)) (keyBy epsilon (g .reading) (rankedFrame g kg))
+  same-order =
+      ap (λ (c : model.Comparison). c .order) e
+      ∙ keys-order epsilon _ _ (length-key epsilon (f .reading) (g .reading) (rankedFrame f kf) (rankedFrame g kg))
+
   pub is-before : tags .tag o ≡ 0 → true ≡ rankBefore epsilon f kf g kg
   unfolding rankBefore
-  is-before t = less-first tags o (lexCompare (keyBy epsilon (f .reading) (rankedFrame f kf)) (keyBy epsilon (g .reading) (rankedFrame g kg))) e t
+  is-before t = less-first tags o t ∙ ap isLess same-order
 
   pub not-before : (tags .tag o ≡ 1) ⊎ (tags .tag o ≡ 2) → false ≡ rankBefore epsilon f kf g kg
   unfolding rankBefore
-  not-before t = less-not tags o (lexCompare (keyBy epsilon (f .reading) (rankedFrame f kf)) (keyBy epsilon (g .reading) (rankedFrame g kg))) e t
+  not-before t = less-not tags o t ∙ ap isLess same-order
 
 pub ranked : (s : Setup) (v : ℕ) (bytes kn : List ℕ) (rank : Rank) → Limits s → passes s bytes ≡ true → kn ≡ decode (s .epsilon) bytes .stamp .kn → rank ≡ rankOf s v (decode (s .epsilon) bytes)
     → Ranked (s .epsilon) rank kn

@@ -1,7 +1,7 @@
 // The order of two frames.
 use crate::timing::reading_of;
 use setup::Setup;
-use timestamp::Order;
+use timestamp::Comparison;
 use timestamp::Rank;
 use timestamp::compare_ranked;
 ghost use mathlib.Core.Path.{_≡_};
@@ -56,8 +56,8 @@ pub fn comes_before(epsilon: usize, f: Rank, kf: &[u8], g: Rank, kg: &[u8]) -> b
     requires { ⌜ Ranked epsilon g (now kg) ⌝ }
     ensures { λ b. ⌜ b ≡ rankBefore epsilon f (now (kf .entry)) g (now (kg .entry)) ⌝ }
 {
-    let order = compare_ranked(epsilon, f, kf, g, kg);
-    let Order::First = order else {
+    let comparison = compare_ranked(epsilon, f, kf, g, kg);
+    let Comparison::First(_) = comparison else {
         return false;
     };
     true

@@ -5,3 +5,4 @@ pub mod Counts
 pub mod RoundTrip
 pub mod Queue
 pub mod OneTick
+pub mod Comparing

@@ -327,18 +327,21 @@ unfolding deliveredOf earlyOf
 delivered-sorted i a =
     due-sorted (i .setup) (i .clock) (leastDue (i .setup) (i .clock) (i .tables)) (openedQueue i) (heardOf i .queue) (opened-ok i a) (hearing-end i a)
 
--- n(3ε − 2) frames at most: a hand-out always has room
-pub delivered-few : (i : Input) → Accepted i → length (deliveredOf i) ≤ depth (i .setup .n) (i .setup .epsilon) (i .setup .delta)
+-- n(3ε − 2) frames at most
+pub delivered-fewest : (i : Input) → Accepted i → length (deliveredOf i) ≤ i .setup .n * (2 * i .setup .epsilon - 2) + i .setup .n * i .setup .epsilon
 unfolding deliveredOf earlyOf
-delivered-few i a =
+delivered-fewest i a =
     omega (
       arith,
       length-append (select (dueBefore (i .setup) (i .clock)) (openedQueue i)) (select (dueNow (i .setup) (i .clock)) (heardOf i .queue)),
       early-few (i .setup) (i .clock) (leastDue (i .setup) (i .clock) (i .tables)) (openedQueue i) (a .limits) (a .clock-below)
           (least-bounds (i .setup) (i .clock) (i .tables) (a .limits) .1) (opened-ok i a),
       due-few (i .setup) (i .clock) (heardOf i .queue) (a .limits) (a .clock-below) (hearing-end i a),
-      both-few (i .setup),
     )
+
+-- so a hand-out always has room
+pub delivered-few : (i : Input) → Accepted i → length (deliveredOf i) ≤ depth (i .setup .n) (i .setup .epsilon) (i .setup .delta)
+delivered-few i a = omega (arith, delivered-fewest i a, both-few (i .setup))
 
 pub delivered-most : (i : Input) → Accepted i → length (deliveredOf i) < 65536
 delivered-most i a = omega (arith, delivered-few i a, depth-small (i .setup) (a .limits))

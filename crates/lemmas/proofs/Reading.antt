@@ -52,6 +52,14 @@ near-high epsilon B v r e b = go (near-reads epsilon B v r e (omega arith)) (ahe
     go (early h q) m = omega arith
     go (late h q) m = omega arith
 
+-- and none below epsilon
+pub near-low : (epsilon B v r : ℕ) → 1 ≤ epsilon → epsilon < B → epsilon ≤ near epsilon B v r
+near-low epsilon B v r e b = go (near-reads epsilon B v r e (omega arith))
+  where
+    go : Reads epsilon B (ahead B v r) (near epsilon B v r) → epsilon ≤ near epsilon B v r
+    go (early h q) = omega arith
+    go (late h q) = omega arith
+
 -- the reading of a true clock R near a true clock v, where R is less than ε ahead and at most B − ε behind
 pub near-true : (epsilon B v R : ℕ) → 1 ≤ epsilon → epsilon < B → R < v + epsilon → v + epsilon ≤ R + B → near epsilon B (v % B) (R % B) + v ≡ B + R
 unfolding ahead

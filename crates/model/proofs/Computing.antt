@@ -6,6 +6,7 @@ use Rattle.model.specs.Setup.{leastModulus, inLimits, isMember, width, l
 use Rattle.model.specs.Timestamp.{countAt, countsFrom, sum, atMost, soundTimestamp, ahead, clockStep, soundTables, trimmed, widened, near, fresh, replaced, shift, step, absorb, countOwn}
 use Rattle.model.specs.Frame.{twoBytes, twoAt, section, encode, countsOf, payloadCountAt, frameEnd, wellFormed, decode}
 use Rattle.model.specs.Order.{readingOf, countsDown, keyBy, key, keyNear, compareFrames, before, decidedAt, due, dueNear}
+use Rattle.model.specs.Comparison.{reasonAt, compareKeys, countClock, compared, compareQuestions, compareCall}
 use Rattle.model.specs.Batch.{endsAfter, exactBatch, entriesOf, batchEntries}
 use Rattle.model.specs.Question.{firstNo, askSetup, askForm, askRange, askStamp, frameQuestions}
 use Rattle.model.specs.Holdback.{cutFrames, heldBytes, held, sameOrigin, passes, notEarly, notOverdue, soundHoldback, encodeFrames, encodeHoldback}
@@ -14,5 +15,5 @@ use Rattle.model.specs.Judge.{askLate, askEarly, askCounts, askRepeat, a
 use Rattle.model.specs.Tick.{roomy, callQuestions, refusal, tablesSound, stepOf, leastDue, shelfSound, repairOf, openingStamp, openingQueue, openedQueue, dueBefore, earlyOf, heardOf, heardStamp, newStamp, sentBytes, dueNow, deliveredOf, keptOf, takenCount, acceptance, tick}
 
 unfoldable pub computing : Unit {0}
-unfolding within tab every any select leading insertAt chained apart overlay joined placedAt padded lexCompare firstDifference leastModulus inLimits isMember width longestFrame depth holdbackLength countAt countsFrom sum atMost soundTimestamp ahead clockStep soundTables trimmed widened near fresh replaced shift step absorb countOwn twoBytes twoAt section encode countsOf payloadCountAt frameEnd wellFormed decode readingOf countsDown keyBy key keyNear compareFrames before decidedAt due dueNear endsAfter exactBatch entriesOf batchEntries firstNo askSetup askForm askRange askStamp frameQuestions cutFrames heldBytes held sameOrigin passes notEarly notOverdue soundHoldback encodeFrames encodeHoldback askPayload frameOf askLate askEarly askCounts askRepeat askRoom placeQuestions judgeQuestions placeFor judge hearOne hear absorbAll roomy callQuestions refusal tablesSound stepOf leastDue shelfSound repairOf openingStamp openingQueue openedQueue dueBefore earlyOf heardOf heardStamp newStamp sentBytes dueNow deliveredOf keptOf takenCount acceptance tick
+unfolding within tab every any select leading insertAt chained apart overlay joined placedAt padded lexCompare firstDifference leastModulus inLimits isMember width longestFrame depth holdbackLength countAt countsFrom sum atMost soundTimestamp ahead clockStep soundTables trimmed widened near fresh replaced shift step absorb countOwn twoBytes twoAt section encode countsOf payloadCountAt frameEnd wellFormed decode readingOf countsDown keyBy key keyNear compareFrames before decidedAt due dueNear reasonAt compareKeys countClock compared compareQuestions compareCall endsAfter exactBatch entriesOf batchEntries firstNo askSetup askForm askRange askStamp frameQuestions cutFrames heldBytes held sameOrigin passes notEarly notOverdue soundHoldback encodeFrames encodeHoldback askPayload frameOf askLate askEarly askCounts askRepeat askRoom placeQuestions judgeQuestions placeFor judge hearOne hear absorbAll roomy callQuestions refusal tablesSound stepOf leastDue shelfSound repairOf openingStamp openingQueue openedQueue dueBefore earlyOf heardOf heardStamp newStamp sentBytes dueNow deliveredOf keptOf takenCount acceptance tick
 computing = tt

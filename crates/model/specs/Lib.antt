@@ -2,6 +2,7 @@ pub mod Setup
 pub mod Timestamp
 pub mod Frame
 pub mod Order
+pub mod Comparison
 pub mod Batch
 pub mod Holdback
 pub mod Question

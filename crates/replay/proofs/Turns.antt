@@ -10,13 +10,17 @@ use native.Mathlib.Nat.{zero-add}
 use borrow.Author.Tests.{le-leb}
 use Rattle.laws.specs.Lists.{overlay}
 use Rattle.splice.specs.Bytes.{pasted}
+use Rattle.laws.proofs.Numbers.{and-left}
+use Rattle.model.specs.Setup.{inLimits, isMember}
 use Rattle.model.specs.Timestamp.{Timestamp}
 use Rattle.model.specs.Tick.{Input, Output, holdbackSize, tick}
+use Rattle.lemmas.proofs.OneTick.{Accepted, accepted-call}
+use Rattle.trace.specs.Views.{Given}
 use Rattle.trace.specs.Text.{tickLines, linesOf, textWritten, textEnd}
 use Rattle.trace.specs.Trace.{NodeSetup, clockOf, sendOf, batchOf, payloadOf, tickNumber}
 use Rattle.trace.specs.Replay.{Turn, callOf, textBy, calledTurn, turnBy, turn, tablesAt, turnAt}
 use Rattle.replay.specs.Playing.{Ready, Result, resultBy, textRoom, among, runNumbers}
-use Rattle.replay.proofs.Fits.{Figured, lines-fit}
+use Rattle.replay.proofs.Fits.{Figured, lines-fit, delivered-pass}
 use Rattle.replay.proofs.Refusals.{turn-among}
 
 -- the arguments of the call, read from the bytes
@@ -66,18 +70,31 @@ module _ (s : NodeSetup) (tables : Timestamp) (holdback bytes text : List ℕ) w
       go zero f = absurd (h f)
       go (suc k) f = rw f (ap (λ (t : Turn). resultBy t text) (called (suc k) o same f ∙ by-number e))
 
+  -- what the lines of an accepted one ask
+  pub turn-given : (o : Output) (clock : ℕ) → Ready s → o ≡ tick (callOf s tables holdback bytes) → o .answer .number ≡ 0 → clock ≡ clockOf bytes
+      → Given (s .setup) clock (o .delivery)
+  unfolding callOf
+  turn-given o clock ready same number clock-is =
+      let i : Input = callOf s tables holdback bytes in
+      let a : Accepted i = accepted-call i (ap (λ (x : Output). x .answer .number) (sym same) ∙ number) in
+      record {
+        limits = and-left (inLimits (s .setup)) (isMember (s .setup) (s .own)) (ready .valid);
+        below = rw clock-is (a .clock-below);
+        frames = rw same (delivered-pass i a);
+      }
+
   -- an accepted one
   pub turn-played : (o : Output) (clock : ℕ) {size : ℕ} {lines : List ℕ} → Ready s → textRoom ≤ length text → 0 ≡ tickNumber bytes
       → o ≡ tick (callOf s tables holdback bytes) → o .answer .number ≡ 0 → clock ≡ clockOf bytes → Figured clock (o .answer)
-      → size ≡ textEnd text 0 (tickLines clock (o .answer .repair) (o .answer .tables .c) (o .answer .taken) (o .answer .sent) (o .answer .delivered) (s .setup .epsilon) (o .delivery))
-      → lines ≡ textWritten text 0 (tickLines clock (o .answer .repair) (o .answer .tables .c) (o .answer .taken) (o .answer .sent) (o .answer .delivered) (s .setup .epsilon) (o .delivery))
+      → size ≡ textEnd text 0 (tickLines clock (o .answer .repair) (o .answer .tables .c) (o .answer .taken) (o .answer .sent) (o .answer .delivered) (s .setup) (o .delivery))
+      → lines ≡ textWritten text 0 (tickLines clock (o .answer .repair) (o .answer .tables .c) (o .answer .taken) (o .answer .sent) (o .answer .delivered) (s .setup) (o .delivery))
       → record { number = 0; tables = o .answer .tables; size = size; holdback = o .holdback; text = lines } ≡ resultBy (turn s tables holdback bytes) text
   unfolding resultBy overlay textWritten textEnd pasted callOf linesOf
   turn-played o clock {size} {lines} ready room e same number clock-is small ends bytes-are =
       let i : Input = callOf s tables holdback bytes in
       let all : List ℕ = linesOf i o in
       let figures : Figured (i .clock) (tick i .answer) = rw (← same, ← clock-is) small in
-      let fits : length all ≤ textRoom = rw same (lines-fit i (ap (λ (x : Output). x .answer .number) (sym same) ∙ number) (ready .small) figures) in
+      let fits : length all ≤ textRoom = rw same (lines-fit i (ap (λ (x : Output). x .answer .number) (sym same) ∙ number) figures) in
       let has-room : leb (0 + length all) (length text) ≡ true = le-leb (0 + length all) (length text) (omega arith) in
       let size-is : size ≡ length all = rw (clock-is, has-room) at ends ∙ zero-add (length all) in
       let lines-are : lines ≡ all ++ drop (length all) text = rw (clock-is, has-room) at bytes-are ∙ ap (λ (k : ℕ). all ++ drop k text) (zero-add (length all)) in

@@ -96,7 +96,7 @@ fn play(
         sent: answer.sent,
         delivered: answer.delivered,
     };
-    let size = put_lines(text, 0, figures, setup.epsilon, &delivery);
+    let size = put_lines(text, 0, figures, setup, &delivery);
     Played {
         number: 0,
         tables: after,

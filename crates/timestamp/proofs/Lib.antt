@@ -2,6 +2,7 @@
 pub mod Ordered
 -- For the proofs of this crate.
 mod Counts
+mod Deciding
 mod Readings
 mod Steps
 mod Soundness

@@ -2,8 +2,9 @@
 mod ordering;
 mod stamp;
 
-pub use ordering::Order;
+pub use ordering::Comparison;
 pub use ordering::Rank;
+pub use ordering::Reason;
 pub use ordering::compare;
 pub use ordering::compare_ranked;
 pub use stamp::Timestamp;

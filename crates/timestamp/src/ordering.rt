@@ -1,19 +1,28 @@
-// 01, "Order of two stamps, first difference decides": sum; ε counts; station number; r.
+// 01, "Order of two stamps, first difference decides": sum; ε counts; station number; r. 02, 2.4: and what decided.
 ghost use mathlib.Core.Path.{_≡_};
 ghost use Prim.Native.Nat.{compare, _+_, _≤_, _<_, _^_};
 ghost use lib.ListN.{length};
-ghost use Rattle.laws.specs.Lex.{lexCompare};
 ghost use Rattle.model.specs.Timestamp.{trimmed};
 ghost use Rattle.model.specs.Order.{keyBy};
+ghost use Rattle.model.specs.Comparison.{compareKeys};
 ghost use Rattle.timestamp.specs.Views.{stampOf};
-ghost use Rattle.timestamp.specs.Ranks.{orderOf, newestCounts, stampedFrame, rankedFrame, Ranked};
+ghost use Rattle.timestamp.specs.Ranks.{reasonOf, comparisonOf, decideBy, compareCounts, newestCounts, stampedFrame, rankedFrame, Ranked};
 use crate::stamp::Timestamp;
 
-// How the first of two stands to the second.
-pub enum Order {
-    First,
-    Same,
-    After,
+// 02, 2.4: what decided.
+pub enum Reason {
+    Sum,
+    // the count at a clock. The comparisons of this file say how far that lies before the sum
+    Count(usize),
+    Station,
+    R,
+}
+
+// 02, 2.4: "which is first and also what decided"; nothing where the two are alike.
+pub enum Comparison {
+    First(Reason),
+    Second(Reason),
+    Alike,
 }
 
 // What the order looks at beside the counts.
@@ -24,64 +33,65 @@ pub struct Rank {
     pub station: usize,
 }
 
-fn compare_numbers(a: usize, b: usize) -> Order
-    ensures { λ o. ⌜ o ≡ orderOf (compare a b) ⌝ }
+// What two numbers decide, for that reason.
+fn compare_numbers(a: usize, b: usize, reason: Reason) -> Comparison
+    ensures { λ o. ⌜ comparisonOf o ≡ decideBy (reasonOf reason) (compare a b) ⌝ }
 {
     if a < b {
-        return Order::First;
+        return Comparison::First(reason);
     }
     if b < a {
-        return Order::After;
+        return Comparison::Second(reason);
     }
-    Order::Same
+    Comparison::Alike
 }
 
 // 01: "count at offset c; at c − 1; and so on to c − ε + 1 (ε counts)". The form is 01's for "The comparison ends at the first
 // count that differs": a loop over the ε counts that yields its order by break at the first difference.
-fn compare_counts(epsilon: usize, a: &[u8], ca: usize, b: &[u8], cb: usize) -> Order
+fn compare_counts(epsilon: usize, a: &[u8], ca: usize, b: &[u8], cb: usize) -> Comparison
     requires { ⌜ (epsilon + ca < length (now a)) × (epsilon + cb < length (now b)) ⌝ }
-    ensures { λ o. ⌜ o ≡ orderOf (lexCompare (newestCounts epsilon ca (now (a .entry))) (newestCounts epsilon cb (now (b .entry)))) ⌝ }
+    ensures { λ o. ⌜ comparisonOf o ≡ compareCounts 0 (newestCounts epsilon ca (now (a .entry))) (newestCounts epsilon cb (now (b .entry))) ⌝ }
 {
     let mut k = 0;
-    let order = loop {
+    let comparison = loop {
         if epsilon <= k {
-            break Order::Same;
+            break Comparison::Alike;
         }
         let x = a[epsilon + ca - k];
         let y = b[epsilon + cb - k];
         if x < y {
-            break Order::First;
+            break Comparison::First(Reason::Count(k));
         }
         if y < x {
-            break Order::After;
+            break Comparison::Second(Reason::Count(k));
         }
         k += 1;
     };
-    order
+    comparison
 }
 
-// The order of two frames whose 2ε counts lie in slices.
-pub fn compare_ranked(epsilon: usize, f: Rank, kf: &[u8], g: Rank, kg: &[u8]) -> Order
+// The comparison of two frames whose 2ε counts lie in slices.
+pub fn compare_ranked(epsilon: usize, f: Rank, kf: &[u8], g: Rank, kg: &[u8]) -> Comparison
     requires { ⌜ Ranked epsilon f (now kf) ⌝ }
     requires { ⌜ Ranked epsilon g (now kg) ⌝ }
-    ensures { λ o. ⌜ o ≡ orderOf (lexCompare (keyBy epsilon (f .reading) (rankedFrame f (now (kf .entry)))) (keyBy epsilon (g .reading) (rankedFrame g (now (kg .entry))))) ⌝ }
+    ensures { λ o. ⌜ comparisonOf o ≡ compareKeys epsilon (keyBy epsilon (f .reading) (rankedFrame f (now (kf .entry)))) (keyBy epsilon (g .reading) (rankedFrame g (now (kg .entry)))) ⌝ }
 {
-    let sums = compare_numbers(f.reading + f.c, g.reading + g.c);
-    let Order::Same = sums else {
+    let sums = compare_numbers(f.reading + f.c, g.reading + g.c, Reason::Sum);
+    let Comparison::Alike = sums else {
         return sums;
     };
     let counts = compare_counts(epsilon, kf, f.c, kg, g.c);
-    let Order::Same = counts else {
+    let Comparison::Alike = counts else {
         return counts;
     };
-    let stations = compare_numbers(f.station, g.station);
-    let Order::Same = stations else {
+    let stations = compare_numbers(f.station, g.station, Reason::Station);
+    let Comparison::Alike = stations else {
         return stations;
     };
-    compare_numbers(f.reading, g.reading)
+    compare_numbers(f.reading, g.reading, Reason::R)
 }
 
-// The order of two frames by their timestamps, each r at its reading; places past the 2ε counts are ignored.
+// The comparison of two frames by their timestamps, each r at its reading; places past the 2ε counts are ignored.
 pub fn compare(
     epsilon: usize,
     at_f: usize,
@@ -90,10 +100,10 @@ pub fn compare(
     at_g: usize,
     g: Timestamp,
     station_g: usize,
-) -> Order
+) -> Comparison
     requires { ⌜ (epsilon ≤ 16) × ((f .c < epsilon) × (g .c < epsilon)) ⌝ }
     requires { ⌜ («at_f» ≤ 2 ^ 17) × («at_g» ≤ 2 ^ 17) ⌝ }
-    ensures { λ o. ⌜ o ≡ orderOf (lexCompare (keyBy epsilon «at_f» (stampedFrame «station_f» (trimmed epsilon (stampOf f)))) (keyBy epsilon «at_g» (stampedFrame «station_g» (trimmed epsilon (stampOf g))))) ⌝ }
+    ensures { λ o. ⌜ comparisonOf o ≡ compareKeys epsilon (keyBy epsilon «at_f» (stampedFrame «station_f» (trimmed epsilon (stampOf f)))) (keyBy epsilon «at_g» (stampedFrame «station_g» (trimmed epsilon (stampOf g)))) ⌝ }
 {
     let kf = f.kn;
     let kg = g.kn;

@@ -10,8 +10,9 @@ use borrow.Author.Tests.{le-leb, lt-leb, eq-eqb, ne-eqb}
 use Rattle.laws.specs.Lists.{joined}
 use Rattle.laws.proofs.Lists.{joined-append}
 use Rattle.splice.specs.Bytes.{pasted}
+use Rattle.model.specs.Comparison.{Reason}
 use Rattle.text.specs.Text.{Put, digits, digitCount}
-use Rattle.trace.specs.Text.{hexByte, fields, flag, tickLine, payloadText, payloadTail, giveText, refusedLine, textWritten, textEnd}
+use Rattle.trace.specs.Text.{hexByte, fields, flag, tickLine, payloadText, payloadTail, reasonText, reasonTail, giveText, refusedLine, textWritten, textEnd}
 use Rattle.text.proofs.Numerals.{length-digits, digitCount-small}
 use Rattle.text.proofs.Putting.{put-nothing, put-then, put-length, put-as, length-field}
 
@@ -55,10 +56,10 @@ pub length-refused : (number : ℕ) → 9 + digitCount number ≡ length (refuse
 unfolding refusedLine
 length-refused number = simp (length-append, length-field) (omega arith)
 
-pub length-give : (station r : ℕ) (payload : List ℕ)
-    → 8 + digitCount station + digitCount r + length (payloadText payload) ≡ length (giveText station r payload)
-unfolding giveText payloadTail
-length-give station r payload = simp (length-append, length-field) (omega arith)
+pub length-give : (station r : ℕ) (payload : List ℕ) (reason : Reason)
+    → 8 + digitCount station + digitCount r + length (payloadText payload) + length (reasonText reason) ≡ length (giveText station r payload reason)
+unfolding giveText payloadTail reasonTail
+length-give station r payload reason = simp (length-append, length-field) (omega arith)
 
 -- ---- the payload
 

@@ -7,7 +7,9 @@ use lib.ListN.{length, take, drop}
 use Rattle.laws.specs.Lists.{joined}
 use Rattle.splice.specs.Bytes.{pasted}
 use Rattle.text.specs.Text.{digits, space, newline, field}
+use Rattle.model.specs.Setup.{Setup}
 use Rattle.model.specs.Frame.{Frame, frameEnd, decode}
+use Rattle.model.specs.Comparison.{Reason, bySum, byCount, byStation, byR, byNothing, compared}
 use Rattle.model.specs.Holdback.{held}
 use Rattle.model.specs.Tick.{Input, Output}
 
@@ -15,7 +17,7 @@ use Rattle.model.specs.Tick.{Input, Output}
 unfoldable pub hexByte : ℕ → List ℕ
 hexByte x = digits 16 2 x
 
--- the words of the lines: "tick ", " mend ", " c ", " took ", " sent ", " gave ", "give ", "refused "
+-- the words of the lines: "tick ", " mend ", " c ", " took ", " sent ", " gave ", "give ", "refused ", " sum", " count ", " station", " r", " -"
 abbrev pub tickWord : List ℕ
 tickWord = 116 ∷ 105 ∷ 99 ∷ 107 ∷ 32 ∷ []
 
@@ -40,6 +42,21 @@ giveWord = 103 ∷ 105 ∷ 118 ∷ 101 ∷ 32 ∷ []
 abbrev pub refusedWord : List ℕ
 refusedWord = 114 ∷ 101 ∷ 102 ∷ 117 ∷ 115 ∷ 101 ∷ 100 ∷ 32 ∷ []
 
+abbrev pub sumWord : List ℕ
+sumWord = 32 ∷ 115 ∷ 117 ∷ 109 ∷ []
+
+abbrev pub countWord : List ℕ
+countWord = 32 ∷ 99 ∷ 111 ∷ 117 ∷ 110 ∷ 116 ∷ 32 ∷ []
+
+abbrev pub stationWord : List ℕ
+stationWord = 32 ∷ 115 ∷ 116 ∷ 97 ∷ 116 ∷ 105 ∷ 111 ∷ 110 ∷ []
+
+abbrev pub rWord : List ℕ
+rWord = 32 ∷ 114 ∷ []
+
+abbrev pub dashWord : List ℕ
+dashWord = 32 ∷ 45 ∷ []
+
 -- 01: "sent (1 or 0)", of the length of the outgoing frame
 unfoldable pub flag : ℕ → ℕ
 flag sent = cond (eqb sent 0) 0 1
@@ -58,16 +75,28 @@ tickLine clock repair c taken sent delivered =
 unfoldable pub payloadText : List ℕ → List ℕ
 payloadText payload = cond (eqb (length payload) 0) (45 ∷ []) (joined hexByte payload)
 
--- the end of a give line: the payload, and the end of the line
-unfoldable pub payloadTail : List ℕ → List ℕ
-payloadTail payload = space ++ (payloadText payload ++ newline)
+-- 02, 2.4: "`sum`, `count` and its clock modulo B, `station`, `r`", each after a space; a dash where nothing decided
+abbrev pub reasonText : Reason → List ℕ
+reasonText bySum = sumWord
+reasonText (byCount clock) = field countWord clock
+reasonText byStation = stationWord
+reasonText byR = rWord
+reasonText byNothing = dashWord
 
--- 01: "a give line has station, r and the ticket"
-unfoldable pub giveText : ℕ → ℕ → List ℕ → List ℕ
-giveText station r payload = field giveWord station ++ (field space r ++ payloadTail payload)
+-- the end of a give line: the reason, and the end of the line
+unfoldable pub reasonTail : Reason → List ℕ
+reasonTail reason = reasonText reason ++ newline
 
-unfoldable pub giveLine : Frame → List ℕ
-giveLine f = giveText (f .station) (f .stamp .r) (f .payload)
+-- the payload, and the end of the line
+unfoldable pub payloadTail : List ℕ → Reason → List ℕ
+payloadTail payload reason = space ++ (payloadText payload ++ reasonTail reason)
+
+-- 01: "a give line has station, r and the ticket". 02, 2.4: "Each give line ends, after a space, with the reason"
+unfoldable pub giveText : ℕ → ℕ → List ℕ → Reason → List ℕ
+giveText station r payload reason = field giveWord station ++ (field space r ++ payloadTail payload reason)
+
+unfoldable pub giveLine : Reason → Frame → List ℕ
+giveLine reason f = giveText (f .station) (f .stamp .r) (f .payload) reason
 
 -- the bytes of the frame that starts at a position of a delivery (01: hand-out)
 unfoldable pub frameBytes : ℕ → List ℕ → ℕ → List ℕ
@@ -76,20 +105,35 @@ frameBytes epsilon s at = take (frameEnd epsilon (drop at s)) (drop at s)
 unfoldable pub frameFrom : ℕ → List ℕ → ℕ → Frame
 frameFrom epsilon s at = decode epsilon (frameBytes epsilon s at)
 
+-- 02, 2.4: "the reason against the line before it in the same hand-out": the give line of a frame after that of another, with each r read near
+-- the tick's clock
+unfoldable pub giveAfter : Setup → ℕ → Frame → Frame → List ℕ
+giveAfter s v last f = giveLine (compared s v last f .reason) f
+
+-- the give lines of frames, after that of another
+unfoldable pub givesAfter : Setup → ℕ → Frame → List Frame → List ℕ
+givesAfter s v last [] = []
+givesAfter s v last (f ∷ rest) = giveAfter s v last f ++ givesAfter s v f rest
+
+-- of all frames of a hand-out: "the first of a hand-out with a dash"
+unfoldable pub givesOf : Setup → ℕ → List Frame → List ℕ
+givesOf s v [] = []
+givesOf s v (f ∷ rest) = giveLine byNothing f ++ givesAfter s v f rest
+
 -- a give line for each frame of a delivery, in its order
-unfoldable pub giveLines : ℕ → List ℕ → List ℕ
-giveLines epsilon delivery = joined giveLine (held epsilon delivery)
+unfoldable pub giveLines : Setup → ℕ → List ℕ → List ℕ
+giveLines s v delivery = givesOf s v (held (s .epsilon) delivery)
 
 -- the lines of a tick: the tick line, then the give lines
-unfoldable pub tickLines : ℕ → ℕ → ℕ → ℕ → ℕ → ℕ → ℕ → List ℕ → List ℕ
-tickLines clock repair c taken sent delivered epsilon delivery =
-    tickLine clock repair c taken sent delivered ++ giveLines epsilon delivery
+unfoldable pub tickLines : ℕ → ℕ → ℕ → ℕ → ℕ → ℕ → Setup → List ℕ → List ℕ
+tickLines clock repair c taken sent delivered s delivery =
+    tickLine clock repair c taken sent delivered ++ giveLines s clock delivery
 
 -- the lines of an accepted call
 unfoldable pub linesOf : Input → Output → List ℕ
 linesOf i o =
     tickLines (i .clock) (o .answer .repair) (o .answer .tables .c) (o .answer .taken) (o .answer .sent) (o .answer .delivered)
-    (i .setup .epsilon) (o .delivery)
+    (i .setup) (o .delivery)
 
 -- 01: "On a refusal it prints `refused` and the number"
 unfoldable pub refusedLine : ℕ → List ℕ

@@ -3,6 +3,7 @@
 mod lines;
 mod parse;
 mod parts;
+mod reasons;
 
 pub use lines::TickFigures;
 pub use lines::put_lines;

@@ -2,23 +2,31 @@
 use crate::parts::payload_size;
 use crate::parts::put_fields;
 use crate::parts::put_give;
+use crate::reasons::decided_size;
+use comparing::compare_frames;
 use frame::frame_end;
 use frame::payload_part;
 use frame::r_of;
 use frame::station_of;
+use setup::Setup;
 use splice::part;
 use splice::two_at;
 use text::digit_count;
 use text::put_field;
 use text::put_word;
+use timestamp::Comparison;
 ghost use mathlib.Core.Path.{_≡_};
 ghost use mathlib.Core.List.{[]};
 ghost use Prim.Native.Nat.{_+_, _≤_, _<_, _^_};
 ghost use lib.Dec.{leb};
 ghost use lib.ListN.{length, drop};
 ghost use Rattle.model.specs.Frame.{frameEnd};
+ghost use Rattle.model.specs.Comparison.{compared};
 ghost use Rattle.text.specs.Text.{Put};
-ghost use Rattle.trace.specs.Text.{flag, tickLine, giveLine, giveLines, frameBytes, frameFrom, tickLines, refusedLine, textWritten, textEnd};
+ghost use Rattle.setup.specs.Views.{setupOf};
+ghost use Rattle.timestamp.specs.Ranks.{comparisonOf};
+ghost use Rattle.trace.specs.Views.{Given, Two};
+ghost use Rattle.trace.specs.Text.{flag, tickLine, giveAfter, giveLines, frameBytes, frameFrom, tickLines, refusedLine, textWritten, textEnd};
 ghost use Rattle.trace.specs.Replay.{stopped};
 
 // What a tick line says: 01's clock, mend, c, taken, outgoing length (0 if none), handed out.
@@ -94,60 +102,92 @@ fn frame_at(delivery: &[u8], at: usize, epsilon: usize) -> &[u8]
     part(rest, 0, frame_end(epsilon, rest))
 }
 
-// How long its give line is.
-fn give_size(delivery: &[u8], at: usize, epsilon: usize) -> usize
-    requires { ⌜ epsilon ≤ 16 ⌝ }
-    ensures { λ r. ⌜ r ≡ length (giveLine (frameFrom epsilon (now (delivery .entry)) at)) ⌝ }
+// 02, 2.4: which of the frames at two positions is first, and what decided.
+fn compared_at(s: Setup, v: usize, delivery: &[u8], last: usize, at: usize) -> Comparison
+    requires { ⌜ Two (setupOf s) v (now delivery) last at ⌝ }
+    ensures { λ o. ⌜ comparisonOf o
+        ≡ compared (setupOf s) v (frameFrom (s .epsilon) (now (delivery .entry)) last) (frameFrom (s .epsilon) (now (delivery .entry)) at) ⌝ }
 {
+    let epsilon = s.epsilon as usize;
+    let f = frame_at(delivery, last, epsilon);
+    let g = frame_at(delivery, at, epsilon);
+    compare_frames(s, v, f, g)
+}
+
+// How long the give line of the frame at a position is, after that of the frame at `last`.
+fn give_size(s: Setup, v: usize, delivery: &[u8], last: usize, at: usize) -> usize
+    requires { ⌜ Two (setupOf s) v (now delivery) last at ⌝ }
+    ensures { λ r. ⌜ r ≡ length (giveAfter (setupOf s) v (frameFrom (s .epsilon) (now (delivery .entry)) last) (frameFrom (s .epsilon) (now (delivery .entry)) at)) ⌝ }
+{
+    let epsilon = s.epsilon as usize;
+    let comparison = compared_at(s, v, delivery, last, at);
     let frame = frame_at(delivery, at, epsilon);
     let station = station_of(frame);
     let r = r_of(frame);
     let payload = payload_part(epsilon, frame);
-    8 + digit_count(station) + digit_count(r) + payload_size(payload)
+    let size = 8 + digit_count(station) + digit_count(r) + payload_size(payload);
+    size + decided_size(comparison)
 }
 
-// Writes its give line.
-fn put_give_at(buf: &mut [u8], end: usize, delivery: &[u8], at: usize, epsilon: usize) -> usize
-    requires { ⌜ (epsilon ≤ 16) × (end + length (giveLine (frameFrom epsilon (now delivery) at)) ≤ length (now buf)) ⌝ }
-    ensures { λ e. ⌜ Put (now (buf .entry)) end (giveLine (frameFrom epsilon (now (delivery .entry)) at)) (now (buf .exit)) e ⌝ }
+// Writes it.
+fn put_give_at(
+    buf: &mut [u8],
+    end: usize,
+    s: Setup,
+    v: usize,
+    delivery: &[u8],
+    last: usize,
+    at: usize,
+) -> usize
+    requires { ⌜ Two (setupOf s) v (now delivery) last at ⌝ }
+    requires { ⌜ end + length (giveAfter (setupOf s) v (frameFrom (s .epsilon) (now delivery) last) (frameFrom (s .epsilon) (now delivery) at)) ≤ length (now buf) ⌝ }
+    ensures { λ e. ⌜ Put (now (buf .entry)) end (giveAfter (setupOf s) v (frameFrom (s .epsilon) (now (delivery .entry)) last) (frameFrom (s .epsilon) (now (delivery .entry)) at)) (now (buf .exit)) e ⌝ }
 {
+    let epsilon = s.epsilon as usize;
+    let comparison = compared_at(s, v, delivery, last, at);
     let frame = frame_at(delivery, at, epsilon);
     let station = station_of(frame);
     let r = r_of(frame);
     let payload = payload_part(epsilon, frame);
-    put_give(buf, end, station, r, payload)
+    put_give(buf, end, station, r, payload, comparison)
 }
 
-// Whether the give lines of a delivery have at most `room` bytes.
-fn gives_fit(delivery: &[u8], epsilon: usize, room: usize) -> bool
-    requires { ⌜ epsilon ≤ 16 ⌝ }
-    ensures { λ r. ⌜ r ≡ leb (length (giveLines epsilon (now (delivery .entry)))) room ⌝ }
+// Whether the give lines of a delivery have at most `room` bytes. The first frame is compared with itself: nothing decides.
+fn gives_fit(s: Setup, v: usize, delivery: &[u8], room: usize) -> bool
+    requires { ⌜ Given (setupOf s) v (now delivery) ⌝ }
+    ensures { λ r. ⌜ r ≡ leb (length (giveLines (setupOf s) v (now (delivery .entry)))) room ⌝ }
 {
+    let epsilon = s.epsilon as usize;
     let mut left = two_at(delivery, 0);
+    let mut last = 2;
     let mut at = 2;
     let mut room_left = room;
     while 0 < left {
-        let size = give_size(delivery, at, epsilon);
+        let size = give_size(s, v, delivery, last, at);
         if room_left < size {
             return false;
         }
         room_left -= size;
+        last = at;
         at = next_frame(delivery, at, epsilon);
         left -= 1;
     }
     true
 }
 
-// Writes a give line for each frame of a delivery.
-fn put_gives(buf: &mut [u8], from: usize, delivery: &[u8], epsilon: usize) -> usize
-    requires { ⌜ (epsilon ≤ 16) × (from + length (giveLines epsilon (now delivery)) ≤ length (now buf)) ⌝ }
-    ensures { λ e. ⌜ Put (now (buf .entry)) from (giveLines epsilon (now (delivery .entry))) (now (buf .exit)) e ⌝ }
+// Writes a give line for each frame of a delivery, the first compared with itself.
+fn put_gives(buf: &mut [u8], from: usize, s: Setup, v: usize, delivery: &[u8]) -> usize
+    requires { ⌜ Given (setupOf s) v (now delivery) × (from + length (giveLines (setupOf s) v (now delivery)) ≤ length (now buf)) ⌝ }
+    ensures { λ e. ⌜ Put (now (buf .entry)) from (giveLines (setupOf s) v (now (delivery .entry))) (now (buf .exit)) e ⌝ }
 {
+    let epsilon = s.epsilon as usize;
     let mut left = two_at(delivery, 0);
+    let mut last = 2;
     let mut at = 2;
     let mut end = from;
     while 0 < left {
-        end = put_give_at(buf, end, delivery, at, epsilon);
+        end = put_give_at(buf, end, s, v, delivery, last, at);
+        last = at;
         at = next_frame(delivery, at, epsilon);
         left -= 1;
     }
@@ -156,10 +196,10 @@ fn put_gives(buf: &mut [u8], from: usize, delivery: &[u8], epsilon: usize) -> us
 
 // Writes the lines of a tick at a position, and answers where they end; 0, and nothing is written,
 // where there is no room for all of them.
-pub fn put_lines(buf: &mut [u8], at: usize, f: TickFigures, epsilon: u32, delivery: &[u8]) -> usize
-    requires { ⌜ epsilon ≤ 16 ⌝ }
-    ensures { λ r. ⌜ r ≡ textEnd (now (buf .entry)) at (tickLines (f .clock) (f .repair) (f .c) (f .taken) (f .sent) (f .delivered) epsilon (now (delivery .entry))) ⌝ }
-    ensures { λ r. ⌜ now (buf .exit) ≡ textWritten (now (buf .entry)) at (tickLines (f .clock) (f .repair) (f .c) (f .taken) (f .sent) (f .delivered) epsilon (now (delivery .entry))) ⌝ }
+pub fn put_lines(buf: &mut [u8], at: usize, f: TickFigures, s: Setup, delivery: &[u8]) -> usize
+    requires { ⌜ Given (setupOf s) (f .clock) (now delivery) ⌝ }
+    ensures { λ r. ⌜ r ≡ textEnd (now (buf .entry)) at (tickLines (f .clock) (f .repair) (f .c) (f .taken) (f .sent) (f .delivered) (setupOf s) (now (delivery .entry))) ⌝ }
+    ensures { λ r. ⌜ now (buf .exit) ≡ textWritten (now (buf .entry)) at (tickLines (f .clock) (f .repair) (f .c) (f .taken) (f .sent) (f .delivered) (setupOf s) (now (delivery .entry))) ⌝ }
 {
     let size = tick_size(f);
     if buf.len() < at {
@@ -169,11 +209,11 @@ pub fn put_lines(buf: &mut [u8], at: usize, f: TickFigures, epsilon: u32, delive
     if room < size {
         return 0;
     }
-    if !gives_fit(delivery, epsilon as usize, room - size) {
+    if !gives_fit(s, f.clock, delivery, room - size) {
         return 0;
     }
     let end = put_tick(buf, at, f);
-    put_gives(buf, end, delivery, epsilon as usize)
+    put_gives(buf, end, s, f.clock, delivery)
 }
 
 // Writes the line of a refusal, as `put_lines` does those of a tick.

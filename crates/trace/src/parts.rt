@@ -1,13 +1,16 @@
 // The parts of a line, each written at a position where there is room for it; the answer is where
 // it ends.
+use crate::reasons::put_ending;
 use text::put_digits;
 use text::put_field;
 use text::put_word;
+use timestamp::Comparison;
 ghost use mathlib.Core.Path.{_≡_};
 ghost use Prim.Native.Nat.{_+_, _*_, _≤_};
 ghost use lib.ListN.{length};
 ghost use Rattle.laws.specs.Lists.{joined};
 ghost use Rattle.text.specs.Text.{Put};
+ghost use Rattle.timestamp.specs.Ranks.{comparisonOf};
 ghost use Rattle.trace.specs.Text.{fields, hexByte, payloadText, payloadTail, giveText};
 
 // Three words, each with a number after it.
@@ -66,21 +69,28 @@ fn put_payload(buf: &mut [u8], at: usize, payload: &[u8]) -> usize
 }
 
 // The payload, and the end of the line.
-fn put_tail(buf: &mut [u8], at: usize, payload: &[u8]) -> usize
-    requires { ⌜ at + length (payloadTail (now payload)) ≤ length (now buf) ⌝ }
-    ensures { λ r. ⌜ Put (now (buf .entry)) at (payloadTail (now (payload .entry))) (now (buf .exit)) r ⌝ }
+fn put_tail(buf: &mut [u8], at: usize, payload: &[u8], comparison: Comparison) -> usize
+    requires { ⌜ at + length (payloadTail (now payload) (comparisonOf comparison .reason)) ≤ length (now buf) ⌝ }
+    ensures { λ r. ⌜ Put (now (buf .entry)) at (payloadTail (now (payload .entry)) (comparisonOf comparison .reason)) (now (buf .exit)) r ⌝ }
 {
     let after_space = put_word(buf, at, b" ");
     let after_payload = put_payload(buf, after_space, payload);
-    put_word(buf, after_payload, b"\n")
+    put_ending(buf, after_payload, comparison)
 }
 
-// 01: "a give line has station, r and the ticket".
-pub fn put_give(buf: &mut [u8], at: usize, station: usize, r: usize, payload: &[u8]) -> usize
-    requires { ⌜ at + length (giveText station r (now payload)) ≤ length (now buf) ⌝ }
-    ensures { λ e. ⌜ Put (now (buf .entry)) at (giveText station r (now (payload .entry))) (now (buf .exit)) e ⌝ }
+// 01: "a give line has station, r and the ticket"; 02, 2.4: it ends with the reason.
+pub fn put_give(
+    buf: &mut [u8],
+    at: usize,
+    station: usize,
+    r: usize,
+    payload: &[u8],
+    comparison: Comparison,
+) -> usize
+    requires { ⌜ at + length (giveText station r (now payload) (comparisonOf comparison .reason)) ≤ length (now buf) ⌝ }
+    ensures { λ e. ⌜ Put (now (buf .entry)) at (giveText station r (now (payload .entry)) (comparisonOf comparison .reason)) (now (buf .exit)) e ⌝ }
 {
     let after_station = put_field(buf, at, b"give ", station);
     let after_r = put_field(buf, after_station, b" ", r);
-    put_tail(buf, after_r, payload)
+    put_tail(buf, after_r, payload, comparison)
 }

@@ -4,12 +4,14 @@ pub mod cases;
 pub mod frames;
 pub mod group;
 pub mod memory;
+pub mod pairs;
 pub mod prng;
 pub mod spoil;
 pub mod traces;
 
 pub use cases::{ReadCase, TickCase, WordsCase, WriteCase};
 pub use group::{Group, Habits};
+pub use pairs::CompareCase;
 pub use prng::Prng;
 
 use crate::Setup;

@@ -7,6 +7,7 @@ mod memory;
 mod nudges;
 mod order;
 mod programs;
+mod reasons;
 mod replaying;
 mod round_trips;
 mod samples;

@@ -6,15 +6,15 @@ use oracle::trace::Trace;
 
 const SAMPLE: &str = include_str!("../../samples/sample.txt");
 
-/// The text that 01 gives for its sample.
+/// The text that 01 gives for its sample, with the endings of 02.
 const SAMPLE_LINES: &str = "\
 tick 1 mend 0 c 1 took 1 sent 1 gave 0
 tick 2 mend 0 c 0 took 1 sent 0 gave 0
 tick 3 mend 0 c 0 took 0 sent 0 gave 0
 tick 4 mend 0 c 0 took 0 sent 0 gave 0
 tick 5 mend 0 c 0 took 0 sent 0 gave 2
-give 1 2 41
-give 0 1 42
+give 1 2 41 -
+give 0 1 42 count 1
 ";
 
 pub fn sample() -> Vec<u8> {
@@ -111,13 +111,13 @@ fn a_step_past_a_due_clock_hands_out_what_was_due_before_first() {
     // Frame A is due at 5; the tick at 6 steps over it and hears one that is due at 6.
     let text = "setup 2 2 1 14 0\ntick 4\nframe 1 2 0 1,1,1,0 41\ntick 6\nframe 0 3 0 0,1,1,0 42";
     let lines = "tick 4 mend 0 c 0 took 1 sent 0 gave 0\n\
-                 tick 6 mend 0 c 0 took 1 sent 0 gave 2\ngive 1 2 41\ngive 0 3 42\n";
+                 tick 6 mend 0 c 0 took 1 sent 0 gave 2\ngive 1 2 41 -\ngive 0 3 42 sum\n";
     assert_eq!(replay_of(text), lines);
 }
 
 #[test]
 fn an_empty_payload_prints_as_a_dash_and_hexadecimal_is_lower_case() {
     let text = "setup 2 2 1 14 0\ntick 5\nkeep 00\nframe 1 2 0 1,1,1,0 -\nframe 0 2 0 1,1,1,0 00aF";
-    let lines = "tick 5 mend 0 c 0 took 2 sent 0 gave 2\ngive 0 2 00af\ngive 1 2 -\n";
+    let lines = "tick 5 mend 0 c 0 took 2 sent 0 gave 2\ngive 0 2 00af -\ngive 1 2 - station\n";
     assert_eq!(replay_of(text), lines);
 }

@@ -14,24 +14,34 @@ const TRACES: u64 = 40;
 /// Of calls. 17 is not among the numbers of frames: no queue ever gets full; it is
 /// among those of lines, where verdicts that are not the frames' own are given too. For `sent` and
 /// `gave` (was a frame sent, was one handed out) 1 is yes. The numbers of `early`, `overdue` and
-/// `step` are kinds: see `nudges`.
-const OF_CALLS: [Row; 12] = [
+/// `step` are kinds: see `nudges`; so are those of `count`: see `reasons`.
+const OF_CALLS: [Row; 18] = [
     ("call", &[0, 1, 2, 3, 4, 5, 6]),
+    ("compare", &[0, 1, 2, 10, 11, 12]),
+    ("count", &[0, 1, 2]),
     ("early", &[0, 1, 2]),
+    ("first", &[10, 11, 12]),
     ("frame", &[0, 10, 11, 12, 13, 14, 15, 16]),
     ("gave", &[0, 1]),
     ("line", &[0, 10, 11, 12, 13, 14, 15, 16, 17]),
     ("mend", &[0, 1, 2, 3]),
+    ("order", &[0, 1, 2]),
     ("overdue", &[1, 2, 3]),
     ("reader", &[0, 1, 10, 11, 12]),
+    ("reason", &[0, 1, 2, 3, 4]),
+    ("second", &[10, 11, 12]),
     ("sent", &[0, 1]),
     ("step", &[0, 1, 2, 3, 4]),
     ("words", &[0, 1, 5, 6]),
     ("writer", &[0, 1, 4, 6, 11, 12]),
 ];
 /// Of traces. 3 and 6 are not among them: the program's own buffers are right.
-const OF_TRACES: [Row; 3] =
-    [("trace", &[0, 1, 2, 4, 5]), ("trace gave", &[0, 1]), ("trace step", &[0, 1, 2, 3, 4])];
+const OF_TRACES: [Row; 4] = [
+    ("trace", &[0, 1, 2, 4, 5]),
+    ("trace gave", &[0, 1]),
+    ("trace reason", &[0, 1, 2, 3]),
+    ("trace step", &[0, 1, 2, 3, 4]),
+];
 
 /// The counts.
 #[derive(Default)]
@@ -69,7 +79,7 @@ impl fmt::Display for Coverage {
         let mut last = "";
         for (&(what, number), count) in &self.0 {
             if what != last {
-                write!(f, "{}{what:<11}", if last.is_empty() { "" } else { "\n" })?;
+                write!(f, "{}{what:<12}", if last.is_empty() { "" } else { "\n" })?;
                 last = what;
             }
             write!(f, " {number}:{count}")?;

@@ -1,11 +1,11 @@
 //! Makes the same random calls to two programs and compares all they leave.
 
 use crate::coverage::Coverage;
-use crate::nudges;
 use crate::subject::Subject;
+use crate::{nudges, reasons};
 use oracle::abi;
 use oracle::generate::{self, spoil, Group, Habits, Prng};
-use oracle::generate::{ReadCase, TickCase, WordsCase, WriteCase};
+use oracle::generate::{CompareCase, ReadCase, TickCase, WordsCase, WriteCase};
 use oracle::replay::hex;
 use oracle::Answer;
 
@@ -85,6 +85,20 @@ impl Case for WordsCase {
     }
 }
 
+impl Case for CompareCase {
+    fn call(&mut self, subject: &mut dyn Subject) -> u64 {
+        subject.compare(self)
+    }
+
+    fn numbers(&self) -> String {
+        format!("compare: {:?} clock {}", self.setup, self.clock)
+    }
+
+    fn buffers(&self) -> Vec<(&'static str, &[u8])> {
+        vec![("first", &self.first), ("second", &self.second)]
+    }
+}
+
 /// Two programs, and what was met so far. An error describes a difference.
 pub struct Comparison<'s> {
     pub left: &'s mut dyn Subject,
@@ -135,6 +149,7 @@ impl<'s> Comparison<'s> {
             let (_, word) = self.case(WriteCase::random(rng, case.setup, case.clock))?;
             self.coverage.meet("writer", abi::number(word));
         }
+        self.compare(CompareCase::random(rng, case.setup))?;
         let (case, answer) = self.tick(case)?;
         if rng.one_in(2) {
             let judged = WordsCase::judged(rng, &case);
@@ -185,6 +200,14 @@ impl<'s> Comparison<'s> {
         Ok(())
     }
 
+    fn compare(&mut self, case: CompareCase) -> Result<(), String> {
+        let (case, word) = self.case(case)?;
+        for (what, kind) in reasons::kinds_of(&case, word) {
+            self.coverage.meet(what, kind);
+        }
+        Ok(())
+    }
+
     /// Makes one call to both; what it left, and the answer.
     fn case<C: Case>(&mut self, case: C) -> Result<(C, u64), String> {
         let (mut left, mut right) = (case.clone(), case.clone());
@@ -220,6 +243,9 @@ impl<'s> Comparison<'s> {
             if number == 0 {
                 let kinds = nudges::steps_of(&trace, &left);
                 kinds.into_iter().for_each(|kind| self.coverage.meet("trace step", kind));
+            }
+            for kind in reasons::of_lines(&left) {
+                self.coverage.meet("trace reason", kind);
             }
             self.coverage.meet("trace gave", u8::from(left.contains("\ngive ")));
         }

@@ -1,7 +1,7 @@
 //! The programs that are compared.
 
 use oracle::abi;
-use oracle::generate::{ReadCase, TickCase, WordsCase, WriteCase};
+use oracle::generate::{CompareCase, ReadCase, TickCase, WordsCase, WriteCase};
 use oracle::{fault, replay};
 
 /// Something that makes the calls and replays traces. Answers are packed as the library's.
@@ -10,6 +10,7 @@ pub trait Subject {
     fn read(&mut self, case: &mut ReadCase) -> u64;
     fn write(&mut self, case: &mut WriteCase) -> u64;
     fn words(&mut self, case: &mut WordsCase) -> u64;
+    fn compare(&mut self, case: &mut CompareCase) -> u64;
     fn replay(&mut self, trace: &[u8]) -> Result<String, String>;
 }
 
@@ -59,6 +60,14 @@ impl Subject for Oracle {
         }
     }
 
+    fn compare(&mut self, case: &mut CompareCase) -> u64 {
+        let CompareCase { setup, clock, first, second } = case;
+        match self.faulty(|| oracle::compare(setup, *clock, first, second)) {
+            Ok((order, reason)) => abi::pack_compare(order, reason),
+            Err(number) => abi::pack_refusal(number),
+        }
+    }
+
     fn replay(&mut self, trace: &[u8]) -> Result<String, String> {
         Ok(self.faulty(|| replay::replay_text(trace)))
     }
@@ -86,6 +95,10 @@ impl Subject for Proved {
 
     fn words(&mut self, case: &mut WordsCase) -> u64 {
         abi::library::words(case)
+    }
+
+    fn compare(&mut self, case: &mut CompareCase) -> u64 {
+        abi::library::compare(case)
     }
 
     fn replay(&mut self, trace: &[u8]) -> Result<String, String> {

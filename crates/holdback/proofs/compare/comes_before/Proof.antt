@@ -10,10 +10,10 @@ use Rattle.holdback.proofs.compare.comes_before.Tie as tie
 abbrev tags : Tags
 tags =
     record {
-      tag = Declared.tagOf Rattle.timestamp.proofs.ordering.Order.the-type;
-      at-first = refl;
-      at-same = refl;
-      at-after = refl;
+      tag = Declared.tagOf Rattle.timestamp.proofs.ordering.Comparison.the-type;
+      at-first = λ _. refl;
+      at-second = λ _. refl;
+      at-alike = refl;
     }
 
 compare-ranked-requires : tie.Need-compare-ranked-requires
@@ -25,12 +25,12 @@ enum-told c = search needs
 returns : tie.Need-returns
 returns c =
     let start = c .before .before .before .before in
-    not-before tags (start .args .epsilon) (start .args .f) (start .args .g) (start .args .kf .now) (start .args .kg .now) _ (c .before .compare-ranked .ensures) (c .match .keys2)
+    not-before tags (start .args .epsilon) (start .args .f) (start .args .g) (start .args .kf .now) (start .args .kg .now) (c .before .compare-ranked .result) (c .before .compare-ranked .ensures) (c .match .keys2)
 
 returns-2 : tie.Need-returns-2
 returns-2 c =
     let start = c .before .before .before .before .before in
-    is-before tags (start .args .epsilon) (start .args .f) (start .args .g) (start .args .kf .now) (start .args .kg .now) _ (c .before .before .compare-ranked .ensures) (c .before .match .keys1)
+    is-before tags (start .args .epsilon) (start .args .f) (start .args .g) (start .args .kf .now) (start .args .kg .now) (c .before .before .compare-ranked .result) (c .before .before .compare-ranked .ensures) (c .before .match .keys1)
 
 pub comes-before-spec : {M : Type 1} → statement M
 comes-before-spec = tie.close (tie.spec compare-ranked-requires enum-told returns returns-2)

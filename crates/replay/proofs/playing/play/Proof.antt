@@ -3,7 +3,6 @@ use mathlib.Core.Path.{_≡_, sym, ap, _∙_}
 use native.Mathlib.Omega.{arith}
 use borrow.Author.Needs.{needs}
 use Rattle.model.specs.Tick.{tick}
-use Rattle.lemmas.proofs.Questions.{setup-from}
 use Rattle.timestamp.specs.Views.{stampOf}
 use Rattle.setup.specs.Views.{setupOf}
 use Rattle.trace.specs.Views.{nodeSetupOf}
@@ -13,7 +12,7 @@ use Rattle.trace.specs.Replay.{callOf}
 use Rattle.replay.specs.declared.playing.Played.{Played}
 use Rattle.replay.specs.Playing.{resultOf}
 use Rattle.replay.proofs.Fits.{Figured}
-use Rattle.replay.proofs.Turns.{call-is, turn-cut, turn-refused, turn-played}
+use Rattle.replay.proofs.Turns.{call-is, turn-cut, turn-refused, turn-given, turn-played}
 use Rattle.replay.proofs.playing.play.Statement.{statement}
 use Rattle.replay.proofs.playing.play.Tie as tie
 
@@ -91,8 +90,10 @@ slice-aggregate-put-lines c = search needs
 
 put-lines-requires : tie.Need-put-lines-requires
 put-lines-requires c κs =
-    let at-start = start (c .before .before .before .before .before .before .before .before .before .before .before) in
-    setup-from (setupOf (at-start .args .node .setup)) (at-start .args .node .own) (at-start .pre .ready .valid) .0 .epsilon-most
+    let called = c .before .before .before .before .before .before .before .before .before .before .before in
+    let at = start called in
+    turn-given (nodeSetupOf (at .args .node)) (stampOf (at .args .tables)) (at .args .holdback .now) (at .args .bytes .now) (at .args .text .now) _
+    (reading called .read-call .result .clock) (at .pre .ready) (same called) (c .before .before .before .if2 .left) (reading called .read-call .ensures .1 .0)
 
 same-length-2 : tie.Need-same-length-2
 same-length-2 c = search needs

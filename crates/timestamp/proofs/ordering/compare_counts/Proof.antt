@@ -1,20 +1,19 @@
--- `timestamp::ordering::compare_counts` meets its contract: the loop's invariant: the order of all the counts is that of those from place k on.
+-- `timestamp::ordering::compare_counts` meets its contract: the loop's invariant: all the counts compare as those from place k on.
 -- Assumes nothing.
 use Prim.Native.Nat.{_-_, _≤_}
 use mathlib.Core.Path.{_≡_, refl, sym, ap, _∙_}
 use native.Mathlib.Omega.{arith}
 use lib.ListN.{drop}
-use Rattle.laws.specs.Lex.{lexCompare}
-use Rattle.timestamp.specs.Ranks.{orderOf, newestCounts}
-use Rattle.timestamp.proofs.Ordered.{counts-none, counts-first, counts-after, counts-next}
+use Rattle.timestamp.specs.Ranks.{compareCounts, newestCounts}
+use Rattle.timestamp.proofs.Ordered.{counts-none, counts-first, counts-second, counts-next}
 use Rattle.timestamp.proofs.ordering.compare_counts.Statement.{statement}
 use Rattle.timestamp.proofs.ordering.compare_counts.Tie as tie
 
 abbrev Inv-loop : tie.InvT-loop
 Inv-loop epsilon a ca b cb k₀ k =
     (k ≤ epsilon)
-    × (lexCompare (newestCounts epsilon ca a) (newestCounts epsilon cb b)
-    ≡ lexCompare (drop k (newestCounts epsilon ca a)) (drop k (newestCounts epsilon cb b)))
+    × (compareCounts 0 (newestCounts epsilon ca a) (newestCounts epsilon cb b)
+    ≡ compareCounts k (drop k (newestCounts epsilon ca a)) (drop k (newestCounts epsilon cb b)))
 
 abbrev μ-loop : tie.MeasureT-loop
 μ-loop epsilon a ca b cb k₀ k = epsilon - k
@@ -54,13 +53,13 @@ loop-again c = (
 )
 
 returns : tie.Need-returns Inv-loop μ-loop
-returns c = ap orderOf (sym (c .before .loop .inv .1 ∙ counts-none _ _ _ _ _ _ (c .if1 .taken)))
+returns c = sym (c .before .loop .inv .1 ∙ counts-none _ _ _ _ _ _ (c .if1 .taken))
 
 returns-2 : tie.Need-returns-2 Inv-loop μ-loop
-returns-2 c = ap orderOf (sym (c .before .before .before .before .loop .inv .1 ∙ counts-first _ _ _ _ _ _ (c .before .before .before .if1 .left) (c .if2 .taken)))
+returns-2 c = sym (c .before .before .before .before .loop .inv .1 ∙ counts-first _ _ _ _ _ _ (c .before .before .before .if1 .left) (c .if2 .taken))
 
 returns-3 : tie.Need-returns-3 Inv-loop μ-loop
-returns-3 c = ap orderOf (sym (c .before .before .before .before .before .loop .inv .1 ∙ counts-after _ _ _ _ _ _ (c .before .before .before .before .if1 .left) (c .if3 .taken)))
+returns-3 c = sym (c .before .before .before .before .before .loop .inv .1 ∙ counts-second _ _ _ _ _ _ (c .before .before .before .before .if1 .left) (c .if3 .taken))
 
 pub compare-counts-spec : {M : Type 1} → statement M
 compare-counts-spec =

@@ -1,4 +1,4 @@
--- `timestamp::ordering::compare_ranked` meets its contract: each answer that is not `Same` decides, and the one that stands last.
+-- `timestamp::ordering::compare_ranked` meets its contract: each answer that is not `Alike` decides, and the one that stands last.
 -- Assumes nothing.
 use mathlib.Core.Path.{refl}
 use denote.Enum.Declared
@@ -10,10 +10,10 @@ use Rattle.timestamp.proofs.ordering.compare_ranked.Tie as tie
 abbrev tags : Tags
 tags =
     record {
-      tag = Declared.tagOf Rattle.timestamp.proofs.ordering.Order.the-type;
-      at-first = refl;
-      at-same = refl;
-      at-after = refl;
+      tag = Declared.tagOf Rattle.timestamp.proofs.ordering.Comparison.the-type;
+      at-first = λ _. refl;
+      at-second = λ _. refl;
+      at-alike = refl;
     }
 
 add-compare-numbers : tie.Need-add-compare-numbers
@@ -32,7 +32,7 @@ returns : tie.Need-returns
 returns c =
     let s = c .before .before .before .before .before .before .args in
     by-sums tags (s .epsilon) (s .f) (s .g) (s .kf .now) (s .kg .now)
-    _ (c .before .compare-numbers .ensures) (c .match .keys2)
+    (c .before .compare-numbers .result) (c .before .compare-numbers .ensures) (c .match .keys2)
 
 compare-counts-requires : tie.Need-compare-counts-requires
 compare-counts-requires c κs = search needs
@@ -44,8 +44,8 @@ returns-2 : tie.Need-returns-2
 returns-2 c =
     let s = c .before .before .before .before .before .before .before .before .before .args in
     by-counts tags (s .epsilon) (s .f) (s .g) (s .kf .now) (s .kg .now)
-    _ (c .before .before .before .before .compare-numbers .ensures) (c .before .before .before .match .keys1)
-    _ (c .before .compare-counts .ensures) (c .match2 .keys2)
+    (c .before .before .before .before .compare-numbers .result) (c .before .before .before .before .compare-numbers .ensures) (c .before .before .before .match .keys1)
+    (c .before .compare-counts .result) (c .before .compare-counts .ensures) (c .match2 .keys2)
 
 compare-numbers-requires-2 : tie.Need-compare-numbers-requires-2
 compare-numbers-requires-2 c κs = search needs
@@ -57,9 +57,9 @@ returns-3 : tie.Need-returns-3
 returns-3 c =
     let s = c .before .before .before .before .before .before .before .before .before .before .before .before .args in
     by-stations tags (s .epsilon) (s .f) (s .g) (s .kf .now) (s .kg .now)
-    _ (c .before .before .before .before .before .before .before .compare-numbers .ensures) (c .before .before .before .before .before .before .match .keys1)
-    _ (c .before .before .before .before .compare-counts .ensures) (c .before .before .before .match2 .keys1)
-    _ (c .before .compare-numbers2 .ensures) (c .match3 .keys2)
+    (c .before .before .before .before .before .before .before .compare-numbers .result) (c .before .before .before .before .before .before .before .compare-numbers .ensures) (c .before .before .before .before .before .before .match .keys1)
+    (c .before .before .before .before .compare-counts .result) (c .before .before .before .before .compare-counts .ensures) (c .before .before .before .match2 .keys1)
+    (c .before .compare-numbers2 .result) (c .before .compare-numbers2 .ensures) (c .match3 .keys2)
 
 compare-numbers-requires-3 : tie.Need-compare-numbers-requires-3
 compare-numbers-requires-3 c κs = search needs
@@ -68,9 +68,9 @@ returns-4 : tie.Need-returns-4
 returns-4 c =
     let s = c .before .before .before .before .before .before .before .before .before .before .before .before .before .before .args in
     by-readings tags (s .epsilon) (s .f) (s .g) (s .kf .now) (s .kg .now)
-    _ (c .before .before .before .before .before .before .before .before .before .compare-numbers .ensures) (c .before .before .before .before .before .before .before .before .match .keys1)
-    _ (c .before .before .before .before .before .before .compare-counts .ensures) (c .before .before .before .before .before .match2 .keys1)
-    _ _ (c .before .before .before .compare-numbers2 .ensures) (c .before .before .match3 .keys1) (c .compare-numbers3 .ensures)
+    (c .before .before .before .before .before .before .before .before .before .compare-numbers .result) (c .before .before .before .before .before .before .before .before .before .compare-numbers .ensures) (c .before .before .before .before .before .before .before .before .match .keys1)
+    (c .before .before .before .before .before .before .compare-counts .result) (c .before .before .before .before .before .before .compare-counts .ensures) (c .before .before .before .before .before .match2 .keys1)
+    (c .before .before .before .compare-numbers2 .result) (c .compare-numbers3 .result) (c .before .before .before .compare-numbers2 .ensures) (c .before .before .match3 .keys1) (c .compare-numbers3 .ensures)
 
 pub compare-ranked-spec : {M : Type 1} → statement M
 compare-ranked-spec =

@@ -1,7 +1,8 @@
 -- `trace::parts::put_tail` meets its contract. Assumes nothing.
 use mathlib.Core.List.{_++_}
-use Rattle.text.specs.Text.{space, newline}
-use Rattle.trace.specs.Text.{payloadTail, payloadText}
+use Rattle.timestamp.specs.Ranks.{comparisonOf}
+use Rattle.text.specs.Text.{space}
+use Rattle.trace.specs.Text.{payloadTail, payloadText, reasonTail}
 use Rattle.text.proofs.Putting.{ahead, ahead-first, ahead-next}
 use borrow.Author.Needs.{needs}
 use Rattle.trace.proofs.parts.put_tail.Statement.{statement}
@@ -12,29 +13,19 @@ slice-aggregate-put-word c = search needs
 
 put-word-requires : tie.Need-put-word-requires
 unfolding payloadTail
-put-word-requires c κs =
-    let args = c .before .before .before .before .args in
-    let s0 = ahead (args .buf .now) (args .at) (payloadTail (args .payload .now)) (c .before .before .before .before .pre) in
-    ahead-first (space) (payloadText (args .payload .now) ++ newline) s0
+put-word-requires c κs = ahead-first space (payloadText (c .before .before .before .before .args .payload .now) ++ reasonTail (comparisonOf (c .before .before .before .before .args .comparison) .reason)) (ahead (c .before .before .before .before .args .buf .now) (c .before .before .before .before .args .at) (payloadTail (c .before .before .before .before .args .payload .now) (comparisonOf (c .before .before .before .before .args .comparison) .reason)) (c .before .before .before .before .pre))
 
 put-payload-requires : tie.Need-put-payload-requires
 unfolding payloadTail
 put-payload-requires c κs =
-    let args = c .before .before .before .before .before .before .before .before .args in
-    let s0 = ahead (args .buf .now) (args .at) (payloadTail (args .payload .now)) (c .before .before .before .before .before .before .before .before .pre) in
-    let s1 = ahead-next (space) (payloadText (args .payload .now) ++ newline) s0 (c .before .before .before .put-word .ensures) in
-    ahead-first (payloadText (args .payload .now)) (newline) s1
+    let s1 = ahead-next space (payloadText (c .before .before .before .before .before .before .before .before .args .payload .now) ++ reasonTail (comparisonOf (c .before .before .before .before .before .before .before .before .args .comparison) .reason)) (ahead (c .before .before .before .before .before .before .before .before .args .buf .now) (c .before .before .before .before .before .before .before .before .args .at) (payloadTail (c .before .before .before .before .before .before .before .before .args .payload .now) (comparisonOf (c .before .before .before .before .before .before .before .before .args .comparison) .reason)) (c .before .before .before .before .before .before .before .before .pre)) (c .before .before .before .put-word .ensures) in
+    ahead-first (payloadText (c .before .before .before .before .before .before .before .before .args .payload .now)) (reasonTail (comparisonOf (c .before .before .before .before .before .before .before .before .args .comparison) .reason)) s1
 
-slice-aggregate-put-word-2 : tie.Need-slice-aggregate-put-word-2
-slice-aggregate-put-word-2 c = search needs
-
-put-word-requires-2 : tie.Need-put-word-requires-2
+put-ending-requires : tie.Need-put-ending-requires
 unfolding payloadTail
-put-word-requires-2 c κs =
-    let args = c .before .before .before .before .before .before .before .before .before .before .before .before .before .args in
-    let s0 = ahead (args .buf .now) (args .at) (payloadTail (args .payload .now)) (c .before .before .before .before .before .before .before .before .before .before .before .before .before .pre) in
-    let s1 = ahead-next (space) (payloadText (args .payload .now) ++ newline) s0 (c .before .before .before .before .before .before .before .before .put-word .ensures) in
-    ahead-next (payloadText (args .payload .now)) (newline) s1 (c .before .before .before .before .put-payload .ensures) .room
+put-ending-requires c κs =
+    let s1 = ahead-next space (payloadText (c .before .before .before .before .before .before .before .before .before .before .before .before .args .payload .now) ++ reasonTail (comparisonOf (c .before .before .before .before .before .before .before .before .before .before .before .before .args .comparison) .reason)) (ahead (c .before .before .before .before .before .before .before .before .before .before .before .before .args .buf .now) (c .before .before .before .before .before .before .before .before .before .before .before .before .args .at) (payloadTail (c .before .before .before .before .before .before .before .before .before .before .before .before .args .payload .now) (comparisonOf (c .before .before .before .before .before .before .before .before .before .before .before .before .args .comparison) .reason)) (c .before .before .before .before .before .before .before .before .before .before .before .before .pre)) (c .before .before .before .before .before .before .before .put-word .ensures) in
+    ahead-next (payloadText (c .before .before .before .before .before .before .before .before .before .before .before .before .args .payload .now)) (reasonTail (comparisonOf (c .before .before .before .before .before .before .before .before .before .before .before .before .args .comparison) .reason)) s1 (c .before .before .before .put-payload .ensures) .room
 
 same-length : tie.Need-same-length
 same-length c = search needs
@@ -42,10 +33,8 @@ same-length c = search needs
 returns : tie.Need-returns
 unfolding payloadTail
 returns c =
-    let args = c .before .before .before .before .before .before .before .before .before .before .before .before .before .before .before .before .args in
-    let s0 = ahead (args .buf .now) (args .at) (payloadTail (args .payload .now)) (c .before .before .before .before .before .before .before .before .before .before .before .before .before .before .before .before .pre) in
-    let s1 = ahead-next (space) (payloadText (args .payload .now) ++ newline) s0 (c .before .before .before .before .before .before .before .before .before .before .before .put-word .ensures) in
-    ahead-next (payloadText (args .payload .now)) (newline) s1 (c .before .before .before .before .before .before .before .put-payload .ensures) .done (c .before .before .put-word2 .ensures)
+    let s1 = ahead-next space (payloadText (c .before .before .before .before .before .before .before .before .before .before .before .before .before .before .before .args .payload .now) ++ reasonTail (comparisonOf (c .before .before .before .before .before .before .before .before .before .before .before .before .before .before .before .args .comparison) .reason)) (ahead (c .before .before .before .before .before .before .before .before .before .before .before .before .before .before .before .args .buf .now) (c .before .before .before .before .before .before .before .before .before .before .before .before .before .before .before .args .at) (payloadTail (c .before .before .before .before .before .before .before .before .before .before .before .before .before .before .before .args .payload .now) (comparisonOf (c .before .before .before .before .before .before .before .before .before .before .before .before .before .before .before .args .comparison) .reason)) (c .before .before .before .before .before .before .before .before .before .before .before .before .before .before .before .pre)) (c .before .before .before .before .before .before .before .before .before .before .put-word .ensures) in
+    ahead-next (payloadText (c .before .before .before .before .before .before .before .before .before .before .before .before .before .before .before .args .payload .now)) (reasonTail (comparisonOf (c .before .before .before .before .before .before .before .before .before .before .before .before .before .before .before .args .comparison) .reason)) s1 (c .before .before .before .before .before .before .put-payload .ensures) .done (c .before .before .put-ending .ensures)
 
 pub put-tail-spec : {M : Type 1} → statement M
 put-tail-spec =
@@ -54,7 +43,6 @@ put-tail-spec =
     slice-aggregate-put-word
     put-word-requires
     put-payload-requires
-    slice-aggregate-put-word-2
-    put-word-requires-2
+    put-ending-requires
     same-length
     returns)
