@@ -180,7 +180,7 @@ pub fn tick<F: Forms>(call: &mut Call) -> u64 {
 
 /// Checks 1 to 6.
 fn check(call: &Call) -> u8 {
-    let number = check_shelf(call.setup, call.clock, call.holdback);
+    let number = check_holdback(call.setup, call.clock, call.holdback);
     let longest = 39 + 2 * call.setup[1] as usize;
     let short = |size: usize| {
         call.outgoing.len() < longest || call.verdicts.len() < 255 || call.delivery.len() < size
@@ -195,7 +195,7 @@ fn check(call: &Call) -> u8 {
 }
 
 /// Checks 1 to 3.
-fn check_shelf(setup: [u32; 5], clock: u32, holdback: &[u8]) -> u8 {
+fn check_holdback(setup: [u32; 5], clock: u32, holdback: &[u8]) -> u8 {
     let [n, epsilon, delta, modulus, own] = setup;
     let limits = (1..=16).contains(&n) && (1..=16).contains(&epsilon) && delta <= 64 && own < n;
     if !limits || modulus > 65_535 || modulus < 6 * epsilon + delta + 1 {

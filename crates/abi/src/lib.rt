@@ -198,9 +198,9 @@ pub extern "C" fn yarngravel_poll(
     own: u32,
     clock: u32,
     within: u16,
-    shelf: &[u8],
+    holdback: &[u8],
 ) -> u64
-    ensures { λ r. ⌜ r ≡ pollWord (poll (setupBy n epsilon delta modulus) own clock within (now (shelf .entry))) ⌝ }
+    ensures { λ r. ⌜ r ≡ pollWord (poll (setupBy n epsilon delta modulus) own clock within (now (holdback .entry))) ⌝ }
 {
     let setup = Setup {
         n,
@@ -208,6 +208,6 @@ pub extern "C" fn yarngravel_poll(
         delta,
         modulus,
     };
-    let polled = polling::poll(setup, own, clock as usize, within, shelf);
+    let polled = polling::poll(setup, own, clock as usize, within, holdback);
     pack_polled(polled)
 }

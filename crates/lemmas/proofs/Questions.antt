@@ -13,7 +13,7 @@ use Rattle.laws.proofs.Numbers.{and-left, and-right, and-intro, within-low, wit
 use Rattle.model.specs.Setup.{Setup, inLimits, isMember, leastModulus}
 use Rattle.model.specs.Frame.{decode}
 use Rattle.model.specs.Question.{Question, ask, firstNo}
-use Rattle.model.specs.Tick.{holdbackSize, shelfQuestions}
+use Rattle.model.specs.Tick.{holdbackSize, holdbackQuestions}
 use Rattle.model.specs.Codec.{readQuestions, readBy, read}
 use Rattle.lemmas.proofs.Bounds.{Limits}
 
@@ -68,7 +68,7 @@ front-append (q ∷ qs) rs e = go (q .holds) (λ f. front-append qs rs f) e
     go false rest f = f
 
 -- questions 2 and 3
-pub shelf-passed : (s : Setup) (v : ℕ) (holdback : List ℕ) → firstNo (shelfQuestions s v holdback) ≡ 0 → (v < s .modulus) × (length holdback ≡ holdbackSize s)
+pub shelf-passed : (s : Setup) (v : ℕ) (holdback : List ℕ) → firstNo (holdbackQuestions s v holdback) ≡ 0 → (v < s .modulus) × (length holdback ≡ holdbackSize s)
 shelf-passed s v holdback e =
     let e₂ = other-yes (ltb v (s .modulus)) 1 _ e in (
       ltb-true v (s .modulus) (first-yes (ltb v (s .modulus)) 1 _ e),

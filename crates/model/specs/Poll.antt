@@ -10,11 +10,11 @@ use Rattle.model.specs.Setup.{Setup}
 use Rattle.model.specs.Frame.{Frame}
 use Rattle.model.specs.Order.{dueNear, clockAt}
 use Rattle.model.specs.Question.{Question, firstNo, askSetup}
-use Rattle.model.specs.Tick.{openingQueue, shelfQuestions}
+use Rattle.model.specs.Tick.{openingQueue, holdbackQuestions}
 
 -- 02: "checks 1 to 3"
 unfoldable pub pollQuestions : Setup → ℕ → ℕ → List ℕ → List Question
-pollQuestions s own v holdback = askSetup s own ∷ shelfQuestions s v holdback
+pollQuestions s own v holdback = askSetup s own ∷ holdbackQuestions s v holdback
 
 -- 02: "the shelf is judged for the last tick's clock v, every due clock past v; an unsound one answers as an empty one"
 unfoldable pub polledQueue : Setup → ℕ → List ℕ → List Frame

@@ -70,14 +70,14 @@ roomy i =
     && leb (holdbackSize (i .setup)) (length (i .delivery)))
 
 -- 01, 2: "Is the clock below B?", and 3: "Has the shelf its exact length?"
-abbrev pub shelfQuestions : Setup → ℕ → List ℕ → List Question
-shelfQuestions s v holdback = ask (ltb v (s .modulus)) 2 ∷ ask (eqb (length holdback) (holdbackSize s)) 3 ∷ []
+abbrev pub holdbackQuestions : Setup → ℕ → List ℕ → List Question
+holdbackQuestions s v holdback = ask (ltb v (s .modulus)) 2 ∷ ask (eqb (length holdback) (holdbackSize s)) 3 ∷ []
 
 -- 01: "Of the call, in order": 1 to 6
 unfoldable pub callQuestions : Input → List Question
 callQuestions i =
     askSetup (i .setup) (i .own)
-    ∷ (shelfQuestions (i .setup) (i .clock) (i .holdback)
+    ∷ (holdbackQuestions (i .setup) (i .clock) (i .holdback)
     ++ (askPayload (i .payload) ∷ ask (exactBatch (i .batch)) 5 ∷ ask (roomy i) 6 ∷ []))
 
 -- 01: "the answer is that number and the tables as given, all else 0, and all buffers keep their contents"

@@ -11,7 +11,7 @@ use Rattle.model.specs.Setup.{inLimits, isMember, longestPayload, longestFrame,
 use Rattle.model.specs.Batch.{exactBatch}
 use Rattle.model.specs.Question.{Question, ask, firstNo, askSetup}
 use Rattle.model.specs.Codec.{askPayload}
-use Rattle.model.specs.Tick.{Input, holdbackSize, roomy, shelfQuestions, callQuestions}
+use Rattle.model.specs.Tick.{Input, holdbackSize, roomy, holdbackQuestions, callQuestions}
 use Rattle.lemmas.proofs.Questions.{yes-cons, no-cons, yes-append, no-append}
 
 module _ (i : Input) where
@@ -27,7 +27,7 @@ module _ (i : Input) where
 
   -- questions 2 and 3
   abbrev shelf : List Question
-  shelf = shelfQuestions (i .setup) (i .clock) (i .holdback)
+  shelf = holdbackQuestions (i .setup) (i .clock) (i .holdback)
 
   -- what question 1 asks
   abbrev valid : Bool

@@ -2,7 +2,7 @@
 use setup::LONGEST_PAYLOAD;
 use setup::Setup;
 use setup::VERDICT_LENGTH;
-use setup::check_shelf;
+use setup::check_holdback;
 use setup::longest_frame;
 use setup::valid_for;
 ghost use mathlib.Core.Path.{_≡_};
@@ -31,7 +31,7 @@ pub fn check_call(
     if !valid_for(setup, own) {
         return 1;
     }
-    let number = check_shelf(setup, clock, holdback);
+    let number = check_holdback(setup, clock, holdback);
     if number != 0 {
         return number;
     }

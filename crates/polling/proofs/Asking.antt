@@ -17,7 +17,7 @@ use Rattle.model.specs.Frame.{Frame, twoAt}
 use Rattle.model.specs.Order.{clockAt}
 use Rattle.model.specs.Question.{ask, firstNo, askSetup}
 use Rattle.model.specs.Holdback.{held, soundHoldback}
-use Rattle.model.specs.Tick.{holdbackSize, shelfQuestions, openingQueue}
+use Rattle.model.specs.Tick.{holdbackSize, holdbackQuestions, openingQueue}
 use Rattle.model.specs.Poll.{pollQuestions, polledQueue, soonestDue, nextDue, dueWithin, numberWithin, pollBy, poll}
 use Rattle.lemmas.proofs.Bounds.{Limits}
 use Rattle.lemmas.proofs.Questions.{limits-from, first-yes, other-yes, yes-cons, no-cons, shelf-passed}
@@ -31,11 +31,11 @@ module _ (s : Setup) (own v : ℕ) (shelf : List ℕ) where
 
   pub setup-no : valid ≡ false → 1 ≡ firstNo (pollQuestions s own v shelf)
   unfolding pollQuestions askSetup
-  setup-no h = sym (no-cons valid 1 (shelfQuestions s v shelf) h)
+  setup-no h = sym (no-cons valid 1 (holdbackQuestions s v shelf) h)
 
-  pub shelf-asked : valid ≡ true → firstNo (shelfQuestions s v shelf) ≡ firstNo (pollQuestions s own v shelf)
+  pub shelf-asked : valid ≡ true → firstNo (holdbackQuestions s v shelf) ≡ firstNo (pollQuestions s own v shelf)
   unfolding pollQuestions askSetup
-  shelf-asked h = sym (yes-cons valid 1 (shelfQuestions s v shelf) h)
+  shelf-asked h = sym (yes-cons valid 1 (holdbackQuestions s v shelf) h)
 
   pub questions-passed : valid ≡ true → v < s .modulus → length shelf ≡ holdbackSize s → 0 ≡ firstNo (pollQuestions s own v shelf)
   unfolding firstNo
@@ -53,8 +53,8 @@ module _ (s : Setup) (own v : ℕ) (shelf : List ℕ) where
   pub all-passed : firstNo (pollQuestions s own v shelf) ≡ 0 → Passed
   unfolding pollQuestions askSetup
   all-passed e =
-      let rest = shelf-passed s v shelf (other-yes valid 0 (shelfQuestions s v shelf) e) in
-      record { limits = and-left (inLimits s) (isMember s own) (first-yes valid 0 (shelfQuestions s v shelf) e); below = rest .0; size = rest .1 }
+      let rest = shelf-passed s v shelf (other-yes valid 0 (holdbackQuestions s v shelf) e) in
+      record { limits = and-left (inLimits s) (isMember s own) (first-yes valid 0 (holdbackQuestions s v shelf) e); below = rest .0; size = rest .1 }
 
   pub size-two : length shelf ≡ holdbackSize s → 2 ≤ length shelf
   unfolding holdbackLength

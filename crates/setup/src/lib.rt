@@ -9,4 +9,4 @@ pub use limits::depth;
 pub use limits::holdback_length;
 pub use limits::longest_frame;
 pub use limits::valid_for;
-pub use questions::check_shelf;
+pub use questions::check_holdback;

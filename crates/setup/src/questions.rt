@@ -5,13 +5,13 @@ ghost use mathlib.Core.Path.{_≡_};
 ghost use mathlib.Core.Bool.{true};
 ghost use Rattle.model.specs.Setup.{inLimits};
 ghost use Rattle.model.specs.Question.{firstNo};
-ghost use Rattle.model.specs.Tick.{shelfQuestions};
+ghost use Rattle.model.specs.Tick.{holdbackQuestions};
 ghost use Rattle.setup.specs.Views.{setupOf};
 
 // 01, checks 2 and 3: "Is the clock below B?", "Has the shelf its exact length?" The number of the first no, or 0.
-pub fn check_shelf(s: Setup, clock: usize, holdback: &[u8]) -> u8
+pub fn check_holdback(s: Setup, clock: usize, holdback: &[u8]) -> u8
     requires { ⌜ inLimits (setupOf s) ≡ true ⌝ }
-    ensures { λ r. ⌜ r ≡ firstNo (shelfQuestions (setupOf s) clock (now (holdback .entry))) ⌝ }
+    ensures { λ r. ⌜ r ≡ firstNo (holdbackQuestions (setupOf s) clock (now (holdback .entry))) ⌝ }
 {
     if s.modulus as usize <= clock {
         return 2;

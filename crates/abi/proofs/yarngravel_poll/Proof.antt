@@ -16,7 +16,7 @@ pack-polled-requires : tie.Need-pack-polled-requires
 pack-polled-requires c κs =
     let a = c .before .before .args in
     subst (λ (x : PollAnswer). SmallNext (x .next) × (x .within < 65536)) (sym (c .poll .ensures))
-    (poll-small (setupBy (a .n) (a .epsilon) (a .delta) (a .modulus)) (a .own) (a .clock) (a .within) (a .shelf .now))
+    (poll-small (setupBy (a .n) (a .epsilon) (a .delta) (a .modulus)) (a .own) (a .clock) (a .within) (a .holdback .now))
 
 returns : tie.Need-returns
 returns c = c .pack-polled .ensures ∙ ap pollWord (c .before .poll .ensures)

@@ -9,7 +9,7 @@ use borrow.Author.Needs.{needs}
 use Rattle.model.specs.Setup.{inLimits, isMember, longestFrame}
 use Rattle.model.specs.Batch.{exactBatch}
 use Rattle.model.specs.Question.{firstNo}
-use Rattle.model.specs.Tick.{Input, holdbackSize, shelfQuestions}
+use Rattle.model.specs.Tick.{Input, holdbackSize, holdbackQuestions}
 use Rattle.lemmas.proofs.Bounds.{Limits}
 use Rattle.lemmas.proofs.Questions.{setup-from, limits-to, shelf-passed}
 use Rattle.setup.specs.Views.{setupOf}
@@ -30,8 +30,8 @@ valid c = sym (c .before .valid-for .ensures) ∙ not-false (c .before .valid-fo
 limits : (c : tie.Else1) → Limits (setupOf (c .before .before .before .before .before .before .before .before .args .setup))
 limits c = setup-from (setupOf (c .before .before .before .before .before .before .before .before .args .setup)) (c .before .before .before .before .before .before .before .before .args .own) (valid c) .0
 
-shelf-yes : (c : tie.Else2) → firstNo (shelfQuestions (setupOf (c .before .before .before .before .before .before .before .before .before .before .args .setup)) (c .before .before .before .before .before .before .before .before .before .before .args .clock) (c .before .before .before .before .before .before .before .before .before .before .args .holdback .now)) ≡ 0
-shelf-yes c = sym (c .before .check-shelf .ensures) ∙ c .if2 .left
+shelf-yes : (c : tie.Else2) → firstNo (holdbackQuestions (setupOf (c .before .before .before .before .before .before .before .before .before .before .args .setup)) (c .before .before .before .before .before .before .before .before .before .before .args .clock) (c .before .before .before .before .before .before .before .before .before .before .args .holdback .now)) ≡ 0
+shelf-yes c = sym (c .before .check-holdback .ensures) ∙ c .if2 .left
 
 sized : (c : tie.Else2) → length (c .before .before .before .before .before .before .before .before .before .before .args .holdback .now) ≡ holdbackSize (setupOf (c .before .before .before .before .before .before .before .before .before .before .args .setup))
 sized c = shelf-passed (setupOf (c .before .before .before .before .before .before .before .before .before .before .args .setup)) (c .before .before .before .before .before .before .before .before .before .before .args .clock) (c .before .before .before .before .before .before .before .before .before .before .args .holdback .now) (shelf-yes c) .1
@@ -48,11 +48,11 @@ valid-for-requires c κs = search needs
 returns : tie.Need-returns
 returns c = λ tables send. setup-no (input (c .before .before .before .before .before .before .before .before) tables send) (sym (c .before .valid-for .ensures) ∙ not-true (c .before .valid-for .result) (c .if1 .taken))
 
-check-shelf-requires : tie.Need-check-shelf-requires
-check-shelf-requires c κs = limits-to (setupOf (c .before .before .before .before .before .before .before .before .args .setup)) (limits c)
+check-holdback-requires : tie.Need-check-holdback-requires
+check-holdback-requires c κs = limits-to (setupOf (c .before .before .before .before .before .before .before .before .args .setup)) (limits c)
 
 returns-2 : tie.Need-returns-2
-returns-2 c = λ tables send. shelf-no (input (c .before .before .before .before .before .before .before .before .before .before) tables send) (valid (c .before .before)) (c .before .check-shelf .result) (c .before .check-shelf .ensures) (c .if2 .taken)
+returns-2 c = λ tables send. shelf-no (input (c .before .before .before .before .before .before .before .before .before .before) tables send) (valid (c .before .before)) (c .before .check-holdback .result) (c .before .check-holdback .ensures) (c .if2 .taken)
 
 returns-3 : tie.Need-returns-3
 returns-3 c = λ tables send. payload-no (input (c .before .before .before .before .before .before .before .before .before .before .before) tables send) (valid (c .before .before .before)) (shelf-yes (c .before)) (c .if3 .taken)
@@ -96,7 +96,7 @@ check-call-spec =
     (tie.spec
     valid-for-requires
     returns
-    check-shelf-requires
+    check-holdback-requires
     returns-2
     returns-3
     exact-requires

@@ -20,15 +20,15 @@ valid-for-requires c κs = search needs
 returns : tie.Need-returns
 returns c =
     let a = c .before .before .before .args in
-    setup-no (setupOf (a .setup)) (a .own) (a .clock) (a .shelf .now) (sym (c .before .valid-for .ensures) ∙ not-true (c .before .valid-for .result) (c .if1 .taken))
+    setup-no (setupOf (a .setup)) (a .own) (a .clock) (a .holdback .now) (sym (c .before .valid-for .ensures) ∙ not-true (c .before .valid-for .result) (c .if1 .taken))
 
-check-shelf-requires : tie.Need-check-shelf-requires
-check-shelf-requires c κs = and-left (inLimits (setupOf (c .before .before .before .args .setup))) _ (right c)
+check-holdback-requires : tie.Need-check-holdback-requires
+check-holdback-requires c κs = and-left (inLimits (setupOf (c .before .before .before .args .setup))) _ (right c)
 
 returns-2 : tie.Need-returns-2
 returns-2 c =
     let a = c .before .before .before .before .args in
-    c .check-shelf .ensures ∙ shelf-asked (setupOf (a .setup)) (a .own) (a .clock) (a .shelf .now) (right (c .before))
+    c .check-holdback .ensures ∙ shelf-asked (setupOf (a .setup)) (a .own) (a .clock) (a .holdback .now) (right (c .before))
 
 pub check-poll-spec : {M : Type 1} → statement M
-check-poll-spec = tie.close (tie.spec valid-for-requires returns check-shelf-requires returns-2)
+check-poll-spec = tie.close (tie.spec valid-for-requires returns check-holdback-requires returns-2)

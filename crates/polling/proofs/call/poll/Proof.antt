@@ -16,20 +16,20 @@ returns : tie.Need-returns
 returns c =
     let a = c .before .before .before .before .args in
     let asked = c .before .before .check-poll in
-    c .nothing .ensures ∙ poll-refused (setupOf (a .setup)) (a .own) (a .clock) (a .shelf .now) (a .d) (asked .result) (asked .ensures) (c .before .if1 .taken)
+    c .nothing .ensures ∙ poll-refused (setupOf (a .setup)) (a .own) (a .clock) (a .holdback .now) (a .d) (asked .result) (asked .ensures) (c .before .if1 .taken)
 
-ask-shelf-requires : tie.Need-ask-shelf-requires
-ask-shelf-requires c κs =
+ask-queue-requires : tie.Need-ask-queue-requires
+ask-queue-requires c κs =
     let a = c .before .before .before .args in
-    let p = all-passed (setupOf (a .setup)) (a .own) (a .clock) (a .shelf .now) (sym (c .before .check-poll .ensures) ∙ c .if1 .left) in
-    ((p .limits, (p .below, search needs)), size-two (setupOf (a .setup)) (a .own) (a .clock) (a .shelf .now) (p .size))
+    let p = all-passed (setupOf (a .setup)) (a .own) (a .clock) (a .holdback .now) (sym (c .before .check-poll .ensures) ∙ c .if1 .left) in
+    ((p .limits, (p .below, search needs)), size-two (setupOf (a .setup)) (a .own) (a .clock) (a .holdback .now) (p .size))
 
 returns-2 : tie.Need-returns-2
 returns-2 c =
     let a = c .before .before .before .before .args in
-    c .ask-shelf .ensures
-    ∙ poll-accepted (setupOf (a .setup)) (a .own) (a .clock) (a .shelf .now) (a .d) (sym (c .before .if1 .left) ∙ c .before .before .check-poll .ensures)
+    c .ask-queue .ensures
+    ∙ poll-accepted (setupOf (a .setup)) (a .own) (a .clock) (a .holdback .now) (a .d) (sym (c .before .if1 .left) ∙ c .before .before .check-poll .ensures)
 
 pub poll-spec : {M : Type 1} → statement M
 poll-spec =
-    tie.close (tie.spec check-poll-requires nothing-requires returns ask-shelf-requires returns-2)
+    tie.close (tie.spec check-poll-requires nothing-requires returns ask-queue-requires returns-2)

@@ -19,10 +19,10 @@ returns : tie.Need-returns
 returns c =
     let start = c .before .before .before in
     let s = setupOf (start .args .setup) in
-    let queue = held (s .epsilon) (start .args .shelf .now) in
+    let queue = held (s .epsilon) (start .args .holdback .now) in
     let number : c .due-prefix .result .index ≡ numberWithin s (start .args .clock) (start .args .d) queue =
     c .due-prefix .ensures .frames
-    ∙ number-leading s (start .args .clock) (start .args .d) queue (sound-ordered s (start .args .clock) (s .modulus) (start .args .shelf .now) (start .pre .1 .0)) in
+    ∙ number-leading s (start .args .clock) (start .args .d) queue (sound-ordered s (start .args .clock) (s .modulus) (start .args .holdback .now) (start .pre .1 .0)) in
     rw (c .before .next-due .ensures, number) refl
 
 pub tell-spec : {M : Type 1} → statement M

@@ -1,4 +1,4 @@
--- `polling::call::ask_shelf` meets its contract: the walk is the tick's, with every due clock past v. Assumes nothing.
+-- `polling::call::ask_queue` meets its contract: the walk is the tick's, with every due clock past v. Assumes nothing.
 use Prim.Native.Nat.{_+_}
 use native.Mathlib.Omega.{arith}
 use mathlib.Core.Path.{_≡_, _∙_, sym, ap}
@@ -10,8 +10,8 @@ use Rattle.model.specs.Poll.{pollBy}
 use Rattle.setup.specs.Views.{setupOf}
 use Rattle.holdback.proofs.Judging.{sound-lower}
 use Rattle.polling.proofs.Asking.{polled-unsound, polled-sound, polled-count}
-use Rattle.polling.proofs.call.ask_shelf.Statement.{statement}
-use Rattle.polling.proofs.call.ask_shelf.Tie as tie
+use Rattle.polling.proofs.call.ask_queue.Statement.{statement}
+use Rattle.polling.proofs.call.ask_queue.Tie as tie
 
 cast-least : tie.Need-cast-least
 cast-least c = search needs
@@ -38,11 +38,11 @@ returns c =
     let start = c .before .before .before .before .before .before .before .before .before .before in
     let walk = c .before .before .before .before .before .sound in
     c .nothing .ensures
-    ∙ polled-unsound (setupOf (start .args .setup)) (start .args .clock) (start .args .d) (start .args .shelf .now)
+    ∙ polled-unsound (setupOf (start .args .setup)) (start .args .clock) (start .args .d) (start .args .holdback .now)
     (sym (walk .ensures .sound-is) ∙ not-true (walk .result .sound) (c .before .if1 .taken))
 
 -- the walk has found it sound
-sound-walk : (c : tie.Else1) → soundHoldback (setupOf (c .before .before .before .before .before .before .before .before .before .args .setup)) (c .before .before .before .before .before .before .before .before .before .args .clock) (c .before .before .before .before .before .before .before .before .before .args .setup .modulus + 1) (c .before .before .before .before .before .before .before .before .before .args .shelf .now) ≡ true
+sound-walk : (c : tie.Else1) → soundHoldback (setupOf (c .before .before .before .before .before .before .before .before .before .args .setup)) (c .before .before .before .before .before .before .before .before .before .args .clock) (c .before .before .before .before .before .before .before .before .before .args .setup .modulus + 1) (c .before .before .before .before .before .before .before .before .before .args .holdback .now) ≡ true
 sound-walk c = sym (c .before .before .before .before .sound .ensures .sound-is) ∙ not-false (c .before .before .before .before .sound .result .sound) (c .if1 .left)
 
 tell-requires : tie.Need-tell-requires
@@ -52,8 +52,8 @@ tell-requires c κs =
     let sound = sound-walk c in (
       start .pre .0,
       (
-        sound-lower s (start .args .clock) (s .modulus + 1) (start .args .shelf .now) sound (s .modulus) (omega arith),
-        (start .pre .1, polled-count s (start .args .clock) (start .args .shelf .now) sound (c .before .before .before .before .sound .ensures .count-is)),
+        sound-lower s (start .args .clock) (s .modulus + 1) (start .args .holdback .now) sound (s .modulus) (omega arith),
+        (start .pre .1, polled-count s (start .args .clock) (start .args .holdback .now) sound (c .before .before .before .before .sound .ensures .count-is)),
       ),
     )
 
@@ -61,10 +61,10 @@ returns-2 : tie.Need-returns-2
 returns-2 c =
     let start = c .before .before .before .before .before .before .before .before .before .before in
     let s = setupOf (start .args .setup) in
-    c .tell .ensures ∙ ap (pollBy 0 s (start .args .clock) (start .args .d)) (sym (polled-sound s (start .args .clock) (start .args .shelf .now) (sound-walk (c .before))))
+    c .tell .ensures ∙ ap (pollBy 0 s (start .args .clock) (start .args .d)) (sym (polled-sound s (start .args .clock) (start .args .holdback .now) (sound-walk (c .before))))
 
-pub ask-shelf-spec : {M : Type 1} → statement M
-ask-shelf-spec =
+pub ask-queue-spec : {M : Type 1} → statement M
+ask-queue-spec =
     tie.close
     (tie.spec
     cast-least

@@ -1,4 +1,4 @@
--- `setup::questions::check_shelf` meets its contract: question by question. Assumes nothing.
+-- `setup::questions::check_holdback` meets its contract: question by question. Assumes nothing.
 use mathlib.Core.Path.{_≡_, sym, _∙_}
 use mathlib.Core.Bool.{Bool}
 use mathlib.Core.List.{[], _∷_}
@@ -11,8 +11,8 @@ use Rattle.lemmas.proofs.Questions.{limits-from, yes-cons, no-cons}
 use Rattle.model.specs.Question.{ask, firstNo}
 use Rattle.model.specs.Tick.{holdbackSize}
 use Rattle.setup.specs.Views.{setupOf}
-use Rattle.setup.proofs.questions.check_shelf.Statement.{statement}
-use Rattle.setup.proofs.questions.check_shelf.Tie as tie
+use Rattle.setup.proofs.questions.check_holdback.Statement.{statement}
+use Rattle.setup.proofs.questions.check_holdback.Tie as tie
 
 cast-if1 : tie.Need-cast-if1
 cast-if1 c = search needs
@@ -51,8 +51,8 @@ returns-3 c =
     sym (yes-cons (ltb (a .clock) (a .s .modulus)) 2 (ask sized 3 ∷ []) (lt-ltb (a .clock) (a .s .modulus) (c .before .before .before .before .before .if1 .left))
     ∙ yes-cons sized 3 [] (eq-eqb (length (a .holdback .now)) (holdbackSize (setupOf (a .s))) (c .if2 .left ∙ c .before .holdback-length .ensures)))
 
-pub check-shelf-spec : {M : Type 1} → statement M
-check-shelf-spec =
+pub check-holdback-spec : {M : Type 1} → statement M
+check-holdback-spec =
     tie.close
     (tie.spec
     cast-if1
