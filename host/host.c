@@ -1,9 +1,10 @@
 /* A yard of several stations in one process, over the library: each station has a clock within the drift limit, and a slow one is
  * nudged forward by several ticks now and then; the air loses, delays and repeats frames and carries junk, and in the middle a
  * power dip fills one station's memory with random bytes.
- * It prints each board's hand-outs, and of one station the words of what it hears. Then it checks of the messages sent after
- * recovery that every board shows each one that it took and that was due, in its first tick at or past the due clock, none of them
- * twice, and causes before effects, and that any two boards show those that both show in one order.
+ * It prints each board's hand-outs, and of one station the words of what it hears and the clock at which it shows next. Each tick
+ * must show what a poll before it foretold. Then it checks of the messages sent after recovery that every board shows each one that
+ * it took and that was due, in its first tick at or past the due clock, none of them twice, and causes before effects, and that any
+ * two boards show those that both show in one order.
  * Usage: host [SEED]. Exit status 0 where all holds. */
 #include <stdio.h>
 #include <stdlib.h>
@@ -55,6 +56,7 @@ struct bundle {
 static struct station stations[N];
 static struct message messages[MESSAGES];
 static unsigned message_count;
+static unsigned foretold; /* ticks that showed something that a poll had counted */
 static uint64_t seed;
 
 static uint32_t draw(uint32_t below) {
@@ -189,12 +191,50 @@ static void tell(int who, const struct bundle *b, const uint8_t *verdicts) {
     printf("board %d clock %d hears\n%.*s", who, stations[who].clock, (int)yarngravel_text_len(told), (const char *)text);
 }
 
+/* what the station's shelf says of so many ticks from its last one on */
+static uint64_t poll(int who, unsigned within) {
+    const struct station *s = &stations[who];
+    uint64_t answer = yarngravel_poll(N, EPSILON, DELTA, MODULUS, (uint32_t)who, (uint32_t)(s->clock % MODULUS),
+                                      (uint16_t)within, s->shelf, SHELF);
+    if (yarngravel_number(answer) != 0) fail("a poll was refused");
+    return answer;
+}
+
+/* how many ticks after a clock the next due clock of a poll at it lies; more than there can be where nothing is next */
+static int ticks_to_next(uint64_t polled, int clock) {
+    if (!yarngravel_has_next(polled)) return MODULUS;
+    return ((int)yarngravel_next(polled) + MODULUS - clock % MODULUS) % MODULUS;
+}
+
+/* A tick that mends nothing hands out what the poll of its step counted, and more only of what it took itself. If the next due
+ * clock is not past the tick's, there is something to hand out, and the first of it is due then. */
+static void check_poll(uint64_t polled, int last, int next, uint64_t answer, const uint8_t *first) {
+    unsigned within = yarngravel_within(polled), gave = yarngravel_gave(answer);
+    if (gave < within || gave > within + yarngravel_taken(answer)) fail("a tick shows other than a poll counted");
+    bool due = ticks_to_next(polled, last) <= next - last;
+    if (due != (within > 0)) fail("what a poll counts and what it says is next do not agree");
+    if (!due) return;
+    unsigned due_clock = first[2] + 256u * first[3] + first[5] + DELTA + EPSILON;
+    if (due_clock % MODULUS != yarngravel_next(polled)) fail("a tick does not start with what a poll said is next");
+    foretold++;
+}
+
+/* After a tick a poll of all ticks to come counts the whole shelf. Of one station it is printed when something shows next. */
+static void look_ahead(int who) {
+    const struct station *s = &stations[who];
+    uint64_t polled = poll(who, UINT16_MAX);
+    if (yarngravel_within(polled) != s->shelf[0] + 256u * s->shelf[1]) fail("a poll does not count what a tick left");
+    if (yarngravel_has_next(polled) && who == TOLD)
+        printf("board %d clock %d gives next at clock %d\n", who, s->clock, s->clock + ticks_to_next(polled, s->clock));
+}
+
 /* the station's clock steps to the next one */
 static void tick(int who, int next, bool junk) {
     static struct bundle heard;
     static uint8_t outgoing[FRAME], verdicts[YARNGRAVEL_VERDICTS], handout[SHELF];
     struct station *s = &stations[who];
     int last = s->clock;
+    uint64_t polled = poll(who, (unsigned)(next - last));
     gather(who, next, &heard, junk);
     bool send = draw(3) == 0 && message_count < MESSAGES;
     uint8_t ticket[2] = {(uint8_t)(message_count % 256), (uint8_t)(message_count / 256)};
@@ -204,10 +244,12 @@ static void tick(int who, int next, bool junk) {
     if (yarngravel_number(answer) != 0) fail("a tick was refused");
     s->clock = next;
     if (yarngravel_mend(answer) != 0) printf("board %d clock %d mend %u\n", who, s->clock, yarngravel_mend(answer));
+    else check_poll(polled, last, next, answer, handout + 2);
     if (who == TOLD) tell(who, &heard, verdicts);
     learn(s, &heard, verdicts);
     if (send) keep(who, outgoing, yarngravel_sent(answer));
     show(who, last, handout + 2, yarngravel_gave(answer));
+    look_ahead(who);
 }
 
 /* Lets the yard tick; the largest clock at the power dip. Junk is heard up to the last clock at which that is allowed. */
@@ -219,6 +261,7 @@ static int play(void) {
         if (dip < 0 && stations[who].clock >= DIP) {
             scramble(stations[who].tables, sizeof stations[who].tables);
             scramble(stations[who].shelf, sizeof stations[who].shelf);
+            if (yarngravel_has_next(poll(who, UINT16_MAX))) fail("a poll finds something on a scrambled shelf");
             dip = largest_clock();
             printf("power dip at board %d, largest clock %d\n", who, dip);
         }
@@ -309,7 +352,9 @@ int main(int argc, char **argv) {
         for (int b = 0; b < a; b++) shared += check_two(&stations[a], &stations[b]);
     }
     if (shared < 100 || causes < 100 || early < 20) fail("too few covered messages to compare");
+    if (foretold < 100) fail("too few ticks that a poll foretold something of");
     printf("boards agree: %u times two of them show one message, and %u times a cause before its effect; "
-           "%u times a message was due before the tick that shows it\n", shared, causes, early);
+           "%u times a message was due before the tick that shows it; %u times a poll foretold what a tick shows\n",
+           shared, causes, early, foretold);
     return 0;
 }

@@ -1,5 +1,5 @@
 /* The smallest host: two stations that hear each other, and themselves, without loss. Each board shows both tickets in one order,
- * and what put the second behind the first; of station 0 it also prints what became of each frame. */
+ * and what put the second behind the first; of station 0 it also prints what became of each frame, and when it shows next. */
 #include <stdio.h>
 #include <stdlib.h>
 #include <string.h>
@@ -61,6 +61,14 @@ static void tell(unsigned own, const struct station *s, const uint8_t *verdicts)
     printf("%.*s", (int)yarngravel_text_len(told), (const char *)text);
 }
 
+/* When the board shows something next, by a poll after the tick at the clock, and how many tickets in the next tick. */
+static void look_ahead(unsigned own, unsigned clock, const struct station *s) {
+    uint64_t polled = yarngravel_poll(N, EPSILON, DELTA, B, own, clock % B, 1, s->shelf, SHELF);
+    expect_accepted("poll", polled);
+    if (yarngravel_has_next(polled))
+        printf("board %u: next at clock %u, %u in the next tick\n", own, yarngravel_next(polled), yarngravel_within(polled));
+}
+
 int main(void) {
     static const char *const tickets[N] = {"bale 7", "dry"};
     static struct station yard[N];
@@ -79,6 +87,7 @@ int main(void) {
             expect_accepted("tick", answer);
             if (own == 0) tell(own, s, verdicts);
             show(own, clock, handout + 2, yarngravel_gave(answer));
+            if (own == 0) look_ahead(own, clock, s);
             s->bundle[0] = 0;
             s->bundle_len = 1;
             for (unsigned to = 0; to < N && yarngravel_sent(answer) > 0; to++) {

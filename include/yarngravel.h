@@ -95,6 +95,13 @@ static inline unsigned yarngravel_reason(uint64_t answer) { return (unsigned)(an
 /* that clock, modulo B; 0 where no count decided */
 static inline unsigned yarngravel_count_clock(uint64_t answer) { return (unsigned)(answer >> 32 & 0xffffu); }
 
+/* The fields of a poll's answer: whether something is next. */
+static inline bool yarngravel_has_next(uint64_t answer) { return answer >> 8 & 1u; }
+/* its due clock, modulo B; 0 where nothing is next */
+static inline unsigned yarngravel_next(uint64_t answer) { return (unsigned)(answer >> 16 & 0xffffu); }
+/* frames on the shelf that are due at most `within` ticks after the clock */
+static inline unsigned yarngravel_within(uint64_t answer) { return (unsigned)(answer >> 32 & 0xffffu); }
+
 /* One tick at the clock (modulo B): judges the frames of the bundle, sends if asked to, and hands out what is due. A frame is due
  * at its r + c + delta + epsilon; it is handed out in the station's first tick at or past that clock.
  *   clock     the station's clock modulo B, 1 to epsilon past that of its last accepted call: 1, or more where the clock was moved
@@ -162,6 +169,19 @@ uint64_t yarngravel_words(uint32_t n, uint32_t epsilon, uint32_t delta, uint32_t
  */
 uint64_t yarngravel_compare(uint32_t n, uint32_t epsilon, uint32_t delta, uint32_t modulus, uint32_t own, uint32_t clock,
                             const uint8_t *first, size_t first_len, const uint8_t *second, size_t second_len);
+
+/* Says when something shows next, and how many frames are due soon, of what is on the shelf; frames that are still to be heard are
+ * not in it. The shelf is judged as a tick judges it, with every due clock past the clock given; one that is not sound answers as
+ * an empty one: nothing next, 0 within. What an accepted tick left is sound at that tick's clock.
+ *   clock     that of the station's last accepted tick, modulo B
+ *   within    how many ticks ahead to count, 0 to 65535
+ *   shelf     only read; exactly YARNGRAVEL_SHELF bytes
+ * The next tick, k ticks later, hands out the frames that are due within k, and of those that it takes itself the ones due at its
+ * clock.
+ * Refusals: 1, 2, 3.
+ */
+uint64_t yarngravel_poll(uint32_t n, uint32_t epsilon, uint32_t delta, uint32_t modulus, uint32_t own, uint32_t clock,
+                         uint16_t within, const uint8_t *shelf, size_t shelf_len);
 
 #ifdef __cplusplus
 }

@@ -1,16 +1,16 @@
 //! The programs must leave the same bytes and give the same answer.
 
-use crate::programs::PROGRAMS;
+use crate::programs::Case;
 use oracle::abi;
-use oracle::generate::{self, spoil, Group, Habits, Prng, TickCase};
+use oracle::generate::{self, spoil, Group, Habits, PollCase, Prng};
 
 /// Makes a call with each program; the answer and what the call left. A difference ends the run.
-pub fn agree(case: &TickCase) -> (u64, TickCase) {
-    let [proved, oracle, twins @ ..] = PROGRAMS.map(|program| {
+pub fn agree<C: Case>(case: &C) -> (u64, C) {
+    let [proved, oracle, twins @ ..] = C::PROGRAMS.map(|program| {
         let mut case = case.clone();
         (program(&mut case), case)
     });
-    assert!(proved == oracle, "the proved tick and the oracle differ");
+    assert!(proved == oracle, "the proved library and the oracle differ");
     assert!(twins.iter().all(|twin| *twin == oracle), "a twin and the oracle differ");
     proved
 }
@@ -31,8 +31,10 @@ pub fn agree_on_random(count: usize) {
             agree(&wrong);
             agree(&case.stepped(&mut rng));
             let (word, case) = agree(&case);
+            agree(&PollCase::after(&mut rng, &case));
+            agree(&PollCase::random(&mut rng, &case));
             group.settle(node, case, &abi::unpack_tick(word));
-            done += 3;
+            done += 5;
         }
     }
 }

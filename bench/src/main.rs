@@ -1,5 +1,5 @@
-//! Times the tick: the proved library, the oracle and a twin tuned by hand, on the same calls in
-//! one run. First all must agree on every call, byte for byte, and on random ones.
+//! Times the tick and the poll: the proved library, the oracle and a twin tuned by hand, on the same
+//! calls in one run. First all must agree on every call, byte for byte, and on random ones.
 
 mod agreement;
 mod programs;
@@ -8,7 +8,7 @@ mod twin;
 mod workloads;
 mod yard;
 
-use programs::Each;
+use programs::{Case, Each};
 use workloads::Workload;
 
 /// How many random calls the programs must agree on.
@@ -21,18 +21,40 @@ fn main() {
         let (answer, _) = agreement::agree(case);
         assert!(answer & 0xffff == 0, "a workload's call is refused or mends");
     }
+    // The empty tick's shelves, as the ticks before left them.
+    let polls = [workloads::polls(&shelves[0][0]), workloads::polls(&shelves[1][0])];
+    for case in polls.iter().flat_map(|workload| &workload.cases) {
+        let (answer, _) = agreement::agree(case);
+        assert!(answer & 0xffff == 0x100, "a workload's poll is refused or finds nothing");
+    }
     agreement::agree_on_random(RANDOM);
     println!("all agree on the workloads' calls and on {RANDOM} random ones\n");
-    let times: Vec<Each> = table.iter().map(|workload| timing::measure([workload])[0]).collect();
-    print_table(&table, &times);
-    print_forms(&table, &times);
-    print_growth(&shelves[0], &shelves[1]);
+    let mut rows: Vec<Row> = table.iter().map(Row::of).collect();
+    rows.push(Row::of(&polls[1]));
+    print_table(&rows);
+    print_forms(&rows);
+    println!("\ngrowth              frames    proved    oracle      twin");
+    shelves[0].iter().zip(&shelves[1]).for_each(|(half, full)| print_growth(half, full));
+    print_growth(&polls[0], &polls[1]);
 }
 
-fn print_table(table: &[Workload], times: &[Each]) {
+/// A workload's times.
+struct Row {
+    name: &'static str,
+    frames: f64,
+    times: Each,
+}
+
+impl Row {
+    fn of<C: Case>(workload: &Workload<C>) -> Self {
+        let [times] = timing::measure([workload]);
+        Row { name: workload.name, frames: workload.frames(), times }
+    }
+}
+
+fn print_table(rows: &[Row]) {
     println!("ns a call      frames    proved    oracle      twin   proved/twin   proved/oracle");
-    for (workload, [proved, oracle, twin, ..]) in table.iter().zip(times) {
-        let (name, frames) = (workload.name, workload.frames());
+    for Row { name, frames, times: [proved, oracle, twin, ..] } in rows {
         print!("{name:<14}{frames:>7.0}{proved:>10.0}{oracle:>10.0}{twin:>10.0}");
         println!("{:>14.2}{:>16.2}", proved / twin, proved / oracle);
     }
@@ -40,24 +62,21 @@ fn print_table(table: &[Workload], times: &[Each]) {
 
 /// What the twin takes with the proved program's comparison, with its origins, with its way to hold counts to their limits and with
 /// all three, as ratios to the twin; and the proved program's ratio to the last.
-fn print_forms(table: &[Workload], times: &[Each]) {
+fn print_forms(rows: &[Row]) {
     println!(
         "\nto the twin    its comparison   its origins   its limits   all three   proved/all three"
     );
-    for (workload, [proved, _, twin, with @ ..]) in table.iter().zip(times) {
+    for Row { name, times: [proved, _, twin, with @ ..], .. } in rows {
         let [comparison, origins, limits, all] = with.map(|time| time / twin);
-        print!("{:<15}{comparison:>14.2}{origins:>14.2}{limits:>13.2}{all:>12.2}", workload.name);
+        print!("{name:<15}{comparison:>14.2}{origins:>14.2}{limits:>13.2}{all:>12.2}");
         println!("{:>19.2}", proved / with[3]);
     }
 }
 
 /// How much longer a call takes where the shelf has twice the frames or a little more.
-fn print_growth(half: &[Workload], full: &[Workload]) {
-    println!("\ngrowth              frames    proved    oracle      twin");
-    for (half, full) in half.iter().zip(full) {
-        let [before, after] = timing::measure([half, full]);
-        let [proved, oracle, twin] = [0, 1, 2].map(|i: usize| after[i] / before[i]);
-        let frames = full.frames() / half.frames();
-        println!("{:<15}{frames:>11.2}{proved:>10.2}{oracle:>10.2}{twin:>10.2}", full.name);
-    }
+fn print_growth<C: Case>(half: &Workload<C>, full: &Workload<C>) {
+    let [before, after] = timing::measure([half, full]);
+    let [proved, oracle, twin] = [0, 1, 2].map(|i: usize| after[i] / before[i]);
+    let frames = full.frames() / half.frames();
+    println!("{:<15}{frames:>11.2}{proved:>10.2}{oracle:>10.2}{twin:>10.2}", full.name);
 }

@@ -2,32 +2,71 @@
 
 use crate::twin::{self, Bits, Bytes, Forms, Loop, Number, Own, Widest};
 use oracle::abi::{self, library};
-use oracle::generate::TickCase;
+use oracle::generate::{PollCase, TickCase};
 
 /// Makes a call and answers its packed answer.
-pub type Program = fn(&mut TickCase) -> u64;
+pub type Program<C> = fn(&mut C) -> u64;
 
-/// The proved library, the oracle, the twin; then the twin with the proved program's comparison, with its origins, with its way to
-/// hold counts to their limits, and with all three.
-pub const PROGRAMS: [Program; 7] = [
-    library::tick,
-    oracle,
-    twin::<(Number, Bits, Widest)>,
-    twin::<(Loop, Bits, Widest)>,
-    twin::<(Number, Bytes, Widest)>,
-    twin::<(Number, Bits, Own)>,
-    twin::<(Loop, Bytes, Own)>,
-];
+/// How many programs there are.
+pub const COUNT: usize = 7;
 
 /// A number for each program.
-pub type Each = [f64; PROGRAMS.len()];
+pub type Each = [f64; COUNT];
 
-/// The second program.
-fn oracle(case: &mut TickCase) -> u64 {
-    abi::pack_tick(&case.run())
+/// A call that is timed.
+pub trait Case: Clone + PartialEq {
+    /// The proved library, the oracle, the twin; then the twin with the proved program's comparison, with its origins, with its way
+    /// to hold counts to their limits, and with all three.
+    const PROGRAMS: [Program<Self>; COUNT];
+
+    fn shelf(&self) -> &[u8];
+
+    /// Puts back what a call changes and a call reads.
+    fn put_back(&mut self, given: &Self);
 }
 
-fn twin<F: Forms>(case: &mut TickCase) -> u64 {
+impl Case for TickCase {
+    const PROGRAMS: [Program<Self>; COUNT] = [
+        library::tick,
+        |case| abi::pack_tick(&case.run()),
+        tick::<(Number, Bits, Widest)>,
+        tick::<(Loop, Bits, Widest)>,
+        tick::<(Number, Bytes, Widest)>,
+        tick::<(Number, Bits, Own)>,
+        tick::<(Loop, Bytes, Own)>,
+    ];
+
+    fn shelf(&self) -> &[u8] {
+        &self.holdback
+    }
+
+    fn put_back(&mut self, given: &Self) {
+        self.state = given.state;
+        self.holdback.copy_from_slice(&given.holdback);
+    }
+}
+
+impl Case for PollCase {
+    const PROGRAMS: [Program<Self>; COUNT] = [
+        library::poll,
+        |case| abi::pack_poll(case.run()),
+        poll::<(Number, Bits, Widest)>,
+        poll::<(Loop, Bits, Widest)>,
+        poll::<(Number, Bytes, Widest)>,
+        poll::<(Number, Bits, Own)>,
+        poll::<(Loop, Bytes, Own)>,
+    ];
+
+    fn shelf(&self) -> &[u8] {
+        &self.holdback
+    }
+
+    /// A poll changes nothing.
+    fn put_back(&mut self, _: &Self) {}
+}
+
+/// The twin's tick.
+fn tick<F: Forms>(case: &mut TickCase) -> u64 {
     twin::tick::<F>(&mut twin::Call {
         setup: library::numbers(&case.setup),
         clock: library::narrow(case.clock),
@@ -39,5 +78,15 @@ fn twin<F: Forms>(case: &mut TickCase) -> u64 {
         outgoing: &mut case.outgoing,
         verdicts: &mut case.verdicts,
         delivery: &mut case.delivery,
+    })
+}
+
+/// The twin's poll.
+fn poll<F: Forms>(case: &mut PollCase) -> u64 {
+    twin::poll::<F>(&twin::Poll {
+        setup: library::numbers(&case.setup),
+        clock: library::narrow(case.clock),
+        within: case.within,
+        holdback: &case.holdback,
     })
 }

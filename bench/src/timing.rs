@@ -1,8 +1,7 @@
 //! Nanoseconds a call, the best of many rounds.
 
-use crate::programs::{Each, Program, PROGRAMS};
+use crate::programs::{Case, Each, Program, COUNT};
 use crate::workloads::Workload;
-use oracle::generate::TickCase;
 use std::hint::black_box;
 use std::time::Instant;
 
@@ -12,20 +11,20 @@ const ROUNDS: [usize; 2] = [600, 16];
 const SMALL: usize = 8_192;
 
 /// The best times so far of some calls that are timed together, for each program.
-struct Part<'w> {
-    cases: &'w [TickCase],
-    work: Vec<TickCase>,
+struct Part<'w, C> {
+    cases: &'w [C],
+    work: Vec<C>,
     best: Each,
 }
 
-impl<'w> Part<'w> {
-    fn new(cases: &'w [TickCase]) -> Self {
-        Part { cases, work: cases.to_vec(), best: [f64::MAX; PROGRAMS.len()] }
+impl<'w, C: Case> Part<'w, C> {
+    fn new(cases: &'w [C]) -> Self {
+        Part { cases, work: cases.to_vec(), best: [f64::MAX; COUNT] }
     }
 
     /// Times each program once.
     fn round(&mut self) {
-        for (&program, best) in PROGRAMS.iter().zip(&mut self.best) {
+        for (program, best) in C::PROGRAMS.into_iter().zip(&mut self.best) {
             *best = best.min(time(program, self.cases, &mut self.work));
         }
     }
@@ -33,15 +32,15 @@ impl<'w> Part<'w> {
 
 /// For each workload and program the time of a call: the mean of the calls' best rounds. The
 /// programs take turns, and so do the workloads.
-pub fn measure<const W: usize>(workloads: [&Workload; W]) -> [Each; W] {
-    let small = workloads[0].cases[0].holdback.len() <= SMALL;
+pub fn measure<C: Case, const W: usize>(workloads: [&Workload<C>; W]) -> [Each; W] {
+    let small = workloads[0].cases[0].shelf().len() <= SMALL;
     let size = if small { workloads[0].cases.len() } else { 1 };
     let mut parts = workloads
         .map(|workload| -> Vec<_> { workload.cases.chunks(size).map(Part::new).collect() });
     for _ in 0..ROUNDS[usize::from(!small)] {
         parts.iter_mut().flatten().for_each(Part::round);
     }
-    let timer = (0..1_000).map(|_| time(|_| 0, &[], &mut [])).fold(f64::MAX, f64::min);
+    let timer = (0..1_000).map(|_| time::<C>(|_| 0, &[], &mut [])).fold(f64::MAX, f64::min);
     parts.map(|parts| {
         let calls = (parts.len() * size) as f64;
         let mean = |i| parts.iter().map(|part| part.best[i] - timer).sum::<f64>() / calls;
@@ -51,10 +50,9 @@ pub fn measure<const W: usize>(workloads: [&Workload; W]) -> [Each; W] {
 
 /// The time of one program for some calls. Before it their tables and shelves are put back; that
 /// is not timed.
-fn time(program: Program, cases: &[TickCase], work: &mut [TickCase]) -> f64 {
+fn time<C: Case>(program: Program<C>, cases: &[C], work: &mut [C]) -> f64 {
     for (case, work) in cases.iter().zip(work.iter_mut()) {
-        work.state = case.state;
-        work.holdback.copy_from_slice(&case.holdback);
+        work.put_back(case);
     }
     let start = Instant::now();
     for work in work {

@@ -1,4 +1,4 @@
-//! The twin: the library's tick written by hand for speed, over the same buffers and with the same answers.
+//! The twin: the library's tick, and its poll, written by hand for speed, over the same buffers and with the same answers.
 //! It shares no code with the oracle or the proved crates.
 //!
 //! What it does for speed: a frame is looked at through one window of 39 bytes, which holds all of it but the payload; counts are
@@ -9,6 +9,9 @@
 //! frame only the counts that it has are held to their limits. So that the price of each can be measured, the twin comes with them
 //! too (`Forms`).
 
+mod poll;
+
+pub use poll::{poll, Poll};
 use std::marker::PhantomData;
 
 /// Where a frame's counts start.
@@ -177,21 +180,31 @@ pub fn tick<F: Forms>(call: &mut Call) -> u64 {
 
 /// Checks 1 to 6.
 fn check(call: &Call) -> u8 {
-    let [n, epsilon, delta, modulus, own] = call.setup;
+    let number = check_holdback(call.setup, call.clock, call.holdback);
+    let longest = 39 + 2 * call.setup[1] as usize;
+    let short = |size: usize| {
+        call.outgoing.len() < longest || call.verdicts.len() < 255 || call.delivery.len() < size
+    };
+    match () {
+        _ if number != 0 => number,
+        _ if call.payload.len() > MAX_PAYLOAD => 4,
+        _ if !ends_exactly(call.batch) => 5,
+        _ if short(call.holdback.len()) => 6,
+        _ => 0,
+    }
+}
+
+/// Checks 1 to 3.
+fn check_holdback(setup: [u32; 5], clock: u32, holdback: &[u8]) -> u8 {
+    let [n, epsilon, delta, modulus, own] = setup;
     let limits = (1..=16).contains(&n) && (1..=16).contains(&epsilon) && delta <= 64 && own < n;
     if !limits || modulus > 65_535 || modulus < 6 * epsilon + delta + 1 {
         return 1;
     }
-    let longest = 39 + 2 * epsilon as usize;
-    let size = 2 + longest * (n * (delta + 3 * epsilon)) as usize;
-    let short =
-        call.outgoing.len() < longest || call.verdicts.len() < 255 || call.delivery.len() < size;
+    let size = 2 + (39 + 2 * epsilon) * n * (delta + 3 * epsilon);
     match () {
-        _ if call.clock >= modulus => 2,
-        _ if call.holdback.len() != size => 3,
-        _ if call.payload.len() > MAX_PAYLOAD => 4,
-        _ if !ends_exactly(call.batch) => 5,
-        _ if short => 6,
+        _ if clock >= modulus => 2,
+        _ if holdback.len() != size as usize => 3,
         _ => 0,
     }
 }
@@ -281,7 +294,7 @@ struct Local {
 }
 
 fn accept<F: Forms>(call: &mut Call) -> u64 {
-    let group = Group::<F>::of(call);
+    let group = Group::<F>::of(call.setup, call.clock);
     let (mut local, mut repair, least) = match group.sound_step(call.tables) {
         Some(step) => (group.step(call.tables, step), 0, 1 - step as i32),
         None => (Local { c: 0, kn: [0; WIDEST] }, 1, 0),
@@ -316,12 +329,11 @@ fn part<const N: usize>(bytes: &[u8], at: usize) -> &[u8; N] {
 }
 
 impl<F: Forms> Group<F> {
-    fn of(call: &Call) -> Self {
-        let [n, epsilon, delta, modulus, _] = call.setup;
+    fn of([n, epsilon, delta, modulus, _]: [u32; 5], clock: u32) -> Self {
         let (n, epsilon) = (n as u8, epsilon as usize);
         let width = 2 * epsilon;
         let ignored = ignored(width);
-        let (delta, modulus, clock) = (delta as usize, modulus as i32, call.clock as i32);
+        let (delta, modulus, clock) = (delta as usize, modulus as i32, clock as i32);
         Group { forms: PhantomData, n, epsilon, width, delta, modulus, clock, ignored }
     }
 
@@ -410,6 +422,11 @@ impl<F: Forms> Group<F> {
         self.epsilon - 1
     }
 
+    /// How far the due clock of a frame lies ahead of v.
+    fn due(&self, w: &Window, ahead: i32) -> i32 {
+        ahead + i32::from(w[5]) + (self.delta + self.epsilon) as i32
+    }
+
     /// Is the queue in the buffer sound, with no due clock below the least? Its figures then.
     fn walk(&self, buf: &[u8], least: i32, queue: &mut Queue<F>) -> bool {
         queue.count = usize::from(u16::from_le_bytes([buf[0], buf[1]]));
@@ -437,6 +454,7 @@ impl<F: Forms> Group<F> {
     }
 
     /// The key of the next frame of the walk, if the queue is sound so far; its origin is marked.
+    #[inline(always)]
     fn next_key<'w>(
         &self,
         w: &'w Window,
@@ -447,9 +465,8 @@ impl<F: Forms> Group<F> {
         if self.check_frame(w) != 0 {
             return None;
         }
-        let (ahead, c) = (self.near(r_of(w)), i32::from(w[5]));
-        let due = ahead + c + (self.delta + self.epsilon) as i32;
-        if due < least || ahead + c >= self.epsilon as i32 {
+        let ahead = self.near(r_of(w));
+        if self.due(w, ahead) < least || ahead + i32::from(w[5]) >= self.epsilon as i32 {
             return None;
         }
         let key = self.key(w, ahead);

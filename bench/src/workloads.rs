@@ -1,7 +1,8 @@
 //! The calls that are timed. Each workload has 256 of them: of a few the processor would learn which way their branches go.
 
+use crate::programs::Case;
 use crate::yard::Yard;
-use oracle::generate::{frames, Prng, TickCase};
+use oracle::generate::{frames, PollCase, Prng, TickCase};
 use oracle::holdback::Holdback;
 use oracle::node::judge;
 use oracle::{batch, Setup, Timestamp};
@@ -12,21 +13,21 @@ const LARGEST: Setup = Setup { n: 16, epsilon: 16, delta: 64, modulus: 65_535, o
 const TYPICAL: Setup = Setup { n: 4, epsilon: 2, delta: 8, modulus: 65_535, own: 0 };
 const NUDGED: Setup = Setup { n: 6, epsilon: 4, delta: 12, modulus: 65_535, own: 0 };
 
-pub struct Workload {
+pub struct Workload<C> {
     pub name: &'static str,
-    pub cases: Vec<TickCase>,
+    pub cases: Vec<C>,
 }
 
-impl Workload {
+impl<C: Case> Workload<C> {
     /// The mean of the frames on the shelf.
     pub fn frames(&self) -> f64 {
-        let count = |case: &TickCase| u16::from_le_bytes([case.holdback[0], case.holdback[1]]);
+        let count = |case: &C| u16::from_le_bytes([case.shelf()[0], case.shelf()[1]]);
         self.cases.iter().map(|case| f64::from(count(case))).sum::<f64>() / self.cases.len() as f64
     }
 }
 
-/// The six workloads of the table.
-pub fn all() -> Vec<Workload> {
+/// The six workloads of ticks.
+pub fn all() -> Vec<Workload<TickCase>> {
     let [empty, largest, flood] = on_shelf(true);
     let idle =
         Workload { name: "idle tick", cases: Yard::fresh(TYPICAL, 16).run(CALLS / TYPICAL.n, 0) };
@@ -52,7 +53,7 @@ fn has_early(case: &TickCase) -> bool {
 }
 
 /// The largest yard, where all of it or only half has been sending: an empty tick, one that hears everybody, and a flood.
-pub fn on_shelf(full: bool) -> [Workload; 3] {
+pub fn on_shelf(full: bool) -> [Workload<TickCase>; 3] {
     let heard = steady(LARGEST, 32, if full { LARGEST.n } else { LARGEST.n / 2 });
     let mut empty = heard.clone();
     let mut flood = heard.clone();
@@ -68,6 +69,18 @@ pub fn on_shelf(full: bool) -> [Workload; 3] {
         Workload { name: "largest yard", cases: heard },
         Workload { name: "flood", cases: flood },
     ]
+}
+
+/// Polls after the ticks before these, of the shelves that they left, each for some ticks up to the last due clock that there can be.
+pub fn polls(ticks: &Workload<TickCase>) -> Workload<PollCase> {
+    let mut rng = Prng::new(4);
+    let poll = |case: &TickCase| PollCase {
+        setup: case.setup,
+        clock: Timestamp::of_state(&case.setup, &case.state).r,
+        within: rng.below(case.setup.delta + 2 * case.setup.epsilon) as u16,
+        holdback: case.holdback.clone(),
+    };
+    Workload { name: "poll", cases: ticks.cases.iter().map(poll).collect() }
 }
 
 /// Calls of a yard in its steady state, where only some send until shortly before the end and then all do.

@@ -1,6 +1,6 @@
 //! The proved static library behind safe functions, and how its answers are packed.
 
-use crate::{Answer, Reason};
+use crate::{Answer, Outlook, Reason};
 use std::cmp::Ordering;
 
 /// Where a number lies in an answer: its lowest bit and how many bits it has.
@@ -43,6 +43,10 @@ const WORDS_LEN: Field = Field::new(8, 56);
 const COMPARE_ORDER: Field = Field::new(8, 8);
 const COMPARE_REASON: Field = Field::new(16, 8);
 const COMPARE_CLOCK: Field = Field::new(32, 16);
+
+const POLL_HAS_NEXT: Field = Field::new(8, 1);
+const POLL_NEXT: Field = Field::new(16, 16);
+const POLL_WITHIN: Field = Field::new(32, 16);
 
 /// The number in any answer.
 pub fn number(word: u64) -> u8 {
@@ -102,7 +106,26 @@ pub fn unpack_compare(word: u64) -> [u8; 2] {
     [COMPARE_ORDER.get(word) as u8, COMPARE_REASON.get(word) as u8]
 }
 
-/// The answer of a refused reader or writer, of refused words and of a refused comparison.
+/// The answer of the poll: is something next, its due clock, and how many are due within; or the
+/// number.
+pub fn pack_poll(answer: Result<Outlook, u8>) -> u64 {
+    match answer {
+        Ok(Outlook { next, within }) => {
+            POLL_HAS_NEXT.put(next.is_some().into())
+                | POLL_NEXT.put(next.unwrap_or(0) as u64)
+                | POLL_WITHIN.put(within.into())
+        }
+        Err(number) => pack_refusal(number),
+    }
+}
+
+/// An accepted poll's answer from its packed form.
+pub fn unpack_poll(word: u64) -> Outlook {
+    let next = (POLL_HAS_NEXT.get(word) == 1).then_some(POLL_NEXT.get(word) as i64);
+    Outlook { next, within: POLL_WITHIN.get(word) as u16 }
+}
+
+/// The answer of a refused call of any function but the tick.
 pub fn pack_refusal(number: u8) -> u64 {
     NUMBER.put(number.into())
 }
@@ -111,7 +134,7 @@ pub fn pack_refusal(number: u8) -> u64 {
 pub mod library {
     //! The calls themselves.
 
-    use crate::generate::{CompareCase, ReadCase, TickCase, WordsCase, WriteCase};
+    use crate::generate::{CompareCase, PollCase, ReadCase, TickCase, WordsCase, WriteCase};
     use crate::{ClockState, Setup};
 
     #[link(name = "abi", kind = "static")]
@@ -189,6 +212,18 @@ pub mod library {
             first_len: usize,
             second: *const u8,
             second_len: usize,
+        ) -> u64;
+
+        fn yarngravel_poll(
+            n: u32,
+            epsilon: u32,
+            delta: u32,
+            modulus: u32,
+            own: u32,
+            clock: u32,
+            within: u16,
+            holdback: *const u8,
+            holdback_len: usize,
         ) -> u64;
     }
 
@@ -302,5 +337,14 @@ pub mod library {
                 case.second.len(),
             )
         }
+    }
+
+    /// The poll.
+    pub fn poll(case: &mut PollCase) -> u64 {
+        let [n, epsilon, delta, modulus, own] = numbers(&case.setup);
+        let (clock, within) = (narrow(case.clock), case.within);
+        let (holdback, length) = (case.holdback.as_ptr(), case.holdback.len());
+        // SAFETY: as in `tick`.
+        unsafe { yarngravel_poll(n, epsilon, delta, modulus, own, clock, within, holdback, length) }
     }
 }

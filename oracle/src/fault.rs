@@ -1,4 +1,4 @@
-//! Twenty-three small faults that can be planted in the oracle, to show that a comparison finds them.
+//! Thirty small faults that can be planted in the oracle, to show that a comparison finds them.
 //! Without the feature `plant` nothing of this is left in the code.
 //!
 //!  1. the writer alone refuses a buffer of exactly the frame's length
@@ -24,9 +24,16 @@
 //! 21. where the station decided r is said to have, and the other way round
 //! 22. a give line has the reason against the first line of its hand-out
 //! 23. where a count decided the sum is said to have
+//! 24. in a poll a shelved frame due at v itself passes as sound
+//! 25. a poll counts frames due one tick past its bound
+//! 26. a poll takes an unsound queue as it lies
+//! 27. the next due clock of a poll is not reduced modulo B
+//! 28. a poll's count stops one frame too late
+//! 29. a poll's count stops one frame too early
+//! 30. the next due clock of a poll is that of the last frame
 
 /// How many faults there are.
-pub const COUNT: u8 = 23;
+pub const COUNT: u8 = 30;
 
 #[cfg(feature = "plant")]
 mod switch {

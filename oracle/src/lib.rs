@@ -10,6 +10,7 @@ pub mod frame;
 pub mod generate;
 pub mod holdback;
 pub mod node;
+pub mod poll;
 pub mod reason;
 pub mod replay;
 pub mod setup;
@@ -20,6 +21,7 @@ pub mod words;
 
 pub use frame::{read, write, Frame};
 pub use node::{tick, Answer, Buffers, Call};
+pub use poll::{poll, Outlook};
 pub use reason::{compare, Reason};
 pub use replay::replay;
 pub use setup::Setup;

@@ -69,9 +69,7 @@ pub fn tick(call: &Call, state: &mut ClockState, buffers: &mut Buffers) -> Answe
 /// Checks 1 to 6; then the batch's entries.
 fn check<'a>(call: &Call<'a>, buffers: &Buffers) -> Result<Vec<&'a [u8]>, u8> {
     let setup = &call.setup;
-    ask(setup.is_valid(), 1)?;
-    ask(call.clock < setup.modulus, 2)?;
-    ask(buffers.holdback.len() == setup.holdback_len(), 3)?;
+    holdback::check(setup, call.clock, buffers.holdback)?;
     ask(call.payload.len() <= MAX_PAYLOAD, 4)?;
     let entries = batch::entries(call.batch).ok_or(5)?;
     ask(buffers.outgoing.len() >= setup.longest_frame(), 6)?;

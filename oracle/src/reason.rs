@@ -73,11 +73,7 @@ fn count_at(setup: &Setup, clock: i64) -> Reason {
     if planted(23) {
         return Reason::Sum;
     }
-    let clock = clock + skew(19);
-    Reason::Count(match planted(20) {
-        true => clock.clamp(0, 65_535),
-        false => clock.rem_euclid(setup.modulus),
-    })
+    Reason::Count(setup.reduced(clock + skew(19), 20))
 }
 
 /// The comparison alone: asks 1, 2, then 10 to 12 of the first frame and of the second.

@@ -64,4 +64,12 @@ impl Setup {
             u - self.modulus
         }
     }
+
+    /// A clock modulo B. With this fault planted it is not reduced, and cut to what an answer holds.
+    pub(crate) fn reduced(&self, clock: i64, fault: u8) -> i64 {
+        match crate::fault::planted(fault) {
+            true => clock.clamp(0, 65_535),
+            false => clock.rem_euclid(self.modulus),
+        }
+    }
 }

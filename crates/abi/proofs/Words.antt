@@ -1,7 +1,7 @@
 -- Tables in 35 bytes and answers in one number: round trips and bounds. Assumes nothing.
 use Prim.Native.Nat.{ℕ, zero, suc, _+_, _*_, _-_, _≤_, _<_}
 use native.Mathlib.Omega.{arith}
-use mathlib.Core.Path.{_≡_, refl, sym, ap, ap₂, _∙_}
+use mathlib.Core.Path.{_≡_, refl, sym, ap, ap₂, subst, _∙_}
 use mathlib.Core.Bool.{Bool, true, false, _&&_, cond}
 use mathlib.Core.List.{List, [], _∷_, _++_, append-nil}
 use lib.Dec.{eqb}
@@ -30,6 +30,9 @@ use Rattle.node.proofs.Finish.{Call, call-passed}
 use Rattle.frame.proofs.Asking.{room-of}
 use Rattle.frame.proofs.Laying.{length-frame}
 use Rattle.frame.specs.Lay.{Room}
+use Rattle.polling.specs.declared.front.Next.{Next}
+use Rattle.polling.specs.declared.front.Next.the-variants.{At}
+use Rattle.polling.specs.Answers.{SmallNext, nextOf}
 use Rattle.abi.specs.Packing.{tablesIn, tablesBytes, answerWord, placeOf, readWord, readTables, packed, returned}
 
 -- ---- the tables
@@ -230,3 +233,9 @@ write-small s own station t payload buffer = go (firstNo (writeQuestions s own s
         let room : Room (s .epsilon) station t payload buffer = room-of s own station t payload buffer q in
         omega (arith, length-frame (s .epsilon) station t payload, room .narrow, room .payload-fits)
     go (suc k) q = omega arith
+
+-- ---- the poll's answer
+
+-- a next clock that fits in two bytes
+pub small-clock : (next : Next) (clock : ℕ) → next ≡ At clock → SmallNext (nextOf next) → clock < 65536
+small-clock next clock e h = subst (λ (x : Next). SmallNext (nextOf x)) e h

@@ -3,6 +3,7 @@
 use Prim.Native.Nat.{ℕ, _+_, _*_}
 use mathlib.Core.Bool.{Bool, cond}
 use mathlib.Core.List.{List, _∷_, _++_}
+use mathlib.Core.Option.{Option, none, some}
 use lib.Dec.{eqb}
 use lib.ListN.{length, take, drop, getD}
 use Rattle.model.specs.Setup.{Setup, widest}
@@ -11,6 +12,7 @@ use Rattle.model.specs.Frame.{twoBytes, twoAt, payloadCountAt}
 use Rattle.model.specs.Codec.{ReadAnswer, WriteAnswer}
 use Rattle.model.specs.Comparison.{CompareAnswer}
 use Rattle.model.specs.Tick.{Input, Answer, Output}
+use Rattle.model.specs.Poll.{PollAnswer}
 use Rattle.words.specs.Words.{WordsAnswer}
 
 -- how many bytes the tables have
@@ -90,3 +92,12 @@ wordsWord a = a .number + 256 * a .size
 -- the number in bits 0 to 7, which frame is first in 8 to 15, what decided in 16 to 23, the count's clock in 32 to 47
 unfoldable pub compareWord : CompareAnswer → ℕ
 compareWord a = a .number + 256 * (a .order + 256 * (a .reason + 65536 * a .clock))
+
+-- the next due clock: bit 0 set if there is one, the clock in bits 8 to 23
+abbrev pub nextBits : Option ℕ → ℕ
+nextBits none = 0
+nextBits (some clock) = 1 + 256 * clock
+
+-- the number in bits 0 to 7, bit 8 set if something is next, its due clock in 16 to 31, how many are due within in 32 to 47
+unfoldable pub pollWord : PollAnswer → ℕ
+pollWord a = a .number + 256 * (nextBits (a .next) + 16777216 * a .within)

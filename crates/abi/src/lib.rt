@@ -1,11 +1,13 @@
-// The boundary to C: the tick, the reader, the writer, the words and the comparison over numbers and byte slices. A slice is a pointer and a length;
-// the tables are a pointer to 35 bytes (r low, r high, c, 32 counts); the answer is one number. Any arguments get an answer.
+// The boundary to C: the tick, the reader, the writer, the words, the comparison and the poll over numbers and byte slices. A slice is a
+// pointer and a length; the tables are a pointer to 35 bytes (r low, r high, c, 32 counts); the answer is one number. Any arguments get
+// an answer.
 mod packing;
 
 use comparing::compare_call;
 use node::tick;
 use packing::pack_answer;
 use packing::pack_compared;
+use packing::pack_polled;
 use packing::pack_reading;
 use packing::pack_written;
 use packing::put_tables;
@@ -16,8 +18,9 @@ ghost use mathlib.Core.Path.{_≡_};
 ghost use Rattle.model.specs.Codec as codec;
 ghost use Rattle.model.specs.Tick as model;
 ghost use Rattle.model.specs.Comparison.{compareCall};
+ghost use Rattle.model.specs.Poll.{poll};
 ghost use Rattle.words.specs.Words.{words};
-ghost use Rattle.abi.specs.Packing.{setupBy, inputBy, tablesIn, returned, packed, readWord, readTables, writeWord, wordsWord, compareWord};
+ghost use Rattle.abi.specs.Packing.{setupBy, inputBy, tablesIn, returned, packed, readWord, readTables, writeWord, wordsWord, compareWord, pollWord};
 
 // One tick. The number in bits 0 to 7, 01's mend in 8 to 15, frames taken in 16 to 23, the outgoing length in 24 to 31,
 // frames handed out in 32 to 47. A refusal is the number alone, and changes nothing.
@@ -182,4 +185,29 @@ pub extern "C" fn yarngravel_compare(
     };
     let compared = compare_call(setup, own, clock as usize, first, second);
     pack_compared(compared)
+}
+
+// 02, 2.5: the poll, at the clock of the last tick. The number in bits 0 to 7; bit 8 set if something is next, its due clock modulo B in
+// 16 to 31; how many frames are due at most `within` ticks after the clock, in 32 to 47. A refusal is the number alone.
+#[no_mangle]
+pub extern "C" fn yarngravel_poll(
+    n: u32,
+    epsilon: u32,
+    delta: u32,
+    modulus: u32,
+    own: u32,
+    clock: u32,
+    within: u16,
+    holdback: &[u8],
+) -> u64
+    ensures { λ r. ⌜ r ≡ pollWord (poll (setupBy n epsilon delta modulus) own clock within (now (holdback .entry))) ⌝ }
+{
+    let setup = Setup {
+        n,
+        epsilon,
+        delta,
+        modulus,
+    };
+    let polled = polling::poll(setup, own, clock as usize, within, holdback);
+    pack_polled(polled)
 }

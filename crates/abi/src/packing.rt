@@ -1,6 +1,8 @@
 // Tables in 35 bytes, and answers in one number.
 use comparing::Compared;
 use node::Answer;
+use polling::Next;
+use polling::Polled;
 use timestamp::Timestamp;
 use timestamp::counts_of;
 ghost use mathlib.Core.Path.{_≡_};
@@ -9,7 +11,8 @@ ghost use lib.ListN.{length};
 ghost use Rattle.timestamp.specs.Views.{stampOf};
 ghost use Rattle.comparing.specs.Answers.{compareAnswer};
 ghost use Rattle.node.specs.Answers.{answerOf};
-ghost use Rattle.abi.specs.Packing.{tablesLength, tablesIn, tablesBytes, answerWord, compareWord};
+ghost use Rattle.polling.specs.Answers.{SmallNext, nextOf, pollAnswer};
+ghost use Rattle.abi.specs.Packing.{tablesLength, tablesIn, tablesBytes, answerWord, compareWord, nextBits, pollWord};
 
 // The tables that stand in the bytes: r in two, the low one first, c, and 32 counts. Written back they are those bytes.
 pub fn tables_of(s: &[u8]) -> Timestamp
@@ -68,4 +71,24 @@ pub fn pack_compared(a: Compared) -> u64
     ensures { λ r. ⌜ r ≡ compareWord (compareAnswer a) ⌝ }
 {
     a.number as u64 + 256 * (a.order as u64 + 256 * (a.reason as u64 + 65536 * (a.clock as u64)))
+}
+
+// The next due clock as a number.
+fn pack_next(next: Next) -> u64
+    requires { ⌜ SmallNext (nextOf next) ⌝ }
+    ensures { λ r. ⌜ (r ≡ nextBits (nextOf next)) × (r < 16777216) ⌝ }
+{
+    match next {
+        Next::Nothing => 0,
+        Next::At(clock) => 1 + 256 * (clock as u64),
+    }
+}
+
+// What a poll found as one number.
+pub fn pack_polled(a: Polled) -> u64
+    requires { ⌜ SmallNext (nextOf (a .next)) × (a .within < 65536) ⌝ }
+    ensures { λ r. ⌜ r ≡ pollWord (pollAnswer a) ⌝ }
+{
+    let next = a.next;
+    a.number as u64 + 256 * (pack_next(next) + 16777216 * (a.within as u64))
 }

@@ -6,6 +6,7 @@ use mathlib.Core.Bool.{Bool, true, false, _&&_}
 use mathlib.Core.List.{List, [], _∷_, _++_}
 use lib.Dec.{ltb}
 use borrow.Author.Tests.{lt-ltb, le-ltb, ltb-true, eq-eqb}
+use Rattle.laws.specs.Lists.{every}
 use Rattle.laws.proofs.Numbers.{and-left}
 use Rattle.model.specs.Setup.{Setup, inLimits, isMember}
 use Rattle.model.specs.Frame.{decode}
@@ -13,36 +14,8 @@ use Rattle.model.specs.Question.{Question, ask, firstNo, askSetup, askForm, ask
 use Rattle.model.specs.Holdback.{passes}
 use Rattle.model.specs.Comparison.{Reason, Comparison, bySum, byCount, byStation, byR, byNothing, reasonClock, compared, compareQuestions, compareBy, compareCall}
 use Rattle.lemmas.proofs.Bounds.{Limits}
-use Rattle.lemmas.proofs.Questions.{limits-from, first-yes, other-yes, yes-cons, no-cons}
+use Rattle.lemmas.proofs.Questions.{limits-from, first-yes, other-yes, yes-cons, no-cons, yes-append, no-append, front-append}
 use Rattle.lemmas.proofs.Comparing.{clock-below}
-
--- ---- three questions, with others behind them
-
-abbrev three : Bool → Bool → Bool → List Question → List Question
-three a b c qs = ask a 10 ∷ ask b 11 ∷ ask c 12 ∷ qs
-
--- none of them gets a no: the others answer
-three-none : (a b c : Bool) (qs : List Question) → firstNo (three a b c []) ≡ 0 → firstNo (three a b c qs) ≡ firstNo qs
-unfolding firstNo
-three-none true true true qs e = refl
-three-none true true false qs e = absurd (omega arith)
-three-none true false c qs e = absurd (omega arith)
-three-none false b c qs e = absurd (omega arith)
-
--- one of them does, and answers
-three-some : (a b c : Bool) (qs : List Question) (k : ℕ) → k ≡ firstNo (three a b c []) → (k ≡ 0 → ⊥) → k ≡ firstNo (three a b c qs)
-unfolding firstNo
-three-some true true true qs k e h = absurd (h e)
-three-some true true false qs k e h = e
-three-some true false c qs k e h = e
-three-some false b c qs k e h = e
-
-three-front : (a b c : Bool) (qs : List Question) → firstNo (three a b c qs) ≡ 0 → firstNo (three a b c []) ≡ 0
-unfolding firstNo
-three-front true true true qs e = refl
-three-front true true false qs e = absurd (omega arith)
-three-front true false c qs e = absurd (omega arith)
-three-front false b c qs e = absurd (omega arith)
 
 module _ (s : Setup) (own v : ℕ) (first second : List ℕ) where
   -- the number of the first no
@@ -76,12 +49,11 @@ module _ (s : Setup) (own v : ℕ) (first second : List ℕ) where
       clock-right = setup-right ∙ yes-cons (ltb v (s .modulus)) 2 fromFrames (lt-ltb v (s .modulus) below)
 
       pub first-no : (k : ℕ) → k ≡ firstNo (frameQuestions s first) → (k ≡ 0 → ⊥) → k ≡ asked
-      unfolding frameQuestions askForm askRange askStamp
-      first-no k e h = three-some _ _ _ (frameQuestions s second) k e h ∙ sym clock-right
+      first-no k e h = no-append (frameQuestions s first) (frameQuestions s second) k e h ∙ sym clock-right
 
       pub second-left : firstNo (frameQuestions s first) ≡ 0 → asked ≡ firstNo (frameQuestions s second)
-      unfolding frameQuestions askForm askRange askStamp
-      second-left e = clock-right ∙ three-none _ _ _ (frameQuestions s second) e
+      unfolding frameQuestions askForm askRange askStamp every
+      second-left e = clock-right ∙ yes-append (frameQuestions s first) (frameQuestions s second) refl e
 
   -- what a call that is not refused has
   pub record Passed : Type 0 where
@@ -91,12 +63,12 @@ module _ (s : Setup) (own v : ℕ) (first second : List ℕ) where
     pub second-passes : passes s second ≡ true
 
   pub all-passed : asked ≡ 0 → Passed
-  unfolding compareQuestions askSetup passes frameQuestions askForm askRange askStamp
+  unfolding compareQuestions askSetup passes frameQuestions askForm askRange askStamp every
   all-passed e =
       let clock : firstNo fromClock ≡ 0 = other-yes valid 0 fromClock e in
       let frames : firstNo fromFrames ≡ 0 = other-yes (ltb v (s .modulus)) 1 fromFrames clock in
-      let front : firstNo (frameQuestions s first) ≡ 0 = three-front _ _ _ (frameQuestions s second) frames in
-      let back : firstNo (frameQuestions s second) ≡ 0 = sym (three-none _ _ _ (frameQuestions s second) front) ∙ frames in
+      let front : firstNo (frameQuestions s first) ≡ 0 = front-append (frameQuestions s first) (frameQuestions s second) frames in
+      let back : firstNo (frameQuestions s second) ≡ 0 = sym (yes-append (frameQuestions s first) (frameQuestions s second) refl front) ∙ frames in
       record {
         limits = and-left (inLimits s) (isMember s own) (first-yes valid 0 fromClock e);
         below = ltb-true v (s .modulus) (first-yes (ltb v (s .modulus)) 1 fromFrames clock);

@@ -1,5 +1,6 @@
 // The comparison of two frames, with a count named by its clock modulo B.
 use frame::counts_part;
+use holdback::clock_at;
 use holdback::rank_of;
 use setup::Setup;
 use timestamp::Comparison;
@@ -22,8 +23,7 @@ fn count_clock(s: Setup, v: usize, sum: usize, k: usize) -> usize
     requires { ⌜ (k ≤ sum) × (sum ≤ 2 ^ 18) ⌝ }
     ensures { λ r. ⌜ r ≡ countClock (setupOf s) v sum k ⌝ }
 {
-    let modulus = s.modulus as usize;
-    (v + (sum - k)) % modulus
+    clock_at(s, v, sum - k)
 }
 
 // The same reason, with a count named by its clock.

@@ -14,6 +14,7 @@ use Rattle.model.specs.Setup.{Setup, depth, longestFrame, holdbackLength}
 use Rattle.model.specs.Frame.{Frame, twoAt, wellFormed}
 use Rattle.model.specs.Holdback.{heldBytes, held, passes, soundHoldback}
 use Rattle.model.specs.Tick.{dueNow, holdbackSize}
+use Rattle.model.specs.Poll.{dueWithin}
 use Rattle.lemmas.proofs.Bounds.{Limits}
 use Rattle.lemmas.proofs.Queue.{sound-queue, due-few, both-few, depth-small}
 use Rattle.setup.proofs.InLimits.{depth-most}
@@ -43,7 +44,7 @@ module _ (s : Setup) (v least : ℕ) (b : List ℕ) (sound : soundHoldback s v l
       }
 
 module _ (s : Setup) (v : ℕ) (b : List ℕ) (sound : soundHoldback s v (s .modulus) b ≡ true)
-    (index at : ℕ) (stands : Stands (s .epsilon) b (leading (dueNow s v) (held (s .epsilon) b)) index at) where
+    (index at : ℕ) (stands : Stands (s .epsilon) b (leading (dueWithin s v 0) (held (s .epsilon) b)) index at) where
   pub due-taken : take index (held (s .epsilon) b) ≡ select (dueNow s v) (held (s .epsilon) b)
   due-taken =
       ap (λ (n : ℕ). take n (held (s .epsilon) b)) (stands .frames)
@@ -56,7 +57,7 @@ module _ (s : Setup) (v : ℕ) (b : List ℕ) (sound : soundHoldback s v (s .mod
 
   pub due-number : index ≡ length (select (dueNow s v) (held (s .epsilon) b))
   due-number =
-      let le : index ≤ length (held (s .epsilon) b) = omega (arith, stands .frames, leading-le (dueNow s v) (held (s .epsilon) b)) in
+      let le : index ≤ length (held (s .epsilon) b) = omega (arith, stands .frames, leading-le (dueWithin s v 0) (held (s .epsilon) b)) in
       sym (length-take-le index (held (s .epsilon) b) le) ∙ ap length due-taken
 
   -- it fits behind what is handed out already
@@ -68,7 +69,7 @@ module _ (s : Setup) (v : ℕ) (b : List ℕ) (sound : soundHoldback s v (s .mod
       let mine : index ≤ s .n * s .epsilon = omega (arith, due-number, due-few s v (held (s .epsilon) b) limits below (sound-queue s v (s .modulus) b limits sound)) in
       let formed : FormedUpTo (s .epsilon) b index =
       sound-formed s v (s .modulus) b index
-      (λ i h. sound-frames s v (s .modulus) b sound i (omega (arith, stands .frames, leading-le (dueNow s v) (held (s .epsilon) b), length-held (s .epsilon) b))) in
+      (λ i h. sound-frames s v (s .modulus) b sound i (omega (arith, stands .frames, leading-le (dueWithin s v 0) (held (s .epsilon) b), length-held (s .epsilon) b))) in
       let formed-d : FormedUpTo (s .epsilon) d before = λ i h. formed-frames (s .epsilon) d (given .formed) i (omega (arith, given .count-is)) in (
         omega (
           arith,

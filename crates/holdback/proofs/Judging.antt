@@ -10,11 +10,11 @@ use lib.Dec.{leb}
 use borrow.Author.Tests.{leb-true, le-leb}
 use Rattle.laws.specs.Lists.{tab, every, any, chained, apart}
 use Rattle.laws.proofs.Numbers.{and-intro, and-left, and-right, or-false-left, or-false-right, or-false-intro, not-of-false, false-of-not}
-use Rattle.laws.proofs.Lists.{length-tab, getD-tab, every-index, every-tab}
+use Rattle.laws.proofs.Lists.{length-tab, getD-tab, every-index, every-mono, every-tab}
 use Rattle.laws.proofs.Sorted.{pairwise-of-index, apart-index, apart-of-pairwise}
 use Rattle.model.specs.Setup.{Setup, depth}
 use Rattle.model.specs.Frame.{Frame, twoAt, decode}
-use Rattle.model.specs.Order.{before}
+use Rattle.model.specs.Order.{before, dueNear}
 use Rattle.model.specs.Holdback.{heldBytes, held, passes, notEarly, notOverdue, sameOrigin, soundHoldback}
 use Rattle.lemmas.proofs.Queue.{origin-sym}
 use Rattle.holdback.specs.Queue.{bytesAt, frameAt}
@@ -173,6 +173,18 @@ module _ (s : Setup) (v least : ℕ) (b : List ℕ) where
 
     pub sound-overdue : every (notOverdue s v least) (held (s .epsilon) b) ≡ true
     sound-overdue = and-right (every (notEarly s v) (held (s .epsilon) b)) _ rest-4
+
+    -- it is sound by any lesser due clock too
+    pub sound-lower : (least′ : ℕ) → least′ ≤ least → soundHoldback s v least′ b ≡ true
+    unfolding soundHoldback notOverdue
+    sound-lower least′ lower =
+        and-intro (le-leb (twoAt b 0) (depth (s .n) (s .epsilon) (s .delta)) sound-few)
+        (and-intro sound-passes
+        (and-intro sound-ordered
+        (and-intro sound-single
+        (and-intro sound-early
+        (every-mono (notOverdue s v least) (notOverdue s v least′) (held (s .epsilon) b)
+        (λ f o. le-leb least′ (dueNear s v f) (omega (arith, leb-true least (dueNear s v f) o))) sound-overdue)))))
 
     -- each frame of a sound queue is sound
     follows-at : (k : ℕ) → k < twoAt b 0 → follows s v b k ≡ true

@@ -1,15 +1,17 @@
 -- The order of frames: what is due is a prefix of a sound queue.
 -- Assumes nothing.
-use Prim.Native.Nat.{ℕ, _≤_, _<_}
+use Prim.Native.Nat.{ℕ, _+_, _≤_, _<_}
 use native.Mathlib.Omega.{arith}
-use mathlib.Core.Path.{_≡_}
+use mathlib.Core.Path.{_≡_, sym, ap, _∙_}
 use mathlib.Core.Bool.{true, not}
-use mathlib.Core.Logic.{inl, inr}
+use mathlib.Core.Logic.{_⊎_, inl, inr}
 use mathlib.Core.List.{List, [], _∷_, _++_, List·Memᴰ}
+use lib.Dec.{leb, eqb}
 use lib.ListN.{take, drop}
-use borrow.Author.Tests.{eqb-true, eq-eqb, leb-true, lt-ltb, ltb-true}
+use borrow.Author.Tests.{eq-eqb, ne-eqb, leb-true, le-leb, lt-leb, lt-ltb, ltb-true}
 use Rattle.laws.specs.Lists.{every, select, leading, chained}
-use Rattle.laws.proofs.Lists.{every-mem}
+use Rattle.laws.proofs.Numbers.{lt-or-ge}
+use Rattle.laws.proofs.Lists.{every-mem, select-ext}
 use Rattle.laws.proofs.Lex.{isLess-lt, lt-isLess, lex-head-lt, lex-lt-cases}
 use Rattle.laws.proofs.Sorted.{Sorted, sorted-of-chained, select-prefix, select-suffix}
 use Rattle.model.specs.Setup.{Setup}
@@ -18,6 +20,7 @@ use Rattle.model.specs.Frame.{Frame}
 use Rattle.model.specs.Order.{readingOf, countsDown, keyBy, key, keyNear, compareFrames, before, due, dueNear}
 use Rattle.model.specs.Holdback.{notOverdue}
 use Rattle.model.specs.Tick.{dueBefore, dueNow}
+use Rattle.model.specs.Poll.{dueWithin}
 
 -- what the order looks at behind the sum
 abbrev tail : Setup → ℕ → Frame → List ℕ
@@ -43,12 +46,13 @@ due-before s v f g h =
     let l : a < b = omega arith in
     lt-isLess (lex-head-lt a b (tail s v f) (tail s v g) l)
 
--- 02, 2.2: what is due before v is a prefix of a queue in order
+-- in a queue in order, what is due up to some clock is a prefix
 module _ (s : Setup) (v : ℕ) (queue : List Frame) (ordered : chained (before s v) queue ≡ true) where
-  in-order : Sorted (keyNear s v) queue
+  pub in-order : Sorted (keyNear s v) queue
   unfolding before compareFrames
   in-order = sorted-of-chained (keyNear s v) queue ordered
 
+  -- 02, 2.2: before v
   early-down : (y z : Frame) → List·Memᴰ y queue → List·Memᴰ z queue → dueBefore s v y ≡ true → before s v z y ≡ true → dueBefore s v z ≡ true
   unfolding dueBefore
   early-down y z m n d l =
@@ -62,24 +66,40 @@ module _ (s : Setup) (v : ℕ) (queue : List Frame) (ordered : chained (before s
   unfolding before compareFrames
   early-rest = select-suffix (keyNear s v) (dueBefore s v) queue in-order early-down
 
+  -- 02, 2.5: at most d ticks after v
+  within-down : (d : ℕ) (y z : Frame) → List·Memᴰ y queue → List·Memᴰ z queue → dueWithin s v d y ≡ true → before s v z y ≡ true → dueWithin s v d z ≡ true
+  unfolding dueWithin
+  within-down d y z m n t l =
+      le-leb (dueNear s v z) (s .modulus + d) (omega (arith, leb-true (dueNear s v y) (s .modulus + d) t, due-first s v z y l))
+
+  pub within-prefix : (d : ℕ) → select (dueWithin s v d) queue ≡ take (leading (dueWithin s v d) queue) queue
+  unfolding before compareFrames
+  within-prefix d = select-prefix (keyNear s v) (dueWithin s v d) queue in-order (within-down d)
+
+  pub within-rest : (d : ℕ) → select (λ f. not (dueWithin s v d f)) queue ≡ drop (leading (dueWithin s v d) queue) queue
+  unfolding before compareFrames
+  within-rest d = select-suffix (keyNear s v) (dueWithin s v d) queue in-order (within-down d)
+
+-- where none is overdue, what is due at most 0 ticks after v is due at v
+pub now-within : (s : Setup) (v : ℕ) (f : Frame) → notOverdue s v (s .modulus) f ≡ true → dueNow s v f ≡ dueWithin s v 0 f
+unfolding dueNow dueWithin notOverdue
+now-within s v f h = go (lt-or-ge (s .modulus) (dueNear s v f))
+  where
+    late : s .modulus ≤ dueNear s v f
+    late = leb-true (s .modulus) (dueNear s v f) h
+
+    go : (s .modulus < dueNear s v f) ⊎ (dueNear s v f ≤ s .modulus) → eqb (dueNear s v f) (s .modulus) ≡ leb (dueNear s v f) (s .modulus + 0)
+    go (inl l) = ne-eqb (dueNear s v f) (s .modulus) (λ e. omega arith) ∙ sym (lt-leb (dueNear s v f) (s .modulus + 0) (omega arith))
+    go (inr l) = eq-eqb (dueNear s v f) (s .modulus) (omega (arith, late)) ∙ sym (le-leb (dueNear s v f) (s .modulus + 0) (omega arith))
+
+-- so of a queue in order of which none is overdue, that is a prefix
 module _ (s : Setup) (v : ℕ) (queue : List Frame) (ordered : chained (before s v) queue ≡ true) (kept : every (notOverdue s v (s .modulus)) queue ≡ true) where
-  sorted : Sorted (keyNear s v) queue
-  unfolding before compareFrames
-  sorted = sorted-of-chained (keyNear s v) queue ordered
+  same : (f : Frame) → List·Memᴰ f queue → dueNow s v f ≡ dueWithin s v 0 f
+  same f m = now-within s v f (every-mem (notOverdue s v (s .modulus)) kept m)
 
-  -- a frame before one that is due is due
-  due-down : (y z : Frame) → List·Memᴰ y queue → List·Memᴰ z queue → dueNow s v y ≡ true → before s v z y ≡ true → dueNow s v z ≡ true
-  unfolding dueNow notOverdue
-  due-down y z m n d l =
-      let e : dueNear s v y ≡ s .modulus = eqb-true (dueNear s v y) (s .modulus) d in
-      let o : s .modulus ≤ dueNear s v z = leb-true (s .modulus) (dueNear s v z) (every-mem (notOverdue s v (s .modulus)) kept n) in
-      let f = due-first s v z y l in
-      eq-eqb (dueNear s v z) (s .modulus) (omega arith)
+  pub due-prefix : select (dueNow s v) queue ≡ take (leading (dueWithin s v 0) queue) queue
+  due-prefix = select-ext (dueNow s v) (dueWithin s v 0) queue same ∙ within-prefix s v queue ordered 0
 
-  pub due-prefix : select (dueNow s v) queue ≡ take (leading (dueNow s v) queue) queue
-  unfolding before compareFrames
-  due-prefix = select-prefix (keyNear s v) (dueNow s v) queue sorted due-down
-
-  pub due-rest : select (λ f. not (dueNow s v f)) queue ≡ drop (leading (dueNow s v) queue) queue
-  unfolding before compareFrames
-  due-rest = select-suffix (keyNear s v) (dueNow s v) queue sorted due-down
+  pub due-rest : select (λ f. not (dueNow s v f)) queue ≡ drop (leading (dueWithin s v 0) queue) queue
+  due-rest =
+      select-ext (λ f. not (dueNow s v f)) (λ f. not (dueWithin s v 0 f)) queue (λ f m. ap not (same f m)) ∙ within-rest s v queue ordered 0

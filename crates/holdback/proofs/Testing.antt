@@ -6,7 +6,7 @@ use mathlib.Core.Path.{_≡_, refl, sym, ap, ap₂, _∙_}
 use mathlib.Core.Bool.{Bool, true, false}
 use mathlib.Core.Logic.{_⊎_, inl, inr}
 use mathlib.Core.List.{List}
-use lib.Dec.{leb, eqb}
+use lib.Dec.{leb}
 use lib.ListN.{length}
 use borrow.Author.Tests.{le-leb, lt-leb, leb-true, eq-eqb, ne-eqb}
 use Rattle.laws.specs.Lex.{lexCompare, isLess}
@@ -19,7 +19,6 @@ use Rattle.model.specs.Order.{readingOf, countsDown, keyBy, key, keyNear, compa
 use Rattle.model.specs.Comparison.{compareKeys}
 use Rattle.model.specs.Comparison as model
 use Rattle.model.specs.Holdback.{passes, notEarly, notOverdue}
-use Rattle.model.specs.Tick.{dueNow}
 use Rattle.timestamp.specs.declared.ordering.Comparison.{Comparison}
 use Rattle.timestamp.specs.declared.ordering.Comparison.the-variants.{First, Second, Alike}
 use Rattle.timestamp.specs.declared.ordering.Rank.{Rank}
@@ -77,9 +76,9 @@ pub fits-by : (s : Setup) (v least : ℕ) (bytes : List ℕ) (rank : Rank) → p
 unfolding fits timely notEarly notOverdue dueNear
 fits-by s v least bytes rank ok e = ap (timely s least) e ∙ rw ok
 
-pub due-tested : (s : Setup) (v : ℕ) (f : Frame) (r : ℕ) → Summed s v f r → eqb (r + s .delta + s .epsilon) (s .modulus) ≡ dueNow s v f
-unfolding dueNow dueNear due sum
-due-tested s v f r total = rw (total .is-sum)
+pub due-summed : (s : Setup) (v : ℕ) (f : Frame) (r : ℕ) → Summed s v f r → r + s .delta + s .epsilon ≡ dueNear s v f
+unfolding dueNear due sum
+due-summed s v f r total = rw (total .is-sum)
 
 -- the place of a sum
 pub rank-past : (s : Setup) (least : ℕ) (rank : Rank) → timely s least rank ≡ true → least ≤ rank .reading + rank .c + s .delta + s .epsilon

@@ -1,34 +1,35 @@
-// What is due at v: a prefix of a sound queue.
+// What is due: a prefix of a sound queue.
 use crate::change::Place;
 use crate::change::append_prefix;
 use crate::change::cut_prefix;
-use crate::timing::is_due;
+use crate::timing::due_within;
 use setup::Setup;
 ghost use mathlib.Core.Path.{_≡_};
 ghost use mathlib.Core.Bool.{true, not};
 ghost use mathlib.Core.List.{_++_};
-ghost use Prim.Native.Nat.{_*_, _-_, _≤_, _<_};
+ghost use Prim.Native.Nat.{_*_, _-_, _^_, _≤_, _<_};
 ghost use lib.ListN.{length};
 ghost use Rattle.laws.specs.Lists.{leading, select, overlay};
 ghost use Rattle.model.specs.Setup.{inLimits};
 ghost use Rattle.model.specs.Frame.{twoAt};
 ghost use Rattle.model.specs.Holdback.{held, soundHoldback, encodeFrames, encodeHoldback};
 ghost use Rattle.model.specs.Tick.{dueNow, holdbackSize};
+ghost use Rattle.model.specs.Poll.{dueWithin};
 ghost use Rattle.setup.specs.Views.{setupOf};
 ghost use Rattle.holdback.specs.Queue.{frameStart, Spans, Stands};
 
-// The frames at the front that are due at v.
-fn due_prefix(s: Setup, v: usize, buf: &[u8], count: usize) -> Place
-    requires { ⌜ (inLimits (setupOf s) ≡ true) × (v < s .modulus) ⌝ }
+// The frames at the front that are due at most `d` ticks after v: those before the first that is due later.
+pub fn due_prefix(s: Setup, v: usize, d: usize, buf: &[u8], count: usize) -> Place
+    requires { ⌜ (inLimits (setupOf s) ≡ true) × ((v < s .modulus) × (d < 2 ^ 16)) ⌝ }
     requires { ⌜ (soundHoldback (setupOf s) v (s .modulus) (now buf) ≡ true) × ((2 ≤ length (now buf)) × (count ≡ twoAt (now buf) 0)) ⌝ }
-    ensures { λ p. ⌜ Stands (s .epsilon) (now (buf .entry)) (leading (dueNow (setupOf s) v) (held (s .epsilon) (now (buf .entry)))) (p .index) (p .at) ⌝ }
+    ensures { λ p. ⌜ Stands (s .epsilon) (now (buf .entry)) (leading (dueWithin (setupOf s) v d) (held (s .epsilon) (now (buf .entry)))) (p .index) (p .at) ⌝ }
 {
     let epsilon = s.epsilon as usize;
     let mut i = 0;
     let mut at = 2;
     while i < count {
         let next = at + frame::frame_end(epsilon, &buf[at..]);
-        if !is_due(s, v, &buf[at..next]) {
+        if !due_within(s, v, d, &buf[at..next]) {
             return Place { index: i, at };
         }
         at = next;
@@ -59,7 +60,7 @@ pub fn cut_due(
         ≡ overlay (encodeFrames (held (s .epsilon) (now (delivery .entry)) ++ select (dueNow (setupOf s) v) (held (s .epsilon) (now (buf .entry))))) (now (delivery .entry)) ⌝ }
 {
     let epsilon = s.epsilon as usize;
-    let due = due_prefix(s, v, buf, count);
+    let due = due_prefix(s, v, 0, buf, count);
     append_prefix(epsilon, buf, count, end, due, delivery, given);
     cut_prefix(epsilon, buf, count, end, due);
     due.index

@@ -1,4 +1,5 @@
-// The times of one frame: its reading near v, its sum, its due clock, and the place of its sum in the table of starts.
+// The times of one frame: its reading near v, its sum, its due clock, and the place of its sum in the table of starts; and the clock
+// of a reading.
 use crate::compare::rank_at;
 use setup::Setup;
 use timestamp::Rank;
@@ -8,9 +9,9 @@ ghost use mathlib.Core.Bool.{true};
 ghost use Prim.Native.Nat.{_≤_, _<_, _^_};
 ghost use Rattle.model.specs.Setup.{inLimits};
 ghost use Rattle.model.specs.Frame.{decode};
-ghost use Rattle.model.specs.Order.{readingOf};
+ghost use Rattle.model.specs.Order.{readingOf, dueNear, clockAt};
 ghost use Rattle.model.specs.Holdback.{passes};
-ghost use Rattle.model.specs.Tick.{dueNow};
+ghost use Rattle.model.specs.Poll.{dueWithin};
 ghost use Rattle.setup.specs.Views.{setupOf};
 ghost use Rattle.holdback.specs.Sound.{fits, timely, Summed};
 ghost use Rattle.holdback.specs.Starts.{rankPlace, placesTo, sumPlace};
@@ -53,13 +54,30 @@ pub fn timely(s: Setup, least: usize, rank: Rank) -> bool
     least <= sum + s.delta as usize + epsilon
 }
 
-// 01, tick 6: "whose sum + δ + ε (its due clock) equals v", which reads B.
-pub fn is_due(s: Setup, v: usize, frame: &[u8]) -> bool
+// Its due clock, sum + δ + ε, with r read near v.
+pub fn due_of(s: Setup, v: usize, frame: &[u8]) -> usize
     requires { ⌜ (inLimits (setupOf s) ≡ true) × (v < s .modulus) ⌝ }
     requires { ⌜ passes (setupOf s) (now frame) ≡ true ⌝ }
-    ensures { λ b. ⌜ b ≡ dueNow (setupOf s) v (decode (s .epsilon) (now (frame .entry))) ⌝ }
+    ensures { λ r. ⌜ (r ≡ dueNear (setupOf s) v (decode (s .epsilon) (now (frame .entry)))) × (r < 2 ^ 18) ⌝ }
 {
-    sum_of(s, v, frame) + s.delta as usize + s.epsilon as usize == s.modulus as usize
+    sum_of(s, v, frame) + s.delta as usize + s.epsilon as usize
+}
+
+// 02, 2.5: "due at most d ticks after v", which reads B.
+pub fn due_within(s: Setup, v: usize, d: usize, frame: &[u8]) -> bool
+    requires { ⌜ (inLimits (setupOf s) ≡ true) × ((v < s .modulus) × (d < 2 ^ 16)) ⌝ }
+    requires { ⌜ passes (setupOf s) (now frame) ≡ true ⌝ }
+    ensures { λ b. ⌜ b ≡ dueWithin (setupOf s) v d (decode (s .epsilon) (now (frame .entry))) ⌝ }
+{
+    due_of(s, v, frame) <= s.modulus as usize + d
+}
+
+// The clock modulo B of a reading near v, which reads B.
+pub fn clock_at(s: Setup, v: usize, reading: usize) -> usize
+    requires { ⌜ (inLimits (setupOf s) ≡ true) × ((v < s .modulus) × (reading ≤ 2 ^ 18)) ⌝ }
+    ensures { λ r. ⌜ r ≡ clockAt (setupOf s) v reading ⌝ }
+{
+    (v + reading) % s.modulus as usize
 }
 
 // The place of a sum in the table of starts: how far its due clock lies past v.

@@ -1,20 +1,20 @@
 -- Laws of the tools on lists.
 -- Assumes nothing.
-use Prim.Native.Nat.{ℕ, zero, suc, _+_, _*_, _-_, _≤_, _<_, zero-le, suc-le-suc}
+use Prim.Native.Nat.{ℕ, zero, suc, _+_, _*_, _-_, _≤_, _<_, min, zero-le, suc-le-suc}
 use native.Mathlib.Omega.{arith}
 use native.Mathlib.Nat.{suc-inj, not-suc-le-zero, le-of-suc-le-suc, zero-add, add-zero, suc-add, add-suc, suc-mul}
-use mathlib.Core.Bool.{Bool, true, false, _&&_, _||_, cond}
+use mathlib.Core.Bool.{Bool, true, false, _&&_, _||_, not, cond}
 use mathlib.Core.List.{List, [], _∷_, _++_, map, append-assoc}
 use mathlib.Core.List.{List·Memᴰ, List·Memᴰ·head, List·Memᴰ·tail, List·Memᴰ·not-nil, List·Memᴰ·cases-cons, Memᴰ·append-right, List·Memᴰ·append-cases}
 use mathlib.Core.Logic.{_⊎_, inl, inr}
-use mathlib.Core.Option.{none, some}
+use mathlib.Core.Option.{none, some, Option·elim}
 use mathlib.Core.Path.{_≡_, refl, sym, ap, ap₂, _∙_}
-use lib.Dec.{eqb, eqb·zero-suc, eqb·suc-zero, eqb·suc-suc}
+use lib.Dec.{leb, eqb, eqb·zero-suc, eqb·suc-zero, eqb·suc-suc}
 use lib.ListN.{length, take, drop, getD, set, replicate, getElem?}
 use lib.ListN.{length-append, length-drop, length-replicate, List·getD-eq-default}
-use borrow.Author.Tests.{eqb-true, eq-eqb}
+use borrow.Author.Tests.{eqb-true, eq-eqb, leb-true}
 use lib.Seq.{take-nil, take-append-seam, drop-append-seam}
-use Rattle.laws.specs.Lists.{tab, every, any, select, selectFrom, sameList, leading, insertAt, overlay, joined, largest, padded}
+use Rattle.laws.specs.Lists.{tab, every, any, select, selectFrom, sameList, leading, insertAt, overlay, joined, largest, smallest, padded}
 use Rattle.laws.proofs.Numbers.{lt-or-ge, true-or-false, clash, and-intro, and-left, and-right, or-left, or-right, or-cases, or-false-left, or-false-right, false-of-no}
 
 module _ {A : Type 0} where
@@ -271,6 +271,26 @@ module _ {A : Type 0} where
   select-ext p q [] h = refl
   select-ext p q (x ∷ l) h =
       ap₂ (λ (b : Bool) (r : List A). cond b (x ∷ r) r) (h x (List·Memᴰ·head refl)) (select-ext p q l (λ y m. h y (List·Memᴰ·tail m)))
+
+  -- those of the one kind, and those of the other among the rest, are those of either
+  pub select-either :
+      (p q r : A → Bool) (l : List A) → ((x : A) → List·Memᴰ x l → r x ≡ (p x || q x))
+      → length (select p l) + length (select q (select (λ x. not (p x)) l)) ≡ length (select r l)
+  unfolding select
+  select-either p q r [] h = refl
+  select-either p q r (x ∷ l) h =
+      go (p x) (q x) (r x) (h x (List·Memᴰ·head refl)) refl (select-either p q r l (λ y m. h y (List·Memᴰ·tail m)))
+    where
+      rest : List A
+      rest = select (λ y. not (p y)) l
+
+      go :
+          (a b c : Bool) → c ≡ (a || b) → q x ≡ b → length (select p l) + length (select q rest) ≡ length (select r l)
+          → length (cond a (x ∷ select p l) (select p l)) + length (select q (cond (not a) (x ∷ rest) rest))
+          ≡ length (cond c (x ∷ select r l) (select r l))
+      go true b c e f k = rw e (omega (arith, k))
+      go false true c e f k = rw (e, f) (omega (arith, k))
+      go false false c e f k = rw (e, f) k
 
   pub select-length-le : (p : A → Bool) (l : List A) → length (select p l) ≤ length l
   unfolding select
@@ -633,6 +653,20 @@ pub largest-le : (l : List ℕ) (b : ℕ) → ((x : ℕ) → List·Memᴰ x l �
 unfolding largest
 largest-le [] b h = zero-le
 largest-le (x ∷ l) b h = omega (arith, h x (List·Memᴰ·head refl), largest-le l b (λ y m. h y (List·Memᴰ·tail m)))
+
+-- the smallest of some numbers is not below what none of them is below
+pub smallest-least : (low x : ℕ) (l : List ℕ) → low ≤ x → every (leb low) l ≡ true → low ≤ Option·elim (smallest l) x (min x)
+unfolding smallest every Option·elim
+smallest-least low x [] h e = h
+smallest-least low x (y ∷ l) h e = omega (arith, smallest-least low y l (leb-true low y (and-left (leb low y) _ e)) (and-right (leb low y) _ e))
+
+-- a number that is not above any of the others is the smallest
+pub smallest-first : (x : ℕ) (l : List ℕ) → every (leb x) l ≡ true → smallest (x ∷ l) ≡ some x
+unfolding smallest every Option·elim
+smallest-first x [] e = refl
+smallest-first x (y ∷ l) e =
+    let least = smallest-least x y l (leb-true x y (and-left (leb x y) _ e)) (and-right (leb x y) _ e) in
+    ap some (omega (arith, least))
 
 module _ {A : Type 0} where
   pub largest-map-mem : (f : A → ℕ) {l : List A} {x : A} → List·Memᴰ x l → f x ≤ largest (map f l)

@@ -1,8 +1,9 @@
 -- Tools on lists and tests that every crate uses. Nothing here speaks of document 01.
 -- Assumes nothing.
-use Prim.Native.Nat.{ℕ, zero, suc, _-_, max}
+use Prim.Native.Nat.{ℕ, zero, suc, _-_, max, min}
 use mathlib.Core.Bool.{Bool, true, false, _&&_, _||_, not, cond}
 use mathlib.Core.List.{List, [], _∷_, _++_}
+use mathlib.Core.Option.{Option, none, some, Option·elim}
 use lib.ListN.{length, take, drop, getD, replicate}
 use lib.Dec.{leb, eqb}
 
@@ -77,6 +78,11 @@ module _ {A B : Type 0} where
 unfoldable pub largest : List ℕ → ℕ
 largest [] = 0
 largest (x ∷ xs) = max x (largest xs)
+
+-- the smallest of the numbers, if there are any
+unfoldable pub smallest : List ℕ → Option ℕ
+smallest [] = none
+smallest (x ∷ xs) = some (Option·elim (smallest xs) x (min x))
 
 -- the two lists are the same
 unfoldable pub sameList : List ℕ → List ℕ → Bool

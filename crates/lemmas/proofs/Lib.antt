@@ -5,4 +5,5 @@ pub mod Counts
 pub mod RoundTrip
 pub mod Queue
 pub mod OneTick
+pub mod NextTick
 pub mod Comparing

@@ -30,7 +30,7 @@ use Rattle.lemmas.proofs.Bounds.{Limits, Sound, Opened, FrameOk, QueueO
 use Rattle.lemmas.proofs.Questions.{first-yes, other-yes, setup-from}
 use Rattle.lemmas.proofs.Counts.{Left, tables-step, tables-left, left-tables, opened-step, opened-replaced, opened-absorb, own-left, trimmed-wide, trimmed-widened}
 use Rattle.lemmas.proofs.Reading.{step-true, near-high}
-use Rattle.lemmas.proofs.RoundTrip.{held-encode, held-holdback}
+use Rattle.lemmas.proofs.RoundTrip.{held-encode, held-holdback, length-holdback}
 use Rattle.lemmas.proofs.Queue.{Passed, judged-passed, opening-queue, queue-rest, queue-take, early-few, due-few, both-few, due-sorted, queue-sound, QueueLeft, queue-left, left-later, left-ok, left-room, depth-small}
 
 -- the tick by the number of the first question that gets a no
@@ -232,7 +232,7 @@ unfolding newStamp countOwn
 new-r i = refl
 
 -- the step to the clock k later
-step-later : (i : Input) (k : ℕ) → Accepted i → k ≤ i .setup .epsilon → clockStep (i .setup .modulus) (i .clock) ((i .clock + k) % i .setup .modulus) ≡ k
+pub step-later : (i : Input) (k : ℕ) → Accepted i → k ≤ i .setup .epsilon → clockStep (i .setup .modulus) (i .clock) ((i .clock + k) % i .setup .modulus) ≡ k
 step-later i k a few =
     ap (λ (r : ℕ). clockStep (i .setup .modulus) r ((i .clock + k) % i .setup .modulus)) (sym (mod-eq-of-lt (a .clock-below)))
     ∙ step-true (i .setup .modulus) (i .clock) k (omega (arith, few, a .limits .modulus-least, a .limits .epsilon-pos))
@@ -303,6 +303,12 @@ kept-held i a =
     ap (held (i .setup .epsilon)) (holdback-is i a)
     ∙ held-holdback (i .setup .epsilon) (holdbackSize (i .setup)) (keptOf i) (λ f m. kept-left i a .frames f m .sound .wide)
     (omega (arith, kept-most i a, depth-small (i .setup) (a .limits)))
+
+-- and its length
+pub shelf-size : (i : Input) → Accepted i → length (tick i .holdback) ≡ holdbackSize (i .setup)
+shelf-size i a =
+    ap length (holdback-is i a)
+    ∙ length-holdback (i .setup) (keptOf i) (a .limits) (λ f m. kept-left i a .frames f m) (omega (arith, kept-most i a))
 
 -- the shelf that a tick leaves is sound for every next clock 1 to ε ahead, each frame due after the tick's own
 pub shelf-sound : (i : Input) (k : ℕ) → Accepted i → k ≤ i .setup .epsilon → soundHoldback (i .setup) ((i .clock + k) % i .setup .modulus) (i .setup .modulus + 1 - k) (tick i .holdback) ≡ true

@@ -3,15 +3,17 @@
 use Prim.Native.Nat.{ℕ, zero, suc, _+_, _*_, _<_}
 use native.Mathlib.Omega.{arith}
 use mathlib.Core.Path.{_≡_, refl}
-use mathlib.Core.Bool.{Bool, true, false, _&&_}
-use mathlib.Core.List.{List, _∷_}
-use lib.Dec.{leb}
-use borrow.Author.Tests.{leb-true, ltb-true, le-leb, lt-ltb}
-use Rattle.laws.specs.Lists.{within}
+use mathlib.Core.Bool.{Bool, true, false, _&&_, cond}
+use mathlib.Core.List.{List, [], _∷_, _++_}
+use lib.Dec.{leb, ltb, eqb}
+use lib.ListN.{length}
+use borrow.Author.Tests.{leb-true, ltb-true, eqb-true, le-leb, lt-ltb}
+use Rattle.laws.specs.Lists.{within, every}
 use Rattle.laws.proofs.Numbers.{and-left, and-right, and-intro, within-low, within-high}
 use Rattle.model.specs.Setup.{Setup, inLimits, isMember, leastModulus}
 use Rattle.model.specs.Frame.{decode}
 use Rattle.model.specs.Question.{Question, ask, firstNo}
+use Rattle.model.specs.Tick.{holdbackSize, holdbackQuestions}
 use Rattle.model.specs.Codec.{readQuestions, readBy, read}
 use Rattle.lemmas.proofs.Bounds.{Limits}
 
@@ -34,6 +36,44 @@ yes-cons holds k qs h = rw h
 pub no-cons : (holds : Bool) (k : ℕ) (qs : List Question) → holds ≡ false → firstNo (ask holds k ∷ qs) ≡ k
 unfolding firstNo
 no-cons holds k qs h = rw h
+
+-- questions with others behind them: a no of the first ones ends it
+pub no-append : (qs rs : List Question) (k : ℕ) → k ≡ firstNo qs → (k ≡ 0 → ⊥) → k ≡ firstNo (qs ++ rs)
+unfolding firstNo
+no-append [] rs k e h = absurd (h e)
+no-append (q ∷ qs) rs k e h = go (q .holds) (λ f. no-append qs rs k f h) e
+  where
+    go : (b : Bool) → (k ≡ firstNo qs → k ≡ firstNo (qs ++ rs)) → k ≡ cond b (firstNo qs) (q .number) → k ≡ cond b (firstNo (qs ++ rs)) (q .number)
+    go true rest f = rest f
+    go false rest f = f
+
+-- and where none of them gets a no, the others are asked; no question has the number 0
+pub yes-append : (qs rs : List Question) → every (λ q. ltb 0 (q .number)) qs ≡ true → firstNo qs ≡ 0 → firstNo (qs ++ rs) ≡ firstNo rs
+unfolding firstNo every
+yes-append [] rs p e = refl
+yes-append (q ∷ qs) rs p e = go (q .holds) (λ f. yes-append qs rs (and-right (ltb 0 (q .number)) _ p) f) e
+  where
+    go : (b : Bool) → (firstNo qs ≡ 0 → firstNo (qs ++ rs) ≡ firstNo rs) → cond b (firstNo qs) (q .number) ≡ 0 → cond b (firstNo (qs ++ rs)) (q .number) ≡ firstNo rs
+    go true rest f = rest f
+    go false rest f = absurd (omega (arith, ltb-true 0 (q .number) (and-left (ltb 0 (q .number)) _ p)))
+
+-- nor did those before them get one
+pub front-append : (qs rs : List Question) → firstNo (qs ++ rs) ≡ 0 → firstNo qs ≡ 0
+unfolding firstNo
+front-append [] rs e = refl
+front-append (q ∷ qs) rs e = go (q .holds) (λ f. front-append qs rs f) e
+  where
+    go : (b : Bool) → (firstNo (qs ++ rs) ≡ 0 → firstNo qs ≡ 0) → cond b (firstNo (qs ++ rs)) (q .number) ≡ 0 → cond b (firstNo qs) (q .number) ≡ 0
+    go true rest f = rest f
+    go false rest f = f
+
+-- questions 2 and 3
+pub shelf-passed : (s : Setup) (v : ℕ) (holdback : List ℕ) → firstNo (holdbackQuestions s v holdback) ≡ 0 → (v < s .modulus) × (length holdback ≡ holdbackSize s)
+shelf-passed s v holdback e =
+    let e₂ = other-yes (ltb v (s .modulus)) 1 _ e in (
+      ltb-true v (s .modulus) (first-yes (ltb v (s .modulus)) 1 _ e),
+      eqb-true (length holdback) (holdbackSize s) (first-yes (eqb (length holdback) (holdbackSize s)) 2 _ e₂),
+    )
 
 pub limits-from : (s : Setup) → inLimits s ≡ true → Limits s
 unfolding inLimits leastModulus

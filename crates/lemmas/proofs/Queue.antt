@@ -384,7 +384,15 @@ queue-left s v queue ok =
     kept : Frame → Bool
     kept f = not (dueNow s v f)
 
--- the same queue k clocks later
+-- k clocks later its readings are k less
+pub left-moved :
+    (s : Setup) (v j k : ℕ) (queue : List Frame) → Limits s → j + k ≤ s .epsilon → QueueLeft s (v % s .modulus) j queue → (f : Frame) → List·Memᴰ f queue
+    → readingOf s ((v + k) % s .modulus) f + k ≡ readingOf s (v % s .modulus) f
+left-moved s v j k queue limits few left f m =
+    reading-later s v k f limits (left .frames f m .r-below)
+    (omega (arith, left .later f m, left .frames f m .sound .close, limits .modulus-least))
+
+-- the same queue then
 pub left-later : (s : Setup) (v j k : ℕ) (queue : List Frame) → Limits s → j + k ≤ s .epsilon → QueueLeft s (v % s .modulus) j queue → QueueLeft s ((v + k) % s .modulus) (j + k) queue
 unfolding keyNear
 left-later s v j k queue limits few left =
@@ -399,9 +407,7 @@ left-later s v j k queue limits few left =
     }
   where
     moved : (f : Frame) → List·Memᴰ f queue → readingOf s ((v + k) % s .modulus) f + k ≡ readingOf s (v % s .modulus) f
-    moved f m =
-        reading-later s v k f limits (left .frames f m .r-below)
-        (omega (arith, left .later f m, left .frames f m .sound .close, limits .modulus-least))
+    moved = left-moved s v j k queue limits few left
 
     same : (f g : Frame) → List·Memᴰ f queue → List·Memᴰ g queue → lexCompare (keyNear s (v % s .modulus) f) (keyNear s (v % s .modulus) g) ≡ lexCompare (keyNear s ((v + k) % s .modulus) f) (keyNear s ((v + k) % s .modulus) g)
     same f g m h =

@@ -1,3 +1,4 @@
 pub mod Computing
 pub mod Samples
 pub mod Comparisons
+pub mod Polls

@@ -9,5 +9,6 @@ pub mod Question
 pub mod Codec
 pub mod Judge
 pub mod Tick
+pub mod Poll
 pub mod Published
 pub mod Run

@@ -1,5 +1,5 @@
 -- 01, "Order of two stamps, first difference decides", and the clock at which a frame is due. Clocks are read near v.
-use Prim.Native.Nat.{ℕ, _+_, _-_, Ordering}
+use Prim.Native.Nat.{ℕ, _+_, _-_, _%_, Ordering}
 use mathlib.Core.Bool.{Bool}
 use mathlib.Core.List.{List, [], _∷_, _++_}
 use Rattle.laws.specs.Lists.{tab}
@@ -47,3 +47,7 @@ due s reading c = sum reading c + s .delta + s .epsilon
 -- the same with r read near v
 unfoldable pub dueNear : Setup → ℕ → Frame → ℕ
 dueNear s v f = due s (readingOf s v f) (f .stamp .c)
+
+-- the clock, modulo B, of a reading near v, which reads B
+unfoldable pub clockAt : Setup → ℕ → ℕ → ℕ
+clockAt s v reading = (v + reading) % s .modulus

@@ -69,16 +69,16 @@ roomy i =
     leb (longestFrame (i .setup .epsilon)) (length (i .outgoing)) && (leb verdictLength (length (i .verdicts))
     && leb (holdbackSize (i .setup)) (length (i .delivery)))
 
+-- 01, 2: "Is the clock below B?", and 3: "Has the shelf its exact length?"
+abbrev pub holdbackQuestions : Setup → ℕ → List ℕ → List Question
+holdbackQuestions s v holdback = ask (ltb v (s .modulus)) 2 ∷ ask (eqb (length holdback) (holdbackSize s)) 3 ∷ []
+
 -- 01: "Of the call, in order": 1 to 6
 unfoldable pub callQuestions : Input → List Question
 callQuestions i =
     askSetup (i .setup) (i .own)
-    ∷ ask (ltb (i .clock) (i .setup .modulus)) 2
-    ∷ ask (eqb (length (i .holdback)) (holdbackSize (i .setup))) 3
-    ∷ askPayload (i .payload)
-    ∷ ask (exactBatch (i .batch)) 5
-    ∷ ask (roomy i) 6
-    ∷ []
+    ∷ (holdbackQuestions (i .setup) (i .clock) (i .holdback)
+    ++ (askPayload (i .payload) ∷ ask (exactBatch (i .batch)) 5 ∷ ask (roomy i) 6 ∷ []))
 
 -- 01: "the answer is that number and the tables as given, all else 0, and all buffers keep their contents"
 unfoldable pub refusal : Input → ℕ → Output

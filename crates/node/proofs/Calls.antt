@@ -1,17 +1,18 @@
 -- The questions of a call, one by one, as the code asks them. Assumes nothing.
-use Prim.Native.Nat.{_≤_, _<_}
-use mathlib.Core.Path.{_≡_, sym, _∙_}
+use Prim.Native.Nat.{ℕ, _≤_, _<_}
+use mathlib.Core.Path.{_≡_, refl, sym, _∙_}
 use mathlib.Core.Bool.{Bool, true, false, _&&_}
-use mathlib.Core.List.{List, [], _∷_}
-use lib.Dec.{leb, ltb, eqb}
+use mathlib.Core.List.{List, [], _∷_, _++_}
+use lib.Dec.{leb}
 use lib.ListN.{length}
-use borrow.Author.Tests.{lt-ltb, le-ltb, le-leb, lt-leb, eq-eqb, ne-eqb}
+use borrow.Author.Tests.{le-leb, lt-leb}
+use Rattle.laws.specs.Lists.{every}
 use Rattle.model.specs.Setup.{inLimits, isMember, longestPayload, longestFrame, verdictLength}
 use Rattle.model.specs.Batch.{exactBatch}
 use Rattle.model.specs.Question.{Question, ask, firstNo, askSetup}
 use Rattle.model.specs.Codec.{askPayload}
-use Rattle.model.specs.Tick.{Input, holdbackSize, roomy, callQuestions}
-use Rattle.lemmas.proofs.Questions.{yes-cons, no-cons}
+use Rattle.model.specs.Tick.{Input, holdbackSize, roomy, holdbackQuestions, callQuestions}
+use Rattle.lemmas.proofs.Questions.{yes-cons, no-cons, yes-append, no-append}
 
 module _ (i : Input) where
   -- the questions from each on
@@ -24,11 +25,9 @@ module _ (i : Input) where
   abbrev from4 : List Question
   from4 = askPayload (i .payload) ∷ from5
 
-  abbrev from3 : List Question
-  from3 = ask (eqb (length (i .holdback)) (holdbackSize (i .setup))) 3 ∷ from4
-
-  abbrev from2 : List Question
-  from2 = ask (ltb (i .clock) (i .setup .modulus)) 2 ∷ from3
+  -- questions 2 and 3
+  abbrev shelf : List Question
+  shelf = holdbackQuestions (i .setup) (i .clock) (i .holdback)
 
   -- what question 1 asks
   abbrev valid : Bool
@@ -36,64 +35,58 @@ module _ (i : Input) where
 
   pub setup-no : valid ≡ false → 1 ≡ firstNo (callQuestions i)
   unfolding callQuestions askSetup
-  setup-no h = sym (no-cons valid 1 from2 h)
+  setup-no h = sym (no-cons valid 1 (shelf ++ from4) h)
 
   module _ (h1 : valid ≡ true) where
-    left2 : firstNo (callQuestions i) ≡ firstNo from2
+    left2 : firstNo (callQuestions i) ≡ firstNo (shelf ++ from4)
     unfolding callQuestions askSetup
-    left2 = yes-cons valid 1 from2 h1
+    left2 = yes-cons valid 1 (shelf ++ from4) h1
 
-    pub clock-no : i .setup .modulus ≤ i .clock → 2 ≡ firstNo (callQuestions i)
-    clock-no h = sym (left2 ∙ no-cons _ 2 from3 (le-ltb (i .clock) (i .setup .modulus) h))
+    pub shelf-no : (k : ℕ) → k ≡ firstNo shelf → (k ≡ 0 → ⊥) → k ≡ firstNo (callQuestions i)
+    shelf-no k e h = no-append shelf from4 k e h ∙ sym left2
 
-    module _ (h2 : i .clock < i .setup .modulus) where
-      left3 : firstNo (callQuestions i) ≡ firstNo from3
-      left3 = left2 ∙ yes-cons _ 2 from3 (lt-ltb (i .clock) (i .setup .modulus) h2)
+    module _ (h2 : firstNo shelf ≡ 0) where
+      left4 : firstNo (callQuestions i) ≡ firstNo from4
+      unfolding every
+      left4 = left2 ∙ yes-append shelf from4 refl h2
 
-      pub length-no : (length (i .holdback) ≡ holdbackSize (i .setup) → ⊥) → 3 ≡ firstNo (callQuestions i)
-      length-no h = sym (left3 ∙ no-cons _ 3 from4 (ne-eqb (length (i .holdback)) (holdbackSize (i .setup)) h))
+      pub payload-no : longestPayload < length (i .payload) → 4 ≡ firstNo (callQuestions i)
+      unfolding askPayload
+      payload-no h = sym (left4 ∙ no-cons _ 4 from5 (lt-leb (length (i .payload)) longestPayload h))
 
-      module _ (h3 : length (i .holdback) ≡ holdbackSize (i .setup)) where
-        left4 : firstNo (callQuestions i) ≡ firstNo from4
-        left4 = left3 ∙ yes-cons _ 3 from4 (eq-eqb (length (i .holdback)) (holdbackSize (i .setup)) h3)
-
-        pub payload-no : longestPayload < length (i .payload) → 4 ≡ firstNo (callQuestions i)
+      module _ (h4 : length (i .payload) ≤ longestPayload) where
+        left5 : firstNo (callQuestions i) ≡ firstNo from5
         unfolding askPayload
-        payload-no h = sym (left4 ∙ no-cons _ 4 from5 (lt-leb (length (i .payload)) longestPayload h))
+        left5 = left4 ∙ yes-cons _ 4 from5 (le-leb (length (i .payload)) longestPayload h4)
 
-        module _ (h4 : length (i .payload) ≤ longestPayload) where
-          left5 : firstNo (callQuestions i) ≡ firstNo from5
-          unfolding askPayload
-          left5 = left4 ∙ yes-cons _ 4 from5 (le-leb (length (i .payload)) longestPayload h4)
+        pub batch-no : exactBatch (i .batch) ≡ false → 5 ≡ firstNo (callQuestions i)
+        batch-no h = sym (left5 ∙ no-cons _ 5 from6 h)
 
-          pub batch-no : exactBatch (i .batch) ≡ false → 5 ≡ firstNo (callQuestions i)
-          batch-no h = sym (left5 ∙ no-cons _ 5 from6 h)
+        module _ (h5 : exactBatch (i .batch) ≡ true) where
+          left6 : firstNo (callQuestions i) ≡ firstNo from6
+          left6 = left5 ∙ yes-cons _ 5 from6 h5
 
-          module _ (h5 : exactBatch (i .batch) ≡ true) where
-            left6 : firstNo (callQuestions i) ≡ firstNo from6
-            left6 = left5 ∙ yes-cons _ 5 from6 h5
+          room-no : roomy i ≡ false → 6 ≡ firstNo (callQuestions i)
+          room-no h = sym (left6 ∙ no-cons (roomy i) 6 [] h)
 
-            room-no : roomy i ≡ false → 6 ≡ firstNo (callQuestions i)
-            room-no h = sym (left6 ∙ no-cons (roomy i) 6 [] h)
+          pub outgoing-no : length (i .outgoing) < longestFrame (i .setup .epsilon) → 6 ≡ firstNo (callQuestions i)
+          unfolding roomy
+          outgoing-no h = room-no (rw (lt-leb (longestFrame (i .setup .epsilon)) (length (i .outgoing)) h))
 
-            pub outgoing-no : length (i .outgoing) < longestFrame (i .setup .epsilon) → 6 ≡ firstNo (callQuestions i)
+          module _ (h6 : longestFrame (i .setup .epsilon) ≤ length (i .outgoing)) where
+            pub verdicts-no : length (i .verdicts) < verdictLength → 6 ≡ firstNo (callQuestions i)
             unfolding roomy
-            outgoing-no h = room-no (rw (lt-leb (longestFrame (i .setup .epsilon)) (length (i .outgoing)) h))
+            verdicts-no h =
+                room-no (rw (le-leb (longestFrame (i .setup .epsilon)) (length (i .outgoing)) h6, lt-leb verdictLength (length (i .verdicts)) h))
 
-            module _ (h6 : longestFrame (i .setup .epsilon) ≤ length (i .outgoing)) where
-              pub verdicts-no : length (i .verdicts) < verdictLength → 6 ≡ firstNo (callQuestions i)
+            module _ (h7 : verdictLength ≤ length (i .verdicts)) where
+              roomy-is : roomy i ≡ leb (holdbackSize (i .setup)) (length (i .delivery))
               unfolding roomy
-              verdicts-no h =
-                  room-no (rw (le-leb (longestFrame (i .setup .epsilon)) (length (i .outgoing)) h6, lt-leb verdictLength (length (i .verdicts)) h))
+              roomy-is = rw (le-leb (longestFrame (i .setup .epsilon)) (length (i .outgoing)) h6, le-leb verdictLength (length (i .verdicts)) h7)
 
-              module _ (h7 : verdictLength ≤ length (i .verdicts)) where
-                roomy-is : roomy i ≡ leb (holdbackSize (i .setup)) (length (i .delivery))
-                unfolding roomy
-                roomy-is = rw (le-leb (longestFrame (i .setup .epsilon)) (length (i .outgoing)) h6, le-leb verdictLength (length (i .verdicts)) h7)
+              pub delivery-no : length (i .delivery) < holdbackSize (i .setup) → 6 ≡ firstNo (callQuestions i)
+              delivery-no h = room-no (roomy-is ∙ lt-leb (holdbackSize (i .setup)) (length (i .delivery)) h)
 
-                pub delivery-no : length (i .delivery) < holdbackSize (i .setup) → 6 ≡ firstNo (callQuestions i)
-                delivery-no h = room-no (roomy-is ∙ lt-leb (holdbackSize (i .setup)) (length (i .delivery)) h)
-
-                pub none-no : holdbackSize (i .setup) ≤ length (i .delivery) → 0 ≡ firstNo (callQuestions i)
-                unfolding firstNo
-                none-no h = sym (left6 ∙ yes-cons (roomy i) 6 [] (roomy-is ∙ le-leb (holdbackSize (i .setup)) (length (i .delivery)) h))
+              pub none-no : holdbackSize (i .setup) ≤ length (i .delivery) → 0 ≡ firstNo (callQuestions i)
+              unfolding firstNo
+              none-no h = sym (left6 ∙ yes-cons (roomy i) 6 [] (roomy-is ∙ le-leb (holdbackSize (i .setup)) (length (i .delivery)) h))

@@ -2,7 +2,7 @@
 use setup::LONGEST_PAYLOAD;
 use setup::Setup;
 use setup::VERDICT_LENGTH;
-use setup::holdback_length;
+use setup::check_holdback;
 use setup::longest_frame;
 use setup::valid_for;
 ghost use mathlib.Core.Path.{_≡_};
@@ -31,13 +31,9 @@ pub fn check_call(
     if !valid_for(setup, own) {
         return 1;
     }
-    let epsilon = setup.epsilon as usize;
-    if setup.modulus as usize <= clock {
-        return 2;
-    }
-    let size = holdback_length(setup.n as usize, epsilon, setup.delta as usize);
-    if holdback.len() != size {
-        return 3;
+    let number = check_holdback(setup, clock, holdback);
+    if number != 0 {
+        return number;
     }
     if LONGEST_PAYLOAD < payload.len() {
         return 4;
@@ -45,13 +41,13 @@ pub fn check_call(
     if !batch::exact(batch) {
         return 5;
     }
-    if outgoing.len() < longest_frame(epsilon) {
+    if outgoing.len() < longest_frame(setup.epsilon as usize) {
         return 6;
     }
     if verdicts.len() < VERDICT_LENGTH {
         return 6;
     }
-    if delivery.len() < size {
+    if delivery.len() < holdback.len() {
         return 6;
     }
     0

@@ -1,5 +1,6 @@
-// 01: the setup and its limits, and the lengths that follow from it.
+// 01: the setup and its limits, the lengths that follow from it, and the questions on a clock and a shelf.
 mod limits;
+mod questions;
 
 pub use limits::LONGEST_PAYLOAD;
 pub use limits::Setup;
@@ -8,3 +9,4 @@ pub use limits::depth;
 pub use limits::holdback_length;
 pub use limits::longest_frame;
 pub use limits::valid_for;
+pub use questions::check_holdback;

@@ -5,6 +5,7 @@ pub mod frames;
 pub mod group;
 pub mod memory;
 pub mod pairs;
+pub mod polls;
 pub mod prng;
 pub mod spoil;
 pub mod traces;
@@ -12,6 +13,7 @@ pub mod traces;
 pub use cases::{ReadCase, TickCase, WordsCase, WriteCase};
 pub use group::{Group, Habits};
 pub use pairs::CompareCase;
+pub use polls::PollCase;
 pub use prng::Prng;
 
 use crate::Setup;

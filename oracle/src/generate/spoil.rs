@@ -10,7 +10,7 @@ pub fn spoil(rng: &mut Prng, case: &mut TickCase) {
         let (outgoing, delivery) = least_lengths(&case.setup);
         match rng.below(9) {
             0 => spoil_setup(rng, &mut case.setup),
-            1 => spoil_clock(rng, case),
+            1 => spoil_clock(rng, &case.setup, &mut case.clock),
             2 => spoil_length(rng, &mut case.holdback),
             3 => {
                 let length = rng.pick(&[33, 34, 64, 255, 256, 300, 65_536]);
@@ -49,14 +49,14 @@ pub fn spoil_setup(rng: &mut Prng, setup: &mut Setup) {
 }
 
 /// A clock that is not below B; some would be, cut to two bytes.
-fn spoil_clock(rng: &mut Prng, case: &mut TickCase) {
-    let modulus = case.setup.modulus.min(65_536);
-    let wide = 65_536 + case.clock % 65_536;
-    case.clock = rng.pick(&[modulus, modulus + 1, wide, u32::MAX.into()]);
+pub fn spoil_clock(rng: &mut Prng, setup: &Setup, clock: &mut i64) {
+    let modulus = setup.modulus.min(65_536);
+    let wide = 65_536 + *clock % 65_536;
+    *clock = rng.pick(&[modulus, modulus + 1, wide, u32::MAX.into()]);
 }
 
 /// Makes a buffer a little longer or shorter, much longer, or empty.
-fn spoil_length(rng: &mut Prng, buffer: &mut Vec<u8>) {
+pub fn spoil_length(rng: &mut Prng, buffer: &mut Vec<u8>) {
     match rng.below(4) {
         0 => buffer.push(0),
         1 => buffer.truncate(buffer.len().saturating_sub(1)),

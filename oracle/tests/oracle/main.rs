@@ -6,6 +6,7 @@ mod group;
 mod memory;
 mod nudges;
 mod order;
+mod poll;
 mod programs;
 mod reasons;
 mod replaying;

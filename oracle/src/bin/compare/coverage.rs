@@ -14,8 +14,9 @@ const TRACES: u64 = 40;
 /// Of calls. 17 is not among the numbers of frames: no queue ever gets full; it is
 /// among those of lines, where verdicts that are not the frames' own are given too. For `sent` and
 /// `gave` (was a frame sent, was one handed out) 1 is yes. The numbers of `early`, `overdue` and
-/// `step` are kinds: see `nudges`; so are those of `count`: see `reasons`.
-const OF_CALLS: [Row; 18] = [
+/// `step` are kinds: see `nudges`; so are those of `count`: see `reasons`; and those of the rows of polls
+/// but the first: see `polls`.
+const OF_CALLS: [Row; 23] = [
     ("call", &[0, 1, 2, 3, 4, 5, 6]),
     ("compare", &[0, 1, 2, 10, 11, 12]),
     ("count", &[0, 1, 2]),
@@ -27,6 +28,11 @@ const OF_CALLS: [Row; 18] = [
     ("mend", &[0, 1, 2, 3]),
     ("order", &[0, 1, 2]),
     ("overdue", &[1, 2, 3]),
+    ("poll", &[0, 1, 2, 3]),
+    ("poll bound", &[0, 1, 2]),
+    ("poll next", &[0, 1]),
+    ("poll shelf", &[0, 1, 2, 3, 4]),
+    ("poll within", &[0, 1, 2]),
     ("reader", &[0, 1, 10, 11, 12]),
     ("reason", &[0, 1, 2, 3, 4]),
     ("second", &[10, 11, 12]),

@@ -11,6 +11,7 @@
 
 mod coverage;
 mod nudges;
+mod polls;
 mod reasons;
 mod run;
 mod subject;

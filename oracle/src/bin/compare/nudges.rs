@@ -1,8 +1,8 @@
 //! What a call meets of 02's nudged clocks, as numbers for the coverage.
 
 use oracle::generate::TickCase;
-use oracle::holdback::{Entry, Holdback};
-use oracle::{Answer, Frame, Setup, Timestamp};
+use oracle::holdback::{dues, Holdback};
+use oracle::{Answer, Timestamp};
 
 /// The kind of a step: 0, 1, 2 for one between 1 and ε, 3 for ε (above 1), 4 for ε + 1.
 pub fn step_kind(epsilon: i64, step: i64) -> Option<u8> {
@@ -28,8 +28,8 @@ pub fn step_of(given: &TickCase) -> Option<u8> {
 
 /// Of an accepted call's hand-out: 0 if all of it is due at v, 1 if all of it was due before, 2
 /// if it has both. None if it has no frames.
-pub fn early_of(left: &TickCase, answer: &Answer) -> Option<u8> {
-    let due = dues(&left.setup, left.clock, answer.delivered, &left.delivery);
+pub fn early_of(left: &TickCase) -> Option<u8> {
+    let due: Vec<i64> = dues(&left.setup, left.clock, &left.delivery).collect();
     let early = due.iter().filter(|&&due| due < 0).count();
     match early {
         _ if due.is_empty() => None,
@@ -48,23 +48,12 @@ pub fn overdue_of(given: &TickCase, answer: &Answer) -> Option<u8> {
         return None;
     }
     Holdback::decode(setup, *clock, -setup.epsilon, holdback)?;
-    let least = dues(setup, *clock, 1, holdback)[0];
+    let least = dues(setup, *clock, holdback).next().expect("a frame");
     match Timestamp::of_state(setup, &given.state).sound_step(setup, *clock) {
         None => Some(3),
         Some(step) if least == -step => Some(1),
         Some(_) => Some(2),
     }
-}
-
-/// The due clocks of the first frames behind a two-byte count, relative to v.
-fn dues(setup: &Setup, v: i64, count: u16, bytes: &[u8]) -> Vec<i64> {
-    let mut rest = &bytes[2..];
-    let mut due = |_| {
-        let (frame, after) = Frame::split(setup, rest).expect("a frame");
-        rest = after;
-        Entry::near(setup, v, frame).due(setup)
-    };
-    (0..count).map(&mut due).collect()
 }
 
 /// The kinds of the steps between the ticks of a good trace, by its lines.

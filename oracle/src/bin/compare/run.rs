@@ -2,10 +2,10 @@
 
 use crate::coverage::Coverage;
 use crate::subject::Subject;
-use crate::{nudges, reasons};
+use crate::{nudges, polls, reasons};
 use oracle::abi;
 use oracle::generate::{self, spoil, Group, Habits, Prng};
-use oracle::generate::{CompareCase, ReadCase, TickCase, WordsCase, WriteCase};
+use oracle::generate::{CompareCase, PollCase, ReadCase, TickCase, WordsCase, WriteCase};
 use oracle::replay::hex;
 use oracle::Answer;
 
@@ -99,6 +99,20 @@ impl Case for CompareCase {
     }
 }
 
+impl Case for PollCase {
+    fn call(&mut self, subject: &mut dyn Subject) -> u64 {
+        subject.poll(self)
+    }
+
+    fn numbers(&self) -> String {
+        format!("poll: {:?} clock {} within {}", self.setup, self.clock, self.within)
+    }
+
+    fn buffers(&self) -> Vec<(&'static str, &[u8])> {
+        vec![("shelf", &self.holdback)]
+    }
+}
+
 /// Two programs, and what was met so far. An error describes a difference.
 pub struct Comparison<'s> {
     pub left: &'s mut dyn Subject,
@@ -156,6 +170,11 @@ impl<'s> Comparison<'s> {
             self.words(judged.clone().spoil(rng))?;
             self.words(judged)?;
         }
+        let poll = match rng.one_in(2) {
+            true => PollCase::after(rng, &case),
+            false => PollCase::random(rng, &case),
+        };
+        self.poll(poll)?;
         group.settle(node, case, &answer);
         Ok(())
     }
@@ -181,7 +200,7 @@ impl<'s> Comparison<'s> {
     fn meet_nudges(&mut self, given: &TickCase, left: &TickCase, answer: &Answer) {
         let kinds = [
             ("step", nudges::step_of(given)),
-            ("early", nudges::early_of(left, answer)),
+            ("early", nudges::early_of(left)),
             ("overdue", nudges::overdue_of(given, answer)),
         ];
         for (what, kind) in kinds {
@@ -203,6 +222,14 @@ impl<'s> Comparison<'s> {
     fn compare(&mut self, case: CompareCase) -> Result<(), String> {
         let (case, word) = self.case(case)?;
         for (what, kind) in reasons::kinds_of(&case, word) {
+            self.coverage.meet(what, kind);
+        }
+        Ok(())
+    }
+
+    fn poll(&mut self, case: PollCase) -> Result<(), String> {
+        let (case, word) = self.case(case)?;
+        for (what, kind) in polls::kinds_of(&case, word) {
             self.coverage.meet(what, kind);
         }
         Ok(())

@@ -1,7 +1,7 @@
 //! The programs that are compared.
 
 use oracle::abi;
-use oracle::generate::{CompareCase, ReadCase, TickCase, WordsCase, WriteCase};
+use oracle::generate::{CompareCase, PollCase, ReadCase, TickCase, WordsCase, WriteCase};
 use oracle::{fault, replay};
 
 /// Something that makes the calls and replays traces. Answers are packed as the library's.
@@ -11,6 +11,7 @@ pub trait Subject {
     fn write(&mut self, case: &mut WriteCase) -> u64;
     fn words(&mut self, case: &mut WordsCase) -> u64;
     fn compare(&mut self, case: &mut CompareCase) -> u64;
+    fn poll(&mut self, case: &mut PollCase) -> u64;
     fn replay(&mut self, trace: &[u8]) -> Result<String, String>;
 }
 
@@ -68,6 +69,10 @@ impl Subject for Oracle {
         }
     }
 
+    fn poll(&mut self, case: &mut PollCase) -> u64 {
+        abi::pack_poll(self.faulty(|| case.run()))
+    }
+
     fn replay(&mut self, trace: &[u8]) -> Result<String, String> {
         Ok(self.faulty(|| replay::replay_text(trace)))
     }
@@ -99,6 +104,10 @@ impl Subject for Proved {
 
     fn compare(&mut self, case: &mut CompareCase) -> u64 {
         abi::library::compare(case)
+    }
+
+    fn poll(&mut self, case: &mut PollCase) -> u64 {
+        abi::library::poll(case)
     }
 
     fn replay(&mut self, trace: &[u8]) -> Result<String, String> {

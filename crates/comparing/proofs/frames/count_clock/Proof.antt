@@ -1,25 +1,19 @@
 -- `comparing::frames::count_clock` meets its contract. Assumes nothing.
-use mathlib.Core.Path.{refl}
+use native.Mathlib.Omega.{arith}
 use borrow.Author.Needs.{needs}
 use Rattle.model.specs.Comparison.{countClock}
 use Rattle.comparing.proofs.frames.count_clock.Statement.{statement}
 use Rattle.comparing.proofs.frames.count_clock.Tie as tie
 
-cast-modulus : tie.Need-cast-modulus
-cast-modulus c = search needs
+sub-clock-at : tie.Need-sub-clock-at
+sub-clock-at c = search needs
 
-sub-result : tie.Need-sub-result
-sub-result c = search needs
-
-add-result : tie.Need-add-result
-add-result c = search needs
-
-rem-result : tie.Need-rem-result
-rem-result c = search needs
+clock-at-requires : tie.Need-clock-at-requires
+clock-at-requires c κs = (c .pre .0 .0, (c .pre .0 .1, omega arith))
 
 returns : tie.Need-returns
 unfolding countClock
-returns c = refl
+returns c = c .clock-at .ensures
 
 pub count-clock-spec : {M : Type 1} → statement M
-count-clock-spec = tie.close (tie.spec cast-modulus sub-result add-result rem-result returns)
+count-clock-spec = tie.close (tie.spec sub-clock-at clock-at-requires returns)

@@ -11,6 +11,7 @@ use Rattle.model.specs.Setup.{Setup}
 use Rattle.model.specs.Frame.{Frame}
 use Rattle.model.specs.Holdback.{held, encodeFrames, encodeHoldback}
 use Rattle.model.specs.Tick.{dueNow}
+use Rattle.model.specs.Poll.{dueWithin}
 use Rattle.holdback.specs.Queue.{Spans}
 use Rattle.holdback.proofs.Cut.{count-small, sound-spans, due-number, due-left, due-taken, due-room}
 use borrow.Author.Needs.{needs}
@@ -36,7 +37,7 @@ module _ (c : tie.After-due-prefix) where
 
   spans : Spans (s .epsilon) (start .args .buf .now) (start .args .count) (start .args .end) (c .due-prefix .result .index) (c .due-prefix .result .at)
   spans =
-      sound-spans s (start .args .v) (s .modulus) (start .args .buf .now) (start .pre .1 .0 .0) (dueNow s (start .args .v)) (start .args .count) (start .args .end) (c .due-prefix .result .index) (c .due-prefix .result .at)
+      sound-spans s (start .args .v) (s .modulus) (start .args .buf .now) (start .pre .1 .0 .0) (dueWithin s (start .args .v) 0) (start .args .count) (start .args .end) (c .due-prefix .result .index) (c .due-prefix .result .at)
       (start .pre .1 .0 .1 .0) (start .pre .1 .0 .1 .1) (start .pre .1 .1 .0 .0) (c .due-prefix .ensures)
 
 append-prefix-requires : tie.Need-append-prefix-requires

@@ -2,7 +2,7 @@
 use borrow.Author.Needs.{needs}
 use native.Mathlib.Omega.{arith}
 use Prim.Native.Nat.{_-_}
-use Rattle.model.specs.Tick.{dueNow}
+use Rattle.model.specs.Poll.{dueWithin}
 use Rattle.setup.specs.Views.{setupOf}
 use Rattle.lemmas.proofs.Questions.{limits-from}
 use Rattle.holdback.proofs.Searching.{Led, led-starts, led-inside, led-next, led-passes, led-stops, led-turns, led-ends}
@@ -10,10 +10,10 @@ use Rattle.holdback.proofs.due.due_prefix.Statement.{statement}
 use Rattle.holdback.proofs.due.due_prefix.Tie as tie
 
 abbrev Inv-loop : tie.InvT-loop
-Inv-loop s v buf count epsilon i₀ at₀ i at = Led (dueNow (setupOf s) v) (setupOf s) v (s .modulus) buf count i at
+Inv-loop s v d buf count epsilon i₀ at₀ i at = Led (dueWithin (setupOf s) v d) (setupOf s) v (s .modulus) buf count i at
 
 abbrev μ-loop : tie.MeasureT-loop
-μ-loop s v buf count epsilon i₀ at₀ i at = count - i
+μ-loop s v d buf count epsilon i₀ at₀ i at = count - i
 
 cast-epsilon : tie.Need-cast-epsilon Inv-loop μ-loop
 cast-epsilon c = search needs
@@ -36,24 +36,24 @@ frame-end-requires c κs = limits-from (setupOf (c .before .before .before .befo
 add-next : tie.Need-add-next Inv-loop μ-loop
 add-next c = omega (arith, led-next (c .before .before .before .loop .inv) (c .before .before .loop-test .taken) (c .frame-end .ensures))
 
-sub-is-due : tie.Need-sub-is-due Inv-loop μ-loop
-sub-is-due c = omega arith
+sub-due-within : tie.Need-sub-due-within Inv-loop μ-loop
+sub-due-within c = omega arith
 
-part-is-due-start : tie.Need-part-is-due-start Inv-loop μ-loop
-part-is-due-start c = omega arith
+part-due-within-start : tie.Need-part-due-within-start Inv-loop μ-loop
+part-due-within-start c = omega arith
 
-part-is-due-end : tie.Need-part-is-due-end Inv-loop μ-loop
-part-is-due-end c = omega (arith, led-next (c .before .before .before .loop .inv) (c .before .before .loop-test .taken) (c .frame-end .ensures))
+part-due-within-end : tie.Need-part-due-within-end Inv-loop μ-loop
+part-due-within-end c = omega (arith, led-next (c .before .before .before .loop .inv) (c .before .before .loop-test .taken) (c .frame-end .ensures))
 
-is-due-requires : tie.Need-is-due-requires Inv-loop μ-loop
-is-due-requires c κs =
+due-within-requires : tie.Need-due-within-requires Inv-loop μ-loop
+due-within-requires c κs =
     let start = c .before .before .before .before .before .before .before in
     let ok = led-passes (c .before .before .before .before .loop .inv) (c .before .before .before .loop-test .taken) (c .before .frame-end .ensures) in
     (start .pre .0, ok)
 
 returns : tie.Need-returns Inv-loop μ-loop
 returns c =
-    led-stops (c .before .before .before .before .before .before .loop .inv) (c .before .before .before .before .before .loop-test .taken) (c .before .before .before .frame-end .ensures) (c .before .is-due .ensures) (c .if1 .taken)
+    led-stops (c .before .before .before .before .before .before .loop .inv) (c .before .before .before .before .before .loop-test .taken) (c .before .before .before .frame-end .ensures) (c .before .due-within .ensures) (c .if1 .taken)
 
 add-i : tie.Need-add-i Inv-loop μ-loop
 add-i c = omega arith
@@ -63,7 +63,7 @@ loop-less c = omega arith
 
 loop-again : tie.Need-loop-again Inv-loop μ-loop
 loop-again c =
-    led-turns (c .before .before .before .before .before .before .loop .inv) (c .before .before .before .before .before .loop-test .taken) (c .before .before .before .frame-end .ensures) (c .before .is-due .ensures) (c .if1 .left)
+    led-turns (c .before .before .before .before .before .before .loop .inv) (c .before .before .before .before .before .loop-test .taken) (c .before .before .before .frame-end .ensures) (c .before .due-within .ensures) (c .if1 .left)
 
 returns-2 : tie.Need-returns-2 Inv-loop μ-loop
 returns-2 c = led-ends (c .before .loop .inv) (c .loop-test .left)
@@ -81,10 +81,10 @@ due-prefix-spec =
     part-frame-end-end
     frame-end-requires
     add-next
-    sub-is-due
-    part-is-due-start
-    part-is-due-end
-    is-due-requires
+    sub-due-within
+    part-due-within-start
+    part-due-within-end
+    due-within-requires
     returns
     add-i
     loop-less
