@@ -1,5 +1,5 @@
 #!/usr/bin/env bash
-# Times the tick and the poll through the static library against the oracle and a twin tuned by hand.
+# Times the tick, the poll and an observer's call through the static library against the oracle and a twin tuned by hand.
 set -euo pipefail
 cd "$(dirname "$0")/.."
 bash host/library.sh

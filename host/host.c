@@ -1,10 +1,11 @@
-/* A yard of several stations in one process, over the library: each station has a clock within the drift limit, and a slow one is
- * nudged forward by several ticks now and then; the air loses, delays and repeats frames and carries junk, and in the middle a
- * power dip fills one station's memory with random bytes.
+/* A yard of several stations, and an observer that only listens, in one process, over the library: all clocks keep the drift limit,
+ * the observer's is never ahead of a station's, and a slow one is nudged forward by several ticks now and then; the air loses,
+ * delays and repeats frames and carries junk, and in the middle a power dip fills one station's memory, and the observer's, with
+ * random bytes.
  * It prints each board's hand-outs, and of one station the words of what it hears and the clock at which it shows next. Each tick
- * must show what a poll before it foretold. Then it checks of the messages sent after recovery that every board shows each one that
- * it took and that was due, in its first tick at or past the due clock, none of them twice, and causes before effects, and that any
- * two boards show those that both show in one order.
+ * must show what a poll before it foretold. Then it checks of the messages sent after recovery that every board, also the
+ * observer's, shows each one that it heard and that was due, in its first tick at or past the due clock, no other and none of them
+ * twice, and causes before effects, and that any two boards show those that both show in one order.
  * Usage: host [SEED]. Exit status 0 where all holds. */
 #include <stdio.h>
 #include <stdlib.h>
@@ -14,6 +15,8 @@
 
 enum { N = 4, EPSILON = 3, DELTA = 6, MODULUS = 61, TICKS = 400, DIP = 150, MESSAGES = 1024, GIVEN = 4096 };
 enum { FRAME = YARNGRAVEL_FRAME(EPSILON), SHELF = YARNGRAVEL_SHELF(N, EPSILON, DELTA), JUNK = -1, TOLD = 0 };
+/* the stations' boards, by their numbers, and then the observer's */
+enum { OBSERVER = N, BOARDS = N + 1 };
 
 /* a set of messages, a bit for each */
 struct set {
@@ -32,28 +35,30 @@ struct message {
 /* a frame handed out */
 struct given {
     int message; /* JUNK for a frame that nobody sent */
-    int last;    /* the station's true clock before the tick that handed it out */
+    int last;    /* the board's true clock before the tick that handed it out */
     int clock;   /* and in that tick */
 };
 
-struct station {
+struct board {
     int clock; /* the true clock */
-    uint8_t tables[YARNGRAVEL_TABLES];
+    uint8_t tables[YARNGRAVEL_TABLES]; /* a station's */
+    uint8_t last[YARNGRAVEL_LAST];     /* the observer's */
     uint8_t shelf[SHELF];
-    struct set taken; /* what the station took so far */
-    struct set known; /* that, what it sent, and the causes of both */
+    struct set heard; /* what it heard so far */
+    struct set taken; /* what it took of that */
+    struct set known; /* that, what the station sent, and the causes of both */
     unsigned given_count;
     struct given given[GIVEN]; /* what was handed out, in order */
 };
 
-/* what a station hears in a tick, and which message each entry is */
+/* what is heard in a tick, and which message each entry is */
 struct bundle {
     unsigned len;
     uint8_t bytes[1 + 255 * (1 + FRAME)];
     int from[255];
 };
 
-static struct station stations[N];
+static struct board boards[BOARDS];
 static struct message messages[MESSAGES];
 static unsigned message_count;
 static unsigned foretold; /* ticks that showed something that a poll had counted */
@@ -77,13 +82,14 @@ static void join(struct set *set, const struct set *more) {
     for (unsigned i = 0; i < MESSAGES / 64; i++) set->words[i] |= more->words[i];
 }
 
-/* fresh tables at a clock: that r, c 0, count 1 at offset 0 */
-static void start(struct station *s, int clock) {
+/* an empty shelf, and fresh tables at a clock: that r, c 0, count 1 at offset 0; for the observer that last clock */
+static void start(struct board *s, int clock) {
+    uint8_t bytes[2] = {(uint8_t)(clock % MODULUS % 256), (uint8_t)(clock % MODULUS / 256)};
     s->clock = clock;
     memset(s->tables, 0, sizeof s->tables);
-    s->tables[0] = (uint8_t)(clock % MODULUS % 256);
-    s->tables[1] = (uint8_t)(clock % MODULUS / 256);
+    memcpy(s->tables, bytes, sizeof bytes);
     s->tables[3 + EPSILON] = 1;
+    memcpy(s->last, bytes, sizeof bytes);
     memset(s->shelf, 0, sizeof s->shelf);
 }
 
@@ -91,21 +97,27 @@ static void scramble(uint8_t *bytes, unsigned len) {
     for (unsigned i = 0; i < len; i++) bytes[i] = (uint8_t)draw(256);
 }
 
-/* how far a station may step so that no clock lags more than the drift limit behind it: never more than that limit */
-static int room(int who) {
-    int lowest = stations[who].clock;
-    for (int k = 0; k < N; k++)
-        if (stations[k].clock < lowest) lowest = stations[k].clock;
-    return lowest + EPSILON - stations[who].clock;
+/* the lowest clock of the first so many boards */
+static int lowest_clock(int count) {
+    int lowest = boards[0].clock;
+    for (int k = 1; k < count; k++)
+        if (boards[k].clock < lowest) lowest = boards[k].clock;
+    return lowest;
 }
 
-/* The next step of a station that has some room: 1, or in one of four ticks, where there is room for it, a nudge of 2 or more. */
+/* How far a clock may step so that none lags more than the drift limit behind it: never more than that limit. The observer's goes
+ * no further than the slowest station's. */
+static int room(int who) {
+    return (who == OBSERVER ? lowest_clock(N) : lowest_clock(BOARDS) + EPSILON) - boards[who].clock;
+}
+
+/* The next step of a clock that has some room: 1, or in one of four ticks, where there is room for it, a nudge of 2 or more. */
 static int step_in(int room) { return room > 1 && draw(4) == 0 ? 2 + (int)draw((uint32_t)room - 1) : 1; }
 
 static int largest_clock(void) {
-    int largest = stations[0].clock;
-    for (int k = 1; k < N; k++)
-        if (stations[k].clock > largest) largest = stations[k].clock;
+    int largest = boards[0].clock;
+    for (int k = 1; k < BOARDS; k++)
+        if (boards[k].clock > largest) largest = boards[k].clock;
     return largest;
 }
 
@@ -118,14 +130,14 @@ static void put(struct bundle *b, int from, const uint8_t *bytes, unsigned len) 
     b->len += len;
 }
 
-/* What the station hears at its next clock: of all messages that the delay limit still allows, its own too, about every second
- * one. So a message is heard again and again, three times as a rule, and by some stations never. */
+/* What is heard for a board at its next clock: of all messages that the delay limit still allows, a station's own too, about every
+ * second one. So a message is heard again and again, three times as a rule, and by some never. */
 static void gather(int who, int next, struct bundle *b, bool junk) {
     b->bytes[0] = 0;
     b->len = 1;
     for (unsigned k = 0; k < message_count; k++) {
         const struct message *m = &messages[k];
-        int sender_clock = m->sender == who ? next : stations[m->sender].clock;
+        int sender_clock = m->sender == who ? next : boards[m->sender].clock;
         if (sender_clock <= m->sent_at + DELTA && draw(2) == 0) put(b, (int)k, m->bytes, m->len);
     }
     if (junk) {
@@ -136,10 +148,12 @@ static void gather(int who, int next, struct bundle *b, bool junk) {
     }
 }
 
-/* the station now knows of each message that it took, and of all that the sending of that one could have known of */
-static void learn(struct station *s, const struct bundle *b, const uint8_t *verdicts) {
+/* the board's owner now knows of each message that it took, and of all that the sending of that one could have known of */
+static void learn(struct board *s, const struct bundle *b, const uint8_t *verdicts) {
     for (unsigned k = 0; k < b->bytes[0]; k++)
-        if (verdicts[k] == 0 && b->from[k] != JUNK) {
+        if (b->from[k] != JUNK) {
+            add(&s->heard, b->from[k]);
+            if (verdicts[k] != 0) continue;
             add(&s->taken, b->from[k]);
             add(&s->known, b->from[k]);
             join(&s->known, &messages[b->from[k]].causes);
@@ -150,11 +164,11 @@ static void learn(struct station *s, const struct bundle *b, const uint8_t *verd
 static void keep(int who, const uint8_t *frame, unsigned len) {
     struct message *m = &messages[message_count];
     m->sender = who;
-    m->sent_at = stations[who].clock;
+    m->sent_at = boards[who].clock;
     m->len = len;
     memcpy(m->bytes, frame, len);
-    m->causes = stations[who].known;
-    add(&stations[who].known, (int)message_count);
+    m->causes = boards[who].known;
+    add(&boards[who].known, (int)message_count);
     message_count++;
 }
 
@@ -166,13 +180,17 @@ static int message_of(const uint8_t *frame, unsigned len, const uint8_t *ticket,
     return memcmp(messages[number].bytes, frame, len) == 0 ? (int)number : JUNK;
 }
 
+/* The own number in a call for a board that asks for one. The observer has none; what reads a frame or a shelf says the same for
+ * every station's. */
+static uint32_t own(int who) { return who == OBSERVER ? 0 : (uint32_t)who; }
+
 /* the board shows the frames of a hand-out; message -1 is junk */
 static void show(int who, int last, const uint8_t *frame, unsigned count) {
-    struct station *s = &stations[who];
+    struct board *s = &boards[who];
     for (; count > 0; count--) {
         unsigned len = 7 + 2 * EPSILON + frame[6 + 2 * EPSILON];
         uint8_t stamp[YARNGRAVEL_TABLES];
-        uint64_t got = yarngravel_read(N, EPSILON, DELTA, MODULUS, (uint32_t)who, frame, len, stamp);
+        uint64_t got = yarngravel_read(N, EPSILON, DELTA, MODULUS, own(who), frame, len, stamp);
         if (yarngravel_number(got) != 0) fail("a handed-out frame does not read");
         if (s->given_count == GIVEN) fail("a board gave more than there is room for");
         int message = message_of(frame, len, frame + yarngravel_ticket_at(got), yarngravel_ticket_len(got));
@@ -188,14 +206,14 @@ static void tell(int who, const struct bundle *b, const uint8_t *verdicts) {
     uint64_t told = yarngravel_words(N, EPSILON, DELTA, MODULUS, (uint32_t)who, b->bytes, b->len, verdicts, YARNGRAVEL_VERDICTS,
                                      text, sizeof text);
     if (yarngravel_number(told) != 0) fail("the words were refused");
-    printf("board %d clock %d hears\n%.*s", who, stations[who].clock, (int)yarngravel_text_len(told), (const char *)text);
+    printf("board %d clock %d hears\n%.*s", who, boards[who].clock, (int)yarngravel_text_len(told), (const char *)text);
 }
 
-/* what the station's shelf says of so many ticks from its last one on */
+/* what the board's shelf says of so many ticks from its last one on */
 static uint64_t poll(int who, unsigned within) {
-    const struct station *s = &stations[who];
-    uint64_t answer = yarngravel_poll(N, EPSILON, DELTA, MODULUS, (uint32_t)who, (uint32_t)(s->clock % MODULUS),
-                                      (uint16_t)within, s->shelf, SHELF);
+    const struct board *s = &boards[who];
+    uint64_t answer = yarngravel_poll(N, EPSILON, DELTA, MODULUS, own(who), (uint32_t)(s->clock % MODULUS), (uint16_t)within,
+                                      s->shelf, SHELF);
     if (yarngravel_number(answer) != 0) fail("a poll was refused");
     return answer;
 }
@@ -221,59 +239,88 @@ static void check_poll(uint64_t polled, int last, int next, uint64_t answer, con
 
 /* After a tick a poll of all ticks to come counts the whole shelf. Of one station it is printed when something shows next. */
 static void look_ahead(int who) {
-    const struct station *s = &stations[who];
+    const struct board *s = &boards[who];
     uint64_t polled = poll(who, UINT16_MAX);
     if (yarngravel_within(polled) != s->shelf[0] + 256u * s->shelf[1]) fail("a poll does not count what a tick left");
     if (yarngravel_has_next(polled) && who == TOLD)
         printf("board %d clock %d gives next at clock %d\n", who, s->clock, s->clock + ticks_to_next(polled, s->clock));
 }
 
+/* what is the same for every board once its call for the next clock is made */
+static void settle(int who, int next, uint64_t polled, uint64_t answer, const struct bundle *heard, const uint8_t *verdicts,
+                   const uint8_t *handout) {
+    struct board *s = &boards[who];
+    int last = s->clock;
+    if (yarngravel_number(answer) != 0) fail("a tick was refused");
+    s->clock = next;
+    if (yarngravel_mend(answer) != 0) printf("board %d clock %d mend %u\n", who, s->clock, yarngravel_mend(answer));
+    else check_poll(polled, last, next, answer, handout + 2);
+    if (who == TOLD) tell(who, heard, verdicts);
+    learn(s, heard, verdicts);
+    show(who, last, handout + 2, yarngravel_gave(answer));
+    look_ahead(who);
+}
+
 /* the station's clock steps to the next one */
 static void tick(int who, int next, bool junk) {
     static struct bundle heard;
     static uint8_t outgoing[FRAME], verdicts[YARNGRAVEL_VERDICTS], handout[SHELF];
-    struct station *s = &stations[who];
-    int last = s->clock;
-    uint64_t polled = poll(who, (unsigned)(next - last));
+    struct board *s = &boards[who];
+    uint64_t polled = poll(who, (unsigned)(next - s->clock));
     gather(who, next, &heard, junk);
     bool send = draw(3) == 0 && message_count < MESSAGES;
     uint8_t ticket[2] = {(uint8_t)(message_count % 256), (uint8_t)(message_count / 256)};
     uint64_t answer = yarngravel_tick(N, EPSILON, DELTA, MODULUS, (uint32_t)who, (uint32_t)(next % MODULUS), s->tables,
                                       s->shelf, SHELF, heard.bytes, heard.len, send, ticket, sizeof ticket, outgoing,
                                       sizeof outgoing, verdicts, sizeof verdicts, handout, sizeof handout);
-    if (yarngravel_number(answer) != 0) fail("a tick was refused");
-    s->clock = next;
-    if (yarngravel_mend(answer) != 0) printf("board %d clock %d mend %u\n", who, s->clock, yarngravel_mend(answer));
-    else check_poll(polled, last, next, answer, handout + 2);
-    if (who == TOLD) tell(who, &heard, verdicts);
-    learn(s, &heard, verdicts);
+    settle(who, next, polled, answer, &heard, verdicts, handout);
     if (send) keep(who, outgoing, yarngravel_sent(answer));
-    show(who, last, handout + 2, yarngravel_gave(answer));
-    look_ahead(who);
+}
+
+/* the observer's clock steps to the next one */
+static void listen(int next, bool junk) {
+    static struct bundle heard;
+    static uint8_t verdicts[YARNGRAVEL_VERDICTS], handout[SHELF];
+    struct board *s = &boards[OBSERVER];
+    uint64_t polled = poll(OBSERVER, (unsigned)(next - s->clock));
+    gather(OBSERVER, next, &heard, junk);
+    uint64_t answer = yarngravel_listen(N, EPSILON, DELTA, MODULUS, (uint32_t)(next % MODULUS), s->last, s->shelf, SHELF,
+                                        heard.bytes, heard.len, verdicts, sizeof verdicts, handout, sizeof handout);
+    settle(OBSERVER, next, polled, answer, &heard, verdicts, handout);
+    if (s->last[0] + 256 * s->last[1] != next % MODULUS) fail("the observer's last clock is not that of its call");
+}
+
+/* a power dip at a board: its memory is junk, on which a poll finds nothing */
+static void lose_power(int who) {
+    scramble(boards[who].tables, sizeof boards[who].tables);
+    scramble(boards[who].last, sizeof boards[who].last);
+    scramble(boards[who].shelf, sizeof boards[who].shelf);
+    if (yarngravel_has_next(poll(who, UINT16_MAX))) fail("a poll finds something on a scrambled shelf");
 }
 
 /* Lets the yard tick; the largest clock at the power dip. Junk is heard up to the last clock at which that is allowed. */
 static int play(void) {
     int dip = -1;
-    for (long step = 0; step < (long)TICKS * N * 4; step++) {
-        int who = (int)draw(N);
-        if (stations[who].clock >= TICKS || room(who) < 1) continue;
-        if (dip < 0 && stations[who].clock >= DIP) {
-            scramble(stations[who].tables, sizeof stations[who].tables);
-            scramble(stations[who].shelf, sizeof stations[who].shelf);
-            if (yarngravel_has_next(poll(who, UINT16_MAX))) fail("a poll finds something on a scrambled shelf");
+    for (long step = 0; step < (long)TICKS * BOARDS * 4; step++) {
+        int who = (int)draw(BOARDS);
+        if (boards[who].clock >= TICKS || room(who) < 1) continue;
+        if (dip < 0 && who != OBSERVER && boards[who].clock >= DIP) {
+            lose_power(who);
+            lose_power(OBSERVER);
             dip = largest_clock();
-            printf("power dip at board %d, largest clock %d\n", who, dip);
+            printf("power dip at boards %d and %d, largest clock %d\n", who, OBSERVER, dip);
         }
-        int next = stations[who].clock + step_in(room(who));
-        tick(who, next, dip < 0 || next <= dip + DELTA + EPSILON);
+        int next = boards[who].clock + step_in(room(who));
+        bool junk = dip < 0 || next <= dip + DELTA + EPSILON;
+        if (who == OBSERVER) listen(next, junk);
+        else tick(who, next, junk);
     }
     if (dip < 0) fail("there was no power dip");
     return dip;
 }
 
 /* leaves of a board's hand-outs the covered messages: those sent from this clock on */
-static void keep_covered(struct station *s, int from) {
+static void keep_covered(struct board *s, int from) {
     unsigned kept = 0;
     for (unsigned k = 0; k < s->given_count; k++)
         if (s->given[k].message != JUNK && messages[s->given[k].message].sent_at >= from) s->given[kept++] = s->given[k];
@@ -284,14 +331,14 @@ static void keep_covered(struct station *s, int from) {
 static int due(const struct message *m) { return m->sent_at + m->bytes[5] + DELTA + EPSILON; }
 
 /* the place of a message among those that a board gave before the place `end`, or -1 */
-static int place_of(const struct station *s, int message, unsigned end) {
+static int place_of(const struct board *s, int message, unsigned end) {
     for (unsigned k = 0; k < end; k++)
         if (s->given[k].message == message) return (int)k;
     return -1;
 }
 
 /* How many pairs of cause and effect a board shows, the cause first. No message comes twice, and no effect before its cause. */
-static unsigned check_board(const struct station *s) {
+static unsigned check_board(const struct board *s) {
     unsigned pairs = 0;
     for (unsigned k = 0; k < s->given_count; k++) {
         int message = s->given[k].message;
@@ -305,16 +352,19 @@ static unsigned check_board(const struct station *s) {
     return pairs;
 }
 
-/* Of the messages sent from this clock on, a board shows each one that it took and that was due. */
-static void check_whole(const struct station *s, int from) {
-    for (int k = 0; k < (int)message_count; k++)
-        if (messages[k].sent_at >= from && has(&s->taken, k) && due(&messages[k]) <= s->clock &&
-            place_of(s, k, s->given_count) < 0)
-            fail("a covered message was taken and not handed out");
+/* Of the messages sent from this clock on, a board shows each one that it heard and that was due, and no other. */
+static void check_whole(const struct board *s, int from) {
+    for (int k = 0; k < (int)message_count; k++) {
+        if (messages[k].sent_at < from) continue;
+        if (has(&s->heard, k) && !has(&s->taken, k)) fail("a covered message was heard and not taken");
+        bool due_here = has(&s->heard, k) && due(&messages[k]) <= s->clock, shown = place_of(s, k, s->given_count) >= 0;
+        if (due_here && !shown) fail("a covered message was taken and not handed out");
+        if (shown && !due_here) fail("a covered message was handed out that was not heard, or is not due");
+    }
 }
 
 /* How many messages a board shows past their due clock. Each comes in the first tick at or past it. */
-static unsigned check_times(const struct station *s) {
+static unsigned check_times(const struct board *s) {
     unsigned early = 0;
     for (unsigned k = 0; k < s->given_count; k++) {
         int at = due(&messages[s->given[k].message]);
@@ -326,7 +376,7 @@ static unsigned check_times(const struct station *s) {
 }
 
 /* how many messages two boards both show; they come in one order */
-static unsigned check_two(const struct station *a, const struct station *b) {
+static unsigned check_two(const struct board *a, const struct board *b) {
     unsigned shared = 0;
     int last = -1;
     for (unsigned k = 0; k < a->given_count; k++) {
@@ -342,19 +392,22 @@ static unsigned check_two(const struct station *a, const struct station *b) {
 int main(int argc, char **argv) {
     unsigned causes = 0, shared = 0, early = 0;
     seed = argc > 1 ? strtoull(argv[1], NULL, 10) : 20261115;
-    for (int k = 0; k < N; k++) start(&stations[k], (int)draw(EPSILON + 1));
+    for (int k = 0; k < N; k++) start(&boards[k], (int)draw(EPSILON + 1));
+    start(&boards[OBSERVER], lowest_clock(N));
     int from = play() + DELTA + 3 * EPSILON;
-    for (int a = 0; a < N; a++) {
-        keep_covered(&stations[a], from);
-        check_whole(&stations[a], from);
-        causes += check_board(&stations[a]);
-        early += check_times(&stations[a]);
-        for (int b = 0; b < a; b++) shared += check_two(&stations[a], &stations[b]);
+    for (int a = 0; a < BOARDS; a++) {
+        keep_covered(&boards[a], from);
+        check_whole(&boards[a], from);
+        causes += check_board(&boards[a]);
+        early += check_times(&boards[a]);
+        for (int b = 0; b < a; b++) shared += check_two(&boards[a], &boards[b]);
     }
     if (shared < 100 || causes < 100 || early < 20) fail("too few covered messages to compare");
     if (foretold < 100) fail("too few ticks that a poll foretold something of");
+    if (boards[OBSERVER].given_count < 100) fail("too few covered messages on the observer's board");
     printf("boards agree: %u times two of them show one message, and %u times a cause before its effect; "
-           "%u times a message was due before the tick that shows it; %u times a poll foretold what a tick shows\n",
-           shared, causes, early, foretold);
+           "%u times a message was due before the tick that shows it; %u times a poll foretold what a tick shows; "
+           "the observer shows %u messages as the stations do\n",
+           shared, causes, early, foretold, boards[OBSERVER].given_count);
     return 0;
 }

@@ -1,8 +1,9 @@
 /* Yarngravel: one causal order of messages on every board.
  *
  * The library keeps no memory of its own. A station keeps its tables and its shelf between ticks and lends both, with the
- * buffers below, to each call. Any numbers and any bytes get an answer. A call that fails a check answers that check's
- * number, and then no byte of any buffer or table has changed. Buffers must not overlap.
+ * buffers below, to each call; an observer, a board that only listens, keeps its last clock and its shelf. Any numbers and any
+ * bytes get an answer. A call that fails a check answers that check's number, and then no byte of any buffer or table has changed.
+ * Buffers must not overlap.
  * The archive needs memcpy and memset, and about 3 KB of stack.
  */
 #ifndef YARNGRAVEL_H
@@ -16,9 +17,9 @@
 extern "C" {
 #endif
 
-/* Limits of a setup: the numbers that every call takes first.
+/* Limits of a setup: the numbers that every call takes first, an observer's without the last.
  *   n         stations of the yard, 1 to 16
- *   epsilon   drift limit, 1 to 16: no two station clocks ever differ by more ticks
+ *   epsilon   drift limit, 1 to 16: no two clocks of stations and observers ever differ by more ticks
  *   delta     delay limit, 0 to 64: a frame is heard while its sender's clock is at most this far past the sending
  *   modulus   B, from YARNGRAVEL_LEAST_MODULUS to 65535: clocks are given modulo B
  *   own       this station's number, below n
@@ -33,6 +34,7 @@ extern "C" {
  * After an accepted tick r is that tick's clock. A fresh shelf is zeros.
  */
 #define YARNGRAVEL_TABLES 35u
+#define YARNGRAVEL_LAST 2u                                 /* an observer's last clock modulo B, low byte first */
 #define YARNGRAVEL_TICKET 32u                              /* the longest ticket */
 #define YARNGRAVEL_FRAME(epsilon) (39u + 2u * (epsilon))   /* the longest frame; the outgoing buffer has at least this */
 #define YARNGRAVEL_VERDICTS 255u                           /* the verdict buffer has at least this */
@@ -55,18 +57,18 @@ extern "C" {
 #define YARNGRAVEL_BAD_STAMP 12u   /* the stamp is not sound */
 #define YARNGRAVEL_LATE 13u        /* r is more than delta + epsilon behind the clock; one that is epsilon or more ahead is read as behind */
 #define YARNGRAVEL_EARLY 14u       /* the sum is more than epsilon - 1 past the clock */
-#define YARNGRAVEL_BAD_COUNT 15u   /* a count for this clock or later is above n - 1 */
+#define YARNGRAVEL_BAD_COUNT 15u   /* a count for this clock or later is above n - 1; an observer does not ask it */
 #define YARNGRAVEL_REPEAT 16u      /* that station and r is on the shelf already */
 #define YARNGRAVEL_FULL 17u        /* the shelf is full */
 
-/* The fields of a tick's answer. A refusal is its number alone. */
+/* The fields of the answer of a tick or of an observer's call. A refusal is its number alone. */
 static inline unsigned yarngravel_number(uint64_t answer) { return (unsigned)(answer & 0xffu); }
-/* what had to be mended: 1 the tables were not sound for this clock and were replaced, 2 the shelf was not sound and was emptied,
-   3 both */
+/* what had to be mended: 1 the tables (an observer's last clock) were not sound for this clock and were replaced, 2 the shelf was
+   not sound and was emptied, 3 both */
 static inline unsigned yarngravel_mend(uint64_t answer) { return (unsigned)(answer >> 8 & 0xffu); }
 /* frames of the bundle that were taken */
 static inline unsigned yarngravel_taken(uint64_t answer) { return (unsigned)(answer >> 16 & 0xffu); }
-/* length of the frame in the outgoing buffer, 0 if none was sent */
+/* length of the frame in the outgoing buffer, 0 if none was sent; an observer sends none */
 static inline unsigned yarngravel_sent(uint64_t answer) { return (unsigned)(answer >> 24 & 0xffu); }
 /* frames in the hand-out buffer */
 static inline unsigned yarngravel_gave(uint64_t answer) { return (unsigned)(answer >> 32 & 0xffffu); }
@@ -182,6 +184,22 @@ uint64_t yarngravel_compare(uint32_t n, uint32_t epsilon, uint32_t delta, uint32
  */
 uint64_t yarngravel_poll(uint32_t n, uint32_t epsilon, uint32_t delta, uint32_t modulus, uint32_t own, uint32_t clock,
                          uint16_t within, const uint8_t *shelf, size_t shelf_len);
+
+/* One call of an observer, a board that only listens, at its clock (modulo B): judges the frames of the bundle and hands out what is
+ * due, as a tick does. An observer has no own number, is not counted in n, sends nothing and keeps no counts: between its calls it
+ * keeps two bytes and a shelf. Its clock stays within epsilon of the stations' and moves by 1 to epsilon a call, as theirs do.
+ *   last      in and out: the clock of the observer's last accepted call, at the start that before the first. Sound if it is below
+ *             B and lies 1 to epsilon before this clock; else damaged, which is mend 1. After an accepted call it is this clock
+ *   shelf     in and out, exactly YARNGRAVEL_SHELF bytes; zeros at the start. Sound only if every frame on it is due after the last
+ *             clock, or, where that is damaged, at this clock or later; else emptied
+ *   bundle, verdicts, handout
+ *             as in a tick. Of a frame 15 is not asked: all n stations may be ahead of an observer
+ * Refusals: 1 (no own number is asked for), 2, 3, 5, and 6 for the verdict or the hand-out buffer.
+ */
+uint64_t yarngravel_listen(uint32_t n, uint32_t epsilon, uint32_t delta, uint32_t modulus, uint32_t clock,
+                           uint8_t last[YARNGRAVEL_LAST], uint8_t *shelf, size_t shelf_len, const uint8_t *bundle,
+                           size_t bundle_len, uint8_t *verdicts, size_t verdicts_len, uint8_t *handout,
+                           size_t handout_len);
 
 #ifdef __cplusplus
 }

@@ -2,7 +2,7 @@
 
 use crate::programs::Case;
 use oracle::abi;
-use oracle::generate::{self, spoil, Group, Habits, PollCase, Prng};
+use oracle::generate::{self, spoil, Group, Habits, ListenCase, PollCase, Prng, TickCase, Turn};
 
 /// Makes a call with each program; the answer and what the call left. A difference ends the run.
 pub fn agree<C: Case>(case: &C) -> (u64, C) {
@@ -24,17 +24,35 @@ pub fn agree_on_random(count: usize) {
         let (dips, nudges) = (rng.one_in(2), rng.one_in(2));
         let habits = Habits { noise: true, dips, nudges, deafness: rng.range(1, 4) };
         let mut group = Group::fresh(&mut rng, setup, habits);
+        let lags = rng.one_in(2);
+        group.add_observer(&mut rng, lags);
         for _ in 0..rng.range(1, 300) {
-            let (node, case) = group.next_case(&mut rng);
-            let mut wrong = case.clone();
-            spoil::spoil(&mut rng, &mut wrong);
-            agree(&wrong);
-            agree(&case.stepped(&mut rng));
-            let (word, case) = agree(&case);
-            agree(&PollCase::after(&mut rng, &case));
-            agree(&PollCase::random(&mut rng, &case));
-            group.settle(node, case, &abi::unpack_tick(word));
-            done += 5;
+            match group.next_turn(&mut rng) {
+                (node, Turn::Node(case)) => {
+                    let (word, case) = agree_around(&mut rng, &case);
+                    group.settle(node, case, &abi::unpack_tick(word));
+                    done += 7;
+                }
+                (observer, Turn::Observer(case)) => {
+                    let (word, case) = agree(&case);
+                    group.settle_observer(observer, case, &abi::unpack_tick(word));
+                    done += 1;
+                }
+            }
         }
     }
+}
+
+/// A tick, and other calls before and after it; the tick's answer and what it left.
+fn agree_around(rng: &mut Prng, case: &TickCase) -> (u64, TickCase) {
+    let mut wrong = case.clone();
+    spoil::spoil(rng, &mut wrong);
+    agree(&wrong);
+    agree(&ListenCase::of(wrong));
+    agree(&case.stepped(rng));
+    agree(&ListenCase::stepped(rng, case));
+    let (word, case) = agree(case);
+    agree(&PollCase::after(rng, &case));
+    agree(&PollCase::random(rng, &case));
+    (word, case)
 }

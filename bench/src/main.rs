@@ -1,5 +1,6 @@
-//! Times the tick and the poll: the proved library, the oracle and a twin tuned by hand, on the same
-//! calls in one run. First all must agree on every call, byte for byte, and on random ones.
+//! Times the tick, an observer's call and the poll: the proved library, the oracle and a twin tuned by
+//! hand, on the same calls in one run. First all must agree on every call, byte for byte, and on
+//! random ones.
 
 mod agreement;
 mod programs;
@@ -27,11 +28,20 @@ fn main() {
         let (answer, _) = agreement::agree(case);
         assert!(answer & 0xffff == 0x100, "a workload's poll is refused or finds nothing");
     }
+    // An observer in place of the station of the empty tick and of the largest yard's.
+    let observers = [("quiet observer", 0), ("observer", 1)]
+        .map(|(name, tick)| workloads::observers(name, &shelves[1][tick]));
+    for case in observers.iter().flat_map(|workload| &workload.cases) {
+        let (answer, _) = agreement::agree(case);
+        assert!(answer & 0xffff == 0, "an observer's call is refused or mends");
+    }
     agreement::agree_on_random(RANDOM);
     println!("all agree on the workloads' calls and on {RANDOM} random ones\n");
     let mut rows: Vec<Row> = table.iter().map(Row::of).collect();
     rows.push(Row::of(&polls[1]));
+    rows.extend(observers.iter().map(Row::of));
     print_table(&rows);
+    print_observers(&rows);
     print_forms(&rows);
     println!("\ngrowth              frames    proved    oracle      twin");
     shelves[0].iter().zip(&shelves[1]).for_each(|(half, full)| print_growth(half, full));
@@ -57,6 +67,17 @@ fn print_table(rows: &[Row]) {
     for Row { name, frames, times: [proved, oracle, twin, ..] } in rows {
         print!("{name:<14}{frames:>7.0}{proved:>10.0}{oracle:>10.0}{twin:>10.0}");
         println!("{:>14.2}{:>16.2}", proved / twin, proved / oracle);
+    }
+}
+
+/// An observer's call as a ratio to the tick on the same shelf with the same bundle.
+fn print_observers(rows: &[Row]) {
+    println!("\nto the tick              proved    oracle      twin");
+    for (observer, tick) in [("quiet observer", "empty tick"), ("observer", "largest yard")] {
+        let times = |name| rows.iter().find(|row| row.name == name).expect("a workload").times;
+        let (observers, ticks) = (times(observer), times(tick));
+        let [proved, oracle, twin] = [0, 1, 2].map(|i: usize| observers[i] / ticks[i]);
+        println!("{observer:<21}{proved:>10.2}{oracle:>10.2}{twin:>10.2}");
     }
 }
 

@@ -2,7 +2,7 @@
 
 use crate::twin::{self, Bits, Bytes, Forms, Loop, Number, Own, Widest};
 use oracle::abi::{self, library};
-use oracle::generate::{PollCase, TickCase};
+use oracle::generate::{ListenCase, PollCase, TickCase};
 
 /// Makes a call and answers its packed answer.
 pub type Program<C> = fn(&mut C) -> u64;
@@ -65,19 +65,42 @@ impl Case for PollCase {
     fn put_back(&mut self, _: &Self) {}
 }
 
+impl Case for ListenCase {
+    const PROGRAMS: [Program<Self>; COUNT] = [
+        library::listen,
+        |case| abi::pack_tick(&case.run()),
+        listen::<(Number, Bits, Widest)>,
+        listen::<(Loop, Bits, Widest)>,
+        listen::<(Number, Bytes, Widest)>,
+        listen::<(Number, Bits, Own)>,
+        listen::<(Loop, Bytes, Own)>,
+    ];
+
+    fn shelf(&self) -> &[u8] {
+        &self.holdback
+    }
+
+    fn put_back(&mut self, given: &Self) {
+        self.last = given.last;
+        self.holdback.copy_from_slice(&given.holdback);
+    }
+}
+
 /// The twin's tick.
 fn tick<F: Forms>(case: &mut TickCase) -> u64 {
     twin::tick::<F>(&mut twin::Call {
         setup: library::numbers(&case.setup),
         clock: library::narrow(case.clock),
         tables: &mut case.state,
-        holdback: &mut case.holdback,
-        batch: &case.batch,
+        board: twin::Board {
+            holdback: &mut case.holdback,
+            batch: &case.batch,
+            verdicts: &mut case.verdicts,
+            delivery: &mut case.delivery,
+        },
         send: case.send,
         payload: &case.payload,
         outgoing: &mut case.outgoing,
-        verdicts: &mut case.verdicts,
-        delivery: &mut case.delivery,
     })
 }
 
@@ -88,5 +111,21 @@ fn poll<F: Forms>(case: &mut PollCase) -> u64 {
         clock: library::narrow(case.clock),
         within: case.within,
         holdback: &case.holdback,
+    })
+}
+
+/// The twin's observer.
+fn listen<F: Forms>(case: &mut ListenCase) -> u64 {
+    let [n, epsilon, delta, modulus, _] = library::numbers(&case.setup);
+    twin::listen::<F>(&mut twin::Listening {
+        setup: [n, epsilon, delta, modulus],
+        clock: library::narrow(case.clock),
+        last: &mut case.last,
+        board: twin::Board {
+            holdback: &mut case.holdback,
+            batch: &case.batch,
+            verdicts: &mut case.verdicts,
+            delivery: &mut case.delivery,
+        },
     })
 }

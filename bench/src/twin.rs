@@ -1,4 +1,5 @@
-//! The twin: the library's tick, and its poll, written by hand for speed, over the same buffers and with the same answers.
+//! The twin: the library's tick, its poll and an observer's call, written by hand for speed, over the same buffers and with the same
+//! answers.
 //! It shares no code with the oracle or the proved crates.
 //!
 //! What it does for speed: a frame is looked at through one window of 39 bytes, which holds all of it but the payload; counts are
@@ -9,8 +10,10 @@
 //! frame only the counts that it has are held to their limits. So that the price of each can be measured, the twin comes with them
 //! too (`Forms`).
 
+mod observer;
 mod poll;
 
+pub use observer::{listen, Listening};
 pub use poll::{poll, Poll};
 use std::marker::PhantomData;
 
@@ -161,11 +164,16 @@ pub struct Call<'a> {
     pub setup: [u32; 5],
     pub clock: u32,
     pub tables: &'a mut [u8; 35],
-    pub holdback: &'a mut [u8],
-    pub batch: &'a [u8],
+    pub board: Board<'a>,
     pub send: bool,
     pub payload: &'a [u8],
     pub outgoing: &'a mut [u8],
+}
+
+/// What a tick and an observer's call hear, judge and hand out.
+pub struct Board<'a> {
+    pub holdback: &'a mut [u8],
+    pub batch: &'a [u8],
     pub verdicts: &'a mut [u8],
     pub delivery: &'a mut [u8],
 }
@@ -180,22 +188,27 @@ pub fn tick<F: Forms>(call: &mut Call) -> u64 {
 
 /// Checks 1 to 6.
 fn check(call: &Call) -> u8 {
-    let number = check_holdback(call.setup, call.clock, call.holdback);
+    let number = check_shelf(call.setup, call.clock, call.board.holdback);
     let longest = 39 + 2 * call.setup[1] as usize;
-    let short = |size: usize| {
-        call.outgoing.len() < longest || call.verdicts.len() < 255 || call.delivery.len() < size
-    };
     match () {
         _ if number != 0 => number,
         _ if call.payload.len() > MAX_PAYLOAD => 4,
-        _ if !ends_exactly(call.batch) => 5,
-        _ if short(call.holdback.len()) => 6,
+        _ => check_board(&call.board, call.outgoing.len() < longest),
+    }
+}
+
+/// Checks 5 and 6, where the shelf has its length and another buffer may be short.
+fn check_board(board: &Board, short: bool) -> u8 {
+    match () {
+        _ if !ends_exactly(board.batch) => 5,
+        _ if short || board.verdicts.len() < 255 => 6,
+        _ if board.delivery.len() < board.holdback.len() => 6,
         _ => 0,
     }
 }
 
 /// Checks 1 to 3.
-fn check_holdback(setup: [u32; 5], clock: u32, holdback: &[u8]) -> u8 {
+fn check_shelf(setup: [u32; 5], clock: u32, holdback: &[u8]) -> u8 {
     let [n, epsilon, delta, modulus, own] = setup;
     let limits = (1..=16).contains(&n) && (1..=16).contains(&epsilon) && delta <= 64 && own < n;
     if !limits || modulus > 65_535 || modulus < 6 * epsilon + delta + 1 {
@@ -293,6 +306,24 @@ struct Local {
     kn: Counts,
 }
 
+/// Who judges frames. What a call goes through has it as a parameter, so that a tick and an observer's call have their own each.
+trait Owner {
+    /// Is 15 asked?
+    const ASKS_COUNTS: bool;
+
+    /// A taken frame is counted in.
+    fn count_in<F: Forms>(&mut self, group: &Group<F>, w: &Window, ahead: i32);
+}
+
+impl Owner for Local {
+    const ASKS_COUNTS: bool = true;
+
+    #[inline(always)]
+    fn count_in<F: Forms>(&mut self, group: &Group<F>, w: &Window, ahead: i32) {
+        group.absorb(w, ahead, self);
+    }
+}
+
 fn accept<F: Forms>(call: &mut Call) -> u64 {
     let group = Group::<F>::of(call.setup, call.clock);
     let (mut local, mut repair, least) = match group.sound_step(call.tables) {
@@ -300,20 +331,14 @@ fn accept<F: Forms>(call: &mut Call) -> u64 {
         None => (Local { c: 0, kn: [0; WIDEST] }, 1, 0),
     };
     let mut queue = Queue::<F>::EMPTY;
-    if !group.walk(call.holdback, least, &mut queue) {
-        repair += 2;
-        queue = Queue::EMPTY;
-    }
-    if queue.early > 0 {
-        group.release(call, &mut queue);
-    }
-    let taken = group.hear(call, &mut local, &mut queue);
+    repair += group.open::<Local>(&mut call.board, least, &mut queue);
+    let taken = group.hear(&mut call.board, &mut local, &mut queue);
     for i in 0..WIDEST {
         local.kn[i] += u8::from(i as u8 == group.epsilon as u8);
     }
     put_tables(call, &local);
     let sent = if call.send { group.send(call) } else { 0 };
-    group.deliver(call, &queue);
+    group.deliver::<Local>(&mut call.board, &queue);
     repair << 8 | taken << 16 | (sent as u64) << 24 | ((queue.early + queue.due) as u64) << 32
 }
 
@@ -363,13 +388,18 @@ impl<F: Forms> Group<F> {
 
     /// The step to the new clock, if the tables are sound for it.
     fn sound_step(&self, tables: &[u8; 35]) -> Option<usize> {
-        let r = i32::from(u16::from_le_bytes([tables[0], tables[1]]));
-        let apart = self.clock - r;
-        let step = if apart < 0 { apart + self.modulus } else { apart };
-        let sound = r < self.modulus
-            && (1..=self.epsilon as i32).contains(&step)
-            && self.is_sound(tables[2].into(), part(tables, 3))
+        let step = self.clock_step(*part(tables, 0))?;
+        let sound = self.is_sound(tables[2].into(), part(tables, 3))
             && self.within(part(tables, 3), self.epsilon + 1, self.n, self.n - 1);
+        sound.then_some(step)
+    }
+
+    /// The step from a last clock to the new one, if it is below B and 1 to ε before it.
+    fn clock_step(&self, last: [u8; 2]) -> Option<usize> {
+        let last = i32::from(u16::from_le_bytes(last));
+        let apart = self.clock - last;
+        let step = if apart < 0 { apart + self.modulus } else { apart };
+        let sound = last < self.modulus && (1..=self.epsilon as i32).contains(&step);
         sound.then_some(step as usize)
     }
 
@@ -427,8 +457,20 @@ impl<F: Forms> Group<F> {
         ahead + i32::from(w[5]) + (self.delta + self.epsilon) as i32
     }
 
+    /// Looks at the queue in the buffer and hands out what is due before v; 2 if it is unsound with this least due clock, and emptied.
+    fn open<O: Owner>(&self, board: &mut Board, least: i32, queue: &mut Queue<F>) -> u64 {
+        if !self.walk::<O>(board.holdback, least, queue) {
+            *queue = Queue::EMPTY;
+            return 2;
+        }
+        if queue.early > 0 {
+            self.release::<O>(board, queue);
+        }
+        0
+    }
+
     /// Is the queue in the buffer sound, with no due clock below the least? Its figures then.
-    fn walk(&self, buf: &[u8], least: i32, queue: &mut Queue<F>) -> bool {
+    fn walk<O: Owner>(&self, buf: &[u8], least: i32, queue: &mut Queue<F>) -> bool {
         queue.count = usize::from(u16::from_le_bytes([buf[0], buf[1]]));
         if queue.count > self.depth() {
             return false;
@@ -479,10 +521,10 @@ impl<F: Forms> Group<F> {
 
     /// Hands out the frames that are due before v; the others move to the front. The origins that leave stay marked: a frame of one
     /// is too old to be heard.
-    fn release(&self, call: &mut Call, queue: &mut Queue<F>) {
+    fn release<O: Owner>(&self, board: &mut Board, queue: &mut Queue<F>) {
         let first = queue.starts[self.due_now()] as usize;
-        call.delivery[2..first].copy_from_slice(&call.holdback[2..first]);
-        call.holdback.copy_within(first..queue.end, 2);
+        board.delivery[2..first].copy_from_slice(&board.holdback[2..first]);
+        board.holdback.copy_within(first..queue.end, 2);
         for start in &mut queue.starts {
             *start = (*start).max(first as u32) - (first as u32 - 2);
         }
@@ -492,22 +534,22 @@ impl<F: Forms> Group<F> {
     }
 
     /// Judges the frames of the batch in turn; how many were taken.
-    fn hear(&self, call: &mut Call, local: &mut Local, queue: &mut Queue<F>) -> u64 {
+    fn hear<O: Owner>(&self, board: &mut Board, owner: &mut O, queue: &mut Queue<F>) -> u64 {
         let mut taken = 0;
         let mut at = 1;
-        for i in 0..usize::from(call.batch[0]) {
-            let len = usize::from(call.batch[at]);
-            let entry = &call.batch[at + 1..at + 1 + len];
+        for i in 0..usize::from(board.batch[0]) {
+            let len = usize::from(board.batch[at]);
+            let entry = &board.batch[at + 1..at + 1 + len];
             let mut spare = [0; WINDOW];
-            let w = match call.batch[at + 1..].first_chunk() {
+            let w = match board.batch[at + 1..].first_chunk() {
                 Some(w) => w,
                 None => {
                     spare[..len.min(WINDOW)].copy_from_slice(&entry[..len.min(WINDOW)]);
                     &spare
                 }
             };
-            let verdict = self.judge(w, entry, local, queue, call.holdback);
-            call.verdicts[i] = verdict;
+            let verdict = self.judge(w, entry, owner, queue, board.holdback);
+            board.verdicts[i] = verdict;
             taken += u64::from(verdict == 0);
             at += 1 + len;
         }
@@ -515,11 +557,11 @@ impl<F: Forms> Group<F> {
     }
 
     /// Checks 10 to 17; a frame that passes is queued and counted in.
-    fn judge(
+    fn judge<O: Owner>(
         &self,
         w: &Window,
         entry: &[u8],
-        local: &mut Local,
+        owner: &mut O,
         queue: &mut Queue<F>,
         buf: &mut [u8],
     ) -> u8 {
@@ -538,7 +580,7 @@ impl<F: Forms> Group<F> {
             return 14;
         }
         let from = (self.epsilon as i32 - ahead) as usize;
-        if !self.within(part(w, COUNTS), from.min(WIDEST), self.n, self.n - 1) {
+        if O::ASKS_COUNTS && !self.within(part(w, COUNTS), from.min(WIDEST), self.n, self.n - 1) {
             return 15;
         }
         let key = self.key(w, ahead);
@@ -548,13 +590,13 @@ impl<F: Forms> Group<F> {
         if queue.count >= self.depth() {
             return 17;
         }
-        self.place(&key, entry, queue, buf);
-        self.absorb(w, ahead, local);
+        self.place::<O>(&key, entry, queue, buf);
+        owner.count_in(self, w, ahead);
         0
     }
 
     /// Puts a frame in its place.
-    fn place(&self, key: &Key, entry: &[u8], queue: &mut Queue<F>, buf: &mut [u8]) {
+    fn place<O: Owner>(&self, key: &Key, entry: &[u8], queue: &mut Queue<F>, buf: &mut [u8]) {
         let mut at = queue.starts[key.sum] as usize;
         let stop = queue.starts[key.sum + 1] as usize;
         while at < stop {
@@ -604,17 +646,17 @@ impl<F: Forms> Group<F> {
     }
 
     /// Hands out the frames that are due at v, behind the early ones; the others move to the front.
-    fn deliver(&self, call: &mut Call, queue: &Queue<F>) {
+    fn deliver<O: Owner>(&self, board: &mut Board, queue: &Queue<F>) {
         let first = queue.starts[self.due_now() + 1] as usize;
         let count = queue.early + queue.due;
-        call.delivery[..2].copy_from_slice(&(count as u16).to_le_bytes());
+        board.delivery[..2].copy_from_slice(&(count as u16).to_le_bytes());
         if first > 2 {
             let at = queue.delivered;
-            call.delivery[at..at + first - 2].copy_from_slice(&call.holdback[2..first]);
-            call.holdback.copy_within(first..queue.end, 2);
+            board.delivery[at..at + first - 2].copy_from_slice(&board.holdback[2..first]);
+            board.holdback.copy_within(first..queue.end, 2);
         }
-        call.holdback[..2].copy_from_slice(&((queue.count - queue.due) as u16).to_le_bytes());
-        call.holdback[2 + queue.end - first..].fill(0);
+        board.holdback[..2].copy_from_slice(&((queue.count - queue.due) as u16).to_le_bytes());
+        board.holdback[2 + queue.end - first..].fill(0);
     }
 }
 

@@ -2,9 +2,9 @@
 
 use crate::programs::Case;
 use crate::yard::Yard;
-use oracle::generate::{frames, PollCase, Prng, TickCase};
+use oracle::board::{judge, Owner};
+use oracle::generate::{frames, ListenCase, PollCase, Prng, TickCase};
 use oracle::holdback::Holdback;
-use oracle::node::judge;
 use oracle::{batch, Setup, Timestamp};
 
 /// Calls of each workload.
@@ -83,6 +83,11 @@ pub fn polls(ticks: &Workload<TickCase>) -> Workload<PollCase> {
     Workload { name: "poll", cases: ticks.cases.iter().map(poll).collect() }
 }
 
+/// An observer's calls on the shelves of these ticks, with what they hear.
+pub fn observers(name: &'static str, ticks: &Workload<TickCase>) -> Workload<ListenCase> {
+    Workload { name, cases: ticks.cases.iter().cloned().map(ListenCase::of).collect() }
+}
+
 /// Calls of a yard in its steady state, where only some send until shortly before the end and then all do.
 fn steady(setup: Setup, payload: usize, senders: i64) -> Vec<TickCase> {
     let mut yard = Yard::fresh(setup, payload);
@@ -96,5 +101,7 @@ fn junk(rng: &mut Prng, case: &TickCase) -> Vec<Vec<u8>> {
     let shelf =
         Holdback::decode(&case.setup, case.clock, 0, &case.holdback).expect("a sound shelf");
     let any = std::iter::repeat_with(|| frames::any(rng, &case.setup, case.clock));
-    any.filter(|frame| judge(&case.setup, case.clock, &shelf, frame).is_err()).take(255).collect()
+    let is_refused =
+        |frame: &[u8]| judge(&case.setup, case.clock, Owner::Node, &shelf, frame).is_err();
+    any.filter(|frame| is_refused(frame)).take(255).collect()
 }

@@ -53,7 +53,7 @@ pub fn number(word: u64) -> u8 {
     NUMBER.get(word) as u8
 }
 
-/// The tick's answer.
+/// The answer of the tick, and of an observer's call.
 pub fn pack_tick(answer: &Answer) -> u64 {
     NUMBER.put(answer.number.into())
         | TICK_REPAIR.put(answer.repair.into())
@@ -62,7 +62,7 @@ pub fn pack_tick(answer: &Answer) -> u64 {
         | TICK_DELIVERED.put(answer.delivered.into())
 }
 
-/// The tick's answer from its packed form.
+/// That answer from its packed form.
 pub fn unpack_tick(word: u64) -> Answer {
     Answer {
         number: number(word),
@@ -125,7 +125,7 @@ pub fn unpack_poll(word: u64) -> Outlook {
     Outlook { next, within: POLL_WITHIN.get(word) as u16 }
 }
 
-/// The answer of a refused call of any function but the tick.
+/// The answer of a refused call of any function but these two.
 pub fn pack_refusal(number: u8) -> u64 {
     NUMBER.put(number.into())
 }
@@ -134,8 +134,9 @@ pub fn pack_refusal(number: u8) -> u64 {
 pub mod library {
     //! The calls themselves.
 
-    use crate::generate::{CompareCase, PollCase, ReadCase, TickCase, WordsCase, WriteCase};
-    use crate::{ClockState, Setup};
+    use crate::generate::{CompareCase, ListenCase, PollCase, ReadCase};
+    use crate::generate::{TickCase, WordsCase, WriteCase};
+    use crate::{ClockState, LastClock, Setup};
 
     #[link(name = "abi", kind = "static")]
     extern "C" {
@@ -224,6 +225,23 @@ pub mod library {
             within: u16,
             holdback: *const u8,
             holdback_len: usize,
+        ) -> u64;
+
+        fn yarngravel_listen(
+            n: u32,
+            epsilon: u32,
+            delta: u32,
+            modulus: u32,
+            clock: u32,
+            last: *mut LastClock,
+            holdback: *mut u8,
+            holdback_len: usize,
+            batch: *const u8,
+            batch_len: usize,
+            verdicts: *mut u8,
+            verdicts_len: usize,
+            delivery: *mut u8,
+            delivery_len: usize,
         ) -> u64;
     }
 
@@ -346,5 +364,28 @@ pub mod library {
         let (holdback, length) = (case.holdback.as_ptr(), case.holdback.len());
         // SAFETY: as in `tick`.
         unsafe { yarngravel_poll(n, epsilon, delta, modulus, own, clock, within, holdback, length) }
+    }
+    /// An observer's call.
+    pub fn listen(case: &mut ListenCase) -> u64 {
+        let [n, epsilon, delta, modulus, _] = numbers(&case.setup);
+        // SAFETY: as in `tick`.
+        unsafe {
+            yarngravel_listen(
+                n,
+                epsilon,
+                delta,
+                modulus,
+                narrow(case.clock),
+                &mut case.last,
+                case.holdback.as_mut_ptr(),
+                case.holdback.len(),
+                case.batch.as_ptr(),
+                case.batch.len(),
+                case.verdicts.as_mut_ptr(),
+                case.verdicts.len(),
+                case.delivery.as_mut_ptr(),
+                case.delivery.len(),
+            )
+        }
     }
 }

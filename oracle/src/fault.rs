@@ -1,4 +1,4 @@
-//! Thirty small faults that can be planted in the oracle, to show that a comparison finds them.
+//! Thirty-eight small faults that can be planted in the oracle, to show that a comparison finds them.
 //! Without the feature `plant` nothing of this is left in the code.
 //!
 //!  1. the writer alone refuses a buffer of exactly the frame's length
@@ -31,9 +31,17 @@
 //! 28. a poll's count stops one frame too late
 //! 29. a poll's count stops one frame too early
 //! 30. the next due clock of a poll is that of the last frame
+//! 31. an observer asks 15
+//! 32. an observer takes a last clock of B or above modulo B
+//! 33. where an observer's last clock is damaged, a shelved frame due one before v passes as sound
+//! 34. an observer's last clock is not moved to v
+//! 35. an observer's last clock passes as sound after a step of ε + 1
+//! 36. an observer is asked for an own number
+//! 37. with an observer a shelved frame due at the last clock passes as sound
+//! 38. a refused call moves an observer's last clock
 
 /// How many faults there are.
-pub const COUNT: u8 = 30;
+pub const COUNT: u8 = 38;
 
 #[cfg(feature = "plant")]
 mod switch {

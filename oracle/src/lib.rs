@@ -5,11 +5,13 @@
 
 pub mod abi;
 pub mod batch;
+pub mod board;
 pub mod fault;
 pub mod frame;
 pub mod generate;
 pub mod holdback;
 pub mod node;
+pub mod observer;
 pub mod poll;
 pub mod reason;
 pub mod replay;
@@ -19,8 +21,10 @@ pub mod timestamp;
 pub mod trace;
 pub mod words;
 
+pub use board::Buffers;
 pub use frame::{read, write, Frame};
-pub use node::{tick, Answer, Buffers, Call};
+pub use node::{tick, Answer, Call};
+pub use observer::{listen, LastClock, Listening};
 pub use poll::{poll, Outlook};
 pub use reason::{compare, Reason};
 pub use replay::replay;

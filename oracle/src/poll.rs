@@ -2,7 +2,7 @@
 
 use crate::fault::{planted, skew};
 use crate::holdback::{self, Holdback};
-use crate::Setup;
+use crate::{ask, Setup};
 
 /// What a poll answers.
 #[derive(Clone, Copy, Debug, Default, PartialEq, Eq)]
@@ -16,6 +16,7 @@ pub struct Outlook {
 /// The poll after a tick at this clock: asks 1, 2, 3. The queue is judged for that clock, with every
 /// due clock past it; an unsound one answers as an empty one. All its frames are looked at.
 pub fn poll(setup: &Setup, clock: i64, within: u16, bytes: &[u8]) -> Result<Outlook, u8> {
+    ask(setup.is_valid(), 1)?;
     holdback::check(setup, clock, bytes)?;
     let dues: Vec<i64> = match Holdback::decode(setup, clock, 1 - skew(24), bytes) {
         Some(queue) => queue.entries().iter().map(|entry| entry.due(setup)).collect(),

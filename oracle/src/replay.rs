@@ -155,11 +155,10 @@ impl Node {
         };
         let mut buffers = Buffers {
             holdback: &mut self.holdback,
-            outgoing: &mut self.outgoing,
             verdicts: &mut self.verdicts,
             delivery: &mut self.delivery,
         };
-        let answer = tick(&call, &mut self.state, &mut buffers);
+        let answer = tick(&call, &mut self.state, &mut self.outgoing, &mut buffers);
         ask(answer.number == 0, answer.number)?;
         Ok(self.lines(given.clock, &answer))
     }

@@ -16,7 +16,7 @@ pub struct Setup {
     pub delta: i64,
     /// B; clocks are given modulo this.
     pub modulus: i64,
-    /// The node's own number.
+    /// The node's own number; an observer has none, and its calls do not look at it.
     pub own: i64,
 }
 
@@ -26,13 +26,17 @@ impl Setup {
         6 * self.epsilon + self.delta + 1
     }
 
-    /// Check 1: is the setup in its limits?
-    pub fn is_valid(&self) -> bool {
+    /// Check 1 without the own number: is the setup in its limits?
+    pub fn is_in_limits(&self) -> bool {
         (1..=16).contains(&self.n)
             && (1..=16).contains(&self.epsilon)
             && (0..=64).contains(&self.delta)
             && (self.least_modulus()..=65_535).contains(&self.modulus)
-            && (0..self.n).contains(&self.own)
+    }
+
+    /// Check 1: the own number too?
+    pub fn is_valid(&self) -> bool {
+        self.is_in_limits() && (0..self.n).contains(&self.own)
     }
 
     /// How many counts a timestamp has.
@@ -53,6 +57,17 @@ impl Setup {
     /// The exact length of the hold-back queue's buffer.
     pub fn holdback_len(&self) -> usize {
         2 + self.longest_frame() * self.capacity()
+    }
+
+    /// The step from a last clock to a new clock v, from 1 to ε; none if the last clock is damaged.
+    pub fn sound_step(&self, last: i64, v: i64) -> Option<i64> {
+        let step = self.step(last, v);
+        (last < self.modulus && (1..=self.epsilon).contains(&step)).then_some(step)
+    }
+
+    /// How far a new clock v lies past a last clock, modulo B.
+    pub fn step(&self, last: i64, v: i64) -> i64 {
+        (v - last).rem_euclid(self.modulus)
     }
 
     /// A modular clock r read near v: how far it is ahead of v, negative if behind.

@@ -67,22 +67,14 @@ impl<'a> Timestamp<'a> {
             && all_at_most(self.counts_from(self.c + 1), 0)
     }
 
-    /// How far a new clock v lies past r, modulo B.
-    pub fn step_to(&self, setup: &Setup, v: i64) -> i64 {
-        (v - self.r).rem_euclid(setup.modulus)
-    }
-
-    /// Are the tables sound for a clock that is 1 to ε past r?
+    /// Are the tables sound but for r?
     pub fn are_sound_tables(&self, setup: &Setup) -> bool {
-        self.is_sound(setup)
-            && self.r < setup.modulus
-            && all_at_most(self.counts_from(1), setup.n - 1 + skew(6))
+        self.is_sound(setup) && all_at_most(self.counts_from(1), setup.n - 1 + skew(6))
     }
 
     /// The step to a new clock v, from 1 to ε; none if the tables are unsound for v.
     pub fn sound_step(&self, setup: &Setup, v: i64) -> Option<i64> {
-        let step = self.step_to(setup, v);
-        (self.are_sound_tables(setup) && (1..=setup.epsilon).contains(&step)).then_some(step)
+        setup.sound_step(self.r, v).filter(|_| self.are_sound_tables(setup))
     }
 }
 

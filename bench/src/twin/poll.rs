@@ -1,6 +1,6 @@
 //! The twin's poll (02, 2.5). Its walk over the queue is its own: it needs no starts.
 
-use super::{check_holdback, part, r_of, Forms, Group, Origins, FIRST};
+use super::{check_shelf, part, r_of, Forms, Group, Origins, FIRST};
 
 /// The arguments of the poll.
 pub struct Poll<'a> {
@@ -13,7 +13,7 @@ pub struct Poll<'a> {
 
 /// The poll, its answer packed as the library's.
 pub fn poll<F: Forms>(call: &Poll) -> u64 {
-    let number = check_holdback(call.setup, call.clock, call.holdback);
+    let number = check_shelf(call.setup, call.clock, call.holdback);
     if number != 0 {
         return number.into();
     }

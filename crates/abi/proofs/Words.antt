@@ -17,23 +17,28 @@ use Rattle.model.specs.Batch.{batchEntries}
 use Rattle.model.specs.Question.{firstNo, askSetup, frameQuestions}
 use Rattle.model.specs.Codec.{ReadAnswer, readQuestions, readBy, read, frameOf, writeQuestions, writeBy, writeFrame, write}
 use Rattle.model.specs.Tick.{Input, Answer, Output, callQuestions, refusal, opening, heardOf, newStamp, sentBytes, takenCount, deliveredOf, acceptance, tick}
+use Rattle.model.specs.Judge.{judgeQuestions, observerQuestions}
+use Rattle.model.specs.Observer.{Listening, Listened, listenQuestions, notListened, observerLeast, observerOpened, observerHeard, observerDelivered, listened, listen}
 use Rattle.lemmas.proofs.Bounds.{Limits, Sound, FrameOk}
 use Rattle.lemmas.proofs.Questions.{setup-from, first-yes, other-yes, read-number}
 use Rattle.model.specs.Holdback.{passes}
 use Rattle.lemmas.proofs.RoundTrip.{formed-from, passes-decode, passes-formed}
-use Rattle.lemmas.proofs.OneTick.{Accepted, accepted-call, no-question-fails, tick-by, new-sound, hear-length, delivered-most}
+use Rattle.lemmas.proofs.Board.{hear-length, board-length, board-small}
+use Rattle.lemmas.proofs.OneTick.{Accepted, accepted-call, no-question-fails, tick-by, new-sound, delivered-most}
+use Rattle.lemmas.proofs.OneListening.{Heeded, listen-by, listen-no-fails, listen-accepted, listen-board}
 use Rattle.splice.specs.Bytes.{pasted}
 use Rattle.batch.specs.Walk.{countOf}
 use Rattle.batch.proofs.Walk.{batch-count}
 use Rattle.holdback.proofs.RoundTrip.{Bytes, front-two}
 use Rattle.node.proofs.Finish.{Call, call-passed}
+use Rattle.observer.proofs.Finish as heeding
 use Rattle.frame.proofs.Asking.{room-of}
 use Rattle.frame.proofs.Laying.{length-frame}
 use Rattle.frame.specs.Lay.{Room}
 use Rattle.polling.specs.declared.front.Next.{Next}
 use Rattle.polling.specs.declared.front.Next.the-variants.{At}
 use Rattle.polling.specs.Answers.{SmallNext, nextOf}
-use Rattle.abi.specs.Packing.{tablesIn, tablesBytes, answerWord, placeOf, readWord, readTables, packed, returned}
+use Rattle.abi.specs.Packing.{tablesIn, tablesBytes, answerWord, placeOf, readWord, readTables, packed, returned, listenWord, packedListening, returnedListening}
 
 -- ---- the tables
 
@@ -110,7 +115,7 @@ answer-small i o same zero-number byte =
     let sound : Sound (i .setup .n) (i .setup .epsilon) (newStamp i) = new-sound i a in
     let taken-is : o .answer .taken ≡ length (select (λ x. eqb x 0) (heardOf i .verdicts)) = ap (λ (x : Output). x .answer .taken) is in
     let taken-le = select-length-le (λ x. eqb x 0) (heardOf i .verdicts) in
-    let heard = hear-length (i .setup) (i .clock) (opening i) (batchEntries (i .batch)) in
+    let heard = hear-length (i .setup) (i .clock) (judgeQuestions (i .setup) (i .clock)) (opening i) (batchEntries (i .batch)) in
     let entries : length (batchEntries (i .batch)) ≡ getD (i .batch) 0 0 = batch-count (i .batch) (c .exact) in
     let sent-is : o .answer .sent ≡ length (sentBytes i) = ap (λ (x : Output). x .answer .sent) is in
     let delivered-is : o .answer .delivered ≡ length (deliveredOf i) = ap (λ (x : Output). x .answer .delivered) is in
@@ -159,6 +164,77 @@ pub accepted-packed : (i : Input) (o : Output) (word : ℕ) (tables : List ℕ) 
 unfolding packed
 accepted-packed i o word tables e ew et =
     ap₂ (λ (w : ℕ) (l : List ℕ). returned w l (o .holdback) (o .outgoing) (o .verdicts) (o .delivery)) ew et ∙ ap packed e
+
+-- ---- an observer's answer
+
+-- its last clock, written and read back
+pub last-written : (s l : List ℕ) (x : ℕ) → length s ≡ 2 → l ≡ pasted s 0 (twoBytes x) → l ≡ twoBytes x
+unfolding pasted twoBytes
+last-written s l x long e =
+    let none : drop 2 s ≡ [] = drop-of-length-le s {i = 2} (omega arith) in
+    e ∙ rw none
+
+pub last-same : (s : List ℕ) → length s ≡ 2 → Bytes s → twoBytes (twoAt s 0) ≡ s
+last-same s long bytes = sym (front-two s bytes (omega arith)) ∙ take-all 2 s (omega arith)
+
+-- what its numbers are below
+pub record SmallListened (o : Listened) : Type 0 where
+  pub taken-small : o .taken < 256
+  pub delivered-small : o .delivered < 65536
+  pub last-small : o .last < 65536
+
+pub listened-small : (i : Listening) (o : Listened) → o ≡ listen i → o .number ≡ 0 → getD (i .batch) 0 0 < 256 → SmallListened o
+unfolding listened countOf observerHeard observerOpened observerDelivered takenCount
+listened-small i o same zero-number byte =
+    let e : listen i .number ≡ 0 = sym (ap (λ (x : Listened). x .number) same) ∙ zero-number in
+    let a : Heeded i = listen-accepted i e in
+    let exact = heeding.call-passed i (listen-no-fails i e) .exact in
+    let is : o ≡ listened i = same ∙ a .accepted in
+    let taken-is : o .taken ≡ length (select (λ x. eqb x 0) (observerHeard i .verdicts)) = ap (λ (x : Listened). x .taken) is in
+    let taken-le = select-length-le (λ x. eqb x 0) (observerHeard i .verdicts) in
+    let heard = board-length (i .setup) (i .clock) (observerLeast i) (observerQuestions (i .setup) (i .clock)) (i .holdback) (batchEntries (i .batch)) in
+    let entries : length (batchEntries (i .batch)) ≡ getD (i .batch) 0 0 = batch-count (i .batch) exact in
+    let delivered-is : o .delivered ≡ length (observerDelivered i) = ap (λ (x : Listened). x .delivered) is in
+    let last-is : o .last ≡ i .clock = ap (λ (x : Listened). x .last) is in
+    record {
+      taken-small = omega arith;
+      delivered-small = omega (arith, board-small (i .setup) (i .clock) (observerLeast i) (observerQuestions (i .setup) (i .clock)) (i .holdback) (batchEntries (i .batch)) (listen-board i a));
+      last-small = omega (arith, a .clock-below, a .limits .modulus-most);
+    }
+
+listened-number : (i : Listening) → firstNo (listenQuestions i) ≡ 0 → listen i .number ≡ 0
+unfolding listened
+listened-number i q = ap (λ (o : Listened). o .number) (listen-by i 0 q)
+
+not-listened-word : (i : Listening) (k : ℕ) (o : Listened) → o ≡ notListened i (suc k) → o .number ≡ listenWord o
+unfolding notListened listenWord
+not-listened-word i k o e =
+    let word : suc k ≡ listenWord (notListened i (suc k)) = omega arith in
+    ap (λ (x : Listened). x .number) e ∙ (word ∙ sym (ap listenWord e))
+
+not-listened-last : (i : Listening) (k : ℕ) (o : Listened) → o ≡ notListened i (suc k) → twoBytes (i .last) ≡ twoBytes (o .last)
+unfolding notListened
+not-listened-last i k o e = ap (λ (x : Listened). twoBytes (x .last)) (sym e)
+
+-- a refused call gives back the number alone, and its last clock and buffers
+pub refused-listening : (i : Listening) (s : List ℕ) (o : Listened) → o ≡ listen i → twoBytes (i .last) ≡ s → (o .number ≡ 0 → ⊥)
+    → returnedListening (o .number) s (o .holdback) (o .verdicts) (o .delivery) ≡ packedListening (listen i)
+unfolding packedListening
+refused-listening i s o e back h = go (firstNo (listenQuestions i)) refl
+  where
+    go : (k : ℕ) → firstNo (listenQuestions i) ≡ k → returnedListening (o .number) s (o .holdback) (o .verdicts) (o .delivery) ≡ packedListening (listen i)
+    go zero q = absurd (h (ap (λ (x : Listened). x .number) e ∙ listened-number i q))
+    go (suc k) q =
+        let is : o ≡ notListened i (suc k) = e ∙ listen-by i (suc k) q in
+        ap₂ (λ (w : ℕ) (l : List ℕ). returnedListening w l (o .holdback) (o .verdicts) (o .delivery)) (not-listened-word i k o is) (sym back ∙ not-listened-last i k o is)
+        ∙ ap packedListening e
+
+-- an accepted one
+pub accepted-listening : (i : Listening) (o : Listened) (word : ℕ) (last : List ℕ) → o ≡ listen i → word ≡ listenWord o → last ≡ twoBytes (o .last)
+    → returnedListening word last (o .holdback) (o .verdicts) (o .delivery) ≡ packedListening (listen i)
+unfolding packedListening
+accepted-listening i o word last e ew el =
+    ap₂ (λ (w : ℕ) (l : List ℕ). returnedListening w l (o .holdback) (o .verdicts) (o .delivery)) ew el ∙ ap packedListening e
 
 -- ---- the reader's answer
 

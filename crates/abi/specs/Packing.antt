@@ -1,4 +1,5 @@
--- The boundary to C: the tables are 35 bytes (r low byte first, c, 32 counts), and an answer is one number of 64 bits.
+-- The boundary to C: the tables are 35 bytes (r low byte first, c, 32 counts), an observer's last clock two (low byte first), and an answer
+-- is one number of 64 bits.
 -- Assumes nothing.
 use Prim.Native.Nat.{ℕ, _+_, _*_}
 use mathlib.Core.Bool.{Bool, cond}
@@ -13,6 +14,7 @@ use Rattle.model.specs.Codec.{ReadAnswer, WriteAnswer}
 use Rattle.model.specs.Comparison.{CompareAnswer}
 use Rattle.model.specs.Tick.{Input, Answer, Output}
 use Rattle.model.specs.Poll.{PollAnswer}
+use Rattle.model.specs.Observer.{Listening, Listened}
 use Rattle.words.specs.Words.{WordsAnswer}
 
 -- how many bytes the tables have
@@ -49,8 +51,11 @@ inputBy setup own clock tables holdback batch send payload outgoing verdicts del
     }
 
 -- the number in bits 0 to 7, 01's mend in 8 to 15, frames taken in 16 to 23, the outgoing length in 24 to 31, frames handed out from 32 on
+abbrev pub figures : ℕ → ℕ → ℕ → ℕ → ℕ → ℕ
+figures number repair taken sent delivered = number + 256 * (repair + 256 * (taken + 256 * (sent + 256 * delivered)))
+
 unfoldable pub answerWord : Answer → ℕ
-answerWord a = a .number + 256 * (a .repair + 256 * (a .taken + 256 * (a .sent + 256 * a .delivered)))
+answerWord a = figures (a .number) (a .repair) (a .taken) (a .sent) (a .delivered)
 
 -- what a tick gives back: one number, and the tables and buffers as it left them
 pub record Returned : Type 0 where
@@ -68,6 +73,38 @@ returned word tables holdback outgoing verdicts delivery =
 -- the packing of a tick's output
 unfoldable pub packed : Output → Returned
 packed o = returned (answerWord (o .answer)) (tablesBytes (o .answer .tables)) (o .holdback) (o .outgoing) (o .verdicts) (o .delivery)
+
+-- the arguments of an observer's call; its last clock stands in two bytes
+abbrev pub listeningBy : Setup → ℕ → List ℕ → List ℕ → List ℕ → List ℕ → List ℕ → Listening
+listeningBy setup clock last holdback batch verdicts delivery =
+    record {
+      setup = setup;
+      clock = clock;
+      last = twoAt last 0;
+      holdback = holdback;
+      batch = batch;
+      verdicts = verdicts;
+      delivery = delivery;
+    }
+
+-- the figures of an observer, which sends nothing
+unfoldable pub listenWord : Listened → ℕ
+listenWord o = figures (o .number) (o .repair) (o .taken) 0 (o .delivered)
+
+-- what its call gives back: one number, and its last clock and the buffers as it left them
+pub record ReturnedListening : Type 0 where
+  pub word : ℕ
+  pub last : List ℕ
+  pub holdback : List ℕ
+  pub verdicts : List ℕ
+  pub delivery : List ℕ
+
+abbrev pub returnedListening : ℕ → List ℕ → List ℕ → List ℕ → List ℕ → ReturnedListening
+returnedListening word last holdback verdicts delivery =
+    record { word = word; last = last; holdback = holdback; verdicts = verdicts; delivery = delivery }
+
+unfoldable pub packedListening : Listened → ReturnedListening
+packedListening o = returnedListening (listenWord o) (twoBytes (o .last)) (o .holdback) (o .verdicts) (o .delivery)
 
 -- where the payload of a frame that was read starts; 0 of a refused one
 unfoldable pub placeOf : ℕ → ReadAnswer → ℕ

@@ -1,12 +1,14 @@
-// The boundary to C: the tick, the reader, the writer, the words, the comparison and the poll over numbers and byte slices. A slice is a
+// The boundary to C: the tick, the reader, the writer, the words, the comparison, the poll and an observer's call over numbers and byte slices. A slice is a
 // pointer and a length; the tables are a pointer to 35 bytes (r low, r high, c, 32 counts); the answer is one number. Any arguments get
 // an answer.
 mod packing;
 
 use comparing::compare_call;
 use node::tick;
+use packing::last_of;
 use packing::pack_answer;
 use packing::pack_compared;
+use packing::pack_listened;
 use packing::pack_polled;
 use packing::pack_reading;
 use packing::pack_written;
@@ -19,8 +21,9 @@ ghost use Rattle.model.specs.Codec as codec;
 ghost use Rattle.model.specs.Tick as model;
 ghost use Rattle.model.specs.Comparison.{compareCall};
 ghost use Rattle.model.specs.Poll.{poll};
+ghost use Rattle.model.specs.Observer as observers;
 ghost use Rattle.words.specs.Words.{words};
-ghost use Rattle.abi.specs.Packing.{setupBy, inputBy, tablesIn, returned, packed, readWord, readTables, writeWord, wordsWord, compareWord, pollWord};
+ghost use Rattle.abi.specs.Packing.{setupBy, inputBy, tablesIn, returned, packed, readWord, readTables, writeWord, wordsWord, compareWord, pollWord, listeningBy, returnedListening, packedListening};
 
 // One tick. The number in bits 0 to 7, 01's mend in 8 to 15, frames taken in 16 to 23, the outgoing length in 24 to 31,
 // frames handed out in 32 to 47. A refusal is the number alone, and changes nothing.
@@ -210,4 +213,39 @@ pub extern "C" fn yarngravel_poll(
     };
     let polled = polling::poll(setup, own, clock as usize, within, holdback);
     pack_polled(polled)
+}
+
+// 02, 2.6: one call of an observer. The number in bits 0 to 7, 01's mend in 8 to 15, frames taken in 16 to 23, 0 in 24 to 31, frames handed
+// out in 32 to 47; its last clock is two bytes, the low one first. A refusal is the number alone, and changes nothing.
+#[no_mangle]
+pub extern "C" fn yarngravel_listen(
+    n: u32,
+    epsilon: u32,
+    delta: u32,
+    modulus: u32,
+    clock: u32,
+    last: &mut [u8; 2],
+    holdback: &mut [u8],
+    batch: &[u8],
+    verdicts: &mut [u8],
+    delivery: &mut [u8],
+) -> u64
+    ensures { λ r. ⌜ returnedListening r (now (last .exit)) (now (holdback .exit)) (now (verdicts .exit)) (now (delivery .exit))
+        ≡ packedListening (observers.listen (listeningBy (setupBy n epsilon delta modulus) clock (now (last .entry)) (now (holdback .entry))
+        (now (batch .entry)) (now (verdicts .entry)) (now (delivery .entry)))) ⌝ }
+{
+    let setup = Setup {
+        n,
+        epsilon,
+        delta,
+        modulus,
+    };
+    let v = clock as usize;
+    let given = last_of(last);
+    let heard = observer::listen(setup, v, given, holdback, batch, verdicts, delivery);
+    if heard.number != 0 {
+        return heard.number as u64;
+    }
+    splice::put_u16(last, 0, heard.last);
+    pack_listened(heard)
 }

@@ -1,6 +1,7 @@
 // Tables in 35 bytes, and answers in one number.
 use comparing::Compared;
 use node::Answer;
+use observer::Listened;
 use polling::Next;
 use polling::Polled;
 use timestamp::Timestamp;
@@ -8,11 +9,12 @@ use timestamp::counts_of;
 ghost use mathlib.Core.Path.{_≡_};
 ghost use Prim.Native.Nat.{_+_, _*_, _<_};
 ghost use lib.ListN.{length};
+ghost use Rattle.model.specs.Frame.{twoBytes, twoAt};
 ghost use Rattle.timestamp.specs.Views.{stampOf};
 ghost use Rattle.comparing.specs.Answers.{compareAnswer};
 ghost use Rattle.node.specs.Answers.{answerOf};
 ghost use Rattle.polling.specs.Answers.{SmallNext, nextOf, pollAnswer};
-ghost use Rattle.abi.specs.Packing.{tablesLength, tablesIn, tablesBytes, answerWord, compareWord, nextBits, pollWord};
+ghost use Rattle.abi.specs.Packing.{tablesLength, tablesIn, tablesBytes, figures, answerWord, compareWord, nextBits, pollWord};
 
 // The tables that stand in the bytes: r in two, the low one first, c, and 32 counts. Written back they are those bytes.
 pub fn tables_of(s: &[u8]) -> Timestamp
@@ -38,15 +40,39 @@ pub fn put_tables(s: &mut [u8], stamp: Timestamp)
     splice::copy_into(s, 3, &kn);
 }
 
-// An answer as one number.
+// An observer's last clock from its two bytes, the low one first. Written back it is those bytes.
+pub fn last_of(bytes: &[u8]) -> usize
+    requires { ⌜ length (now bytes) ≡ 2 ⌝ }
+    ensures { λ r. ⌜ (r ≡ twoAt (now (bytes .entry)) 0) × (twoBytes r ≡ now (bytes .entry)) ⌝ }
+{
+    splice::two_at(bytes, 0)
+}
+
+// The figures of a tick, and of an observer's call, as one number.
+fn pack_figures(number: u8, repair: u8, taken: usize, sent: usize, delivered: usize) -> u64
+    requires { ⌜ (taken < 256) × ((sent < 256) × (delivered < 65536)) ⌝ }
+    ensures { λ r. ⌜ r ≡ figures number repair taken sent delivered ⌝ }
+{
+    number as u64
+        + 256
+            * (repair as u64
+                + 256 * (taken as u64 + 256 * (sent as u64 + 256 * (delivered as u64))))
+}
+
+// A tick's answer as one number.
 pub fn pack_answer(a: Answer) -> u64
     requires { ⌜ (a .taken < 256) × ((a .sent < 256) × (a .delivered < 65536)) ⌝ }
     ensures { λ r. ⌜ r ≡ answerWord (answerOf a) ⌝ }
 {
-    a.number as u64
-        + 256
-            * (a.repair as u64
-                + 256 * (a.taken as u64 + 256 * (a.sent as u64 + 256 * (a.delivered as u64))))
+    pack_figures(a.number, a.repair, a.taken, a.sent, a.delivered)
+}
+
+// An observer's answer as one number: it sends nothing.
+pub fn pack_listened(a: Listened) -> u64
+    requires { ⌜ (a .taken < 256) × (a .delivered < 65536) ⌝ }
+    ensures { λ r. ⌜ r ≡ figures (a .number) (a .repair) (a .taken) 0 (a .delivered) ⌝ }
+{
+    pack_figures(a.number, a.repair, a.taken, 0, a.delivered)
 }
 
 // What the reader found as one number.

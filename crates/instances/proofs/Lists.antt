@@ -1,4 +1,4 @@
--- The premises can be met: a list of calls from damage in every memory, and one from fresh stations, by computation.
+-- The premises can be met: lists of calls from damage in every memory, and from fresh stations, without and with an observer, by computation.
 -- Assumes nothing.
 use Prim.Native.Nat.{ℕ, _+_, _-_, _%_}
 use mathlib.Core.Path.{_≡_, refl}
@@ -11,20 +11,22 @@ use Rattle.model.specs.Setup.{Setup}
 use Rattle.model.specs.Timestamp.{Timestamp}
 use Rattle.model.specs.Frame.{encode}
 use Rattle.model.specs.Holdback.{heldBytes}
+use Rattle.model.specs.Question.{firstNo}
+use Rattle.model.specs.Judge.{judgeQuestions, observerQuestions}
 use Rattle.model.specs.Tick.{holdbackSize}
 use Rattle.model.specs.Published.{Condition, Process, known, beyond, initial, eventC, eventKn, counted, nextEvent, rank, less, deliverable, deliverableBy, inOrder, sameMessage, newOnes, eventOf, buffered, deliveredAt, advanced, messageOf, started}
-use Rattle.model.specs.Run.{Node, Source, sentBy, stale, Call, Done, inputOf, isAccepted, movedClock, nodeAfter, outputOf, doneOf, act, atStart, runFrom, sends, messageBytes}
+use Rattle.model.specs.Run.{Node, Source, sentBy, stale, Call, Done, inputOf, listeningOf, listenedOutput, isAccepted, movedClock, nodeAfter, outputOf, doneOf, act, atStart, runFrom, isEvent, sends, messageBytes}
 use Rattle.model.proofs.Computing.{computing}
 use Rattle.theory.specs.Premises.{sameSetup, together, distinct, validFor, exactHoldback, goodStart, largestClock, staleUntil, entriesAllowed, oneSetup, trueClock, stepAllowed, hearsAllowed, acceptedWell, allowed, keeps, noneStale, stepsOfOne, isSent, sameTimestamp, isFresh, allFresh}
 use Rattle.theory.specs.Demand2.{messagesHeard, outcomeOf, publish, publishAll, publishedStart, publishedAfter, Matched}
 use Rattle.theory.specs.Demand3.{coveredFrom, coveredFrame, Promised}
 use Rattle.theory.proofs.Demand2.{demand2-fresh}
 use Rattle.theory.proofs.OneProgram.{demand2-ones}
-use Rattle.theory.proofs.Demand3.{demand3}
+use Rattle.theory.proofs.Demand3.{demand3, demand3-fresh}
 
 -- every definition of the runs, the premises and the published program, opened at once
 unfoldable running : Unit {0}
-unfolding keeps allowed acceptedWell oneSetup trueClock stepAllowed hearsAllowed sameSetup together distinct validFor exactHoldback goodStart entriesAllowed staleUntil largestClock largest sameList noneStale stepsOfOne isSent sameTimestamp isFresh allFresh coveredFrame coveredFrom act atStart runFrom doneOf outputOf nodeAfter movedClock isAccepted inputOf sends messageBytes known beyond initial eventC eventKn counted nextEvent rank less deliverable deliverableBy inOrder sortBy sameMessage newOnes eventOf buffered deliveredAt advanced messageOf started messagesHeard outcomeOf publish publishAll publishedStart computing
+unfolding keeps allowed acceptedWell oneSetup trueClock stepAllowed hearsAllowed sameSetup together distinct validFor exactHoldback goodStart entriesAllowed staleUntil largestClock largest sameList noneStale stepsOfOne isSent sameTimestamp isFresh allFresh coveredFrame coveredFrom act atStart runFrom doneOf outputOf nodeAfter movedClock isAccepted inputOf listeningOf listenedOutput isEvent sends messageBytes known beyond initial eventC eventKn counted nextEvent rank less deliverable deliverableBy inOrder sortBy sameMessage newOnes eventOf buffered deliveredAt advanced messageOf started messagesHeard outcomeOf publish publishAll publishedStart computing
 running = tt
 
 -- n 2, ε 2, δ 1 and the least B
@@ -56,8 +58,8 @@ likelyQueue = take (holdbackSize group) (1 ∷ 0 ∷ (forged ++ badQueue))
 -- the clocks start ε apart, and below B by 4 and 2: X is 12, older frames may be heard up to 15, and messages are covered from 19 on
 abbrev damagedNodes : List Node
 damagedNodes =
-    record { own = 0; clock = 10; tables = badTables; holdback = likelyQueue }
-    ∷ record { own = 1; clock = 12; tables = likelyTables; holdback = badQueue }
+    record { listens = false; own = 0; clock = 10; tables = badTables; holdback = likelyQueue }
+    ∷ record { listens = false; own = 1; clock = 12; tables = likelyTables; holdback = badQueue }
     ∷ []
 
 -- what a call hears: an entry and its source
@@ -233,7 +235,7 @@ damaged-figures = refl
 -- the covered frames that a call handed out
 abbrev coveredIn : Option Done → List (List ℕ)
 coveredIn none = []
-coveredIn (some d) = select (coveredFrame group 12 (d .clock)) (heldBytes 2 (d .output .delivery))
+coveredIn (some d) = select (coveredFrame group (coveredFrom group 12) (d .clock)) (heldBytes 2 (d .output .delivery))
 
 -- both boards hand out both messages that are due at 23, the cause first: node 0 at 23, and node 1, whose clock goes from 22 to 24, at 24, and in the
 -- same hand-out then what is due at 24
@@ -251,13 +253,14 @@ unfolding running
 damaged-steps = refl
 
 -- so demand 3 holds of this list
-pub damaged-promised : Promised group (largestClock damagedNodes) (runFrom (atStart damagedNodes) damagedCalls .past)
+pub damaged-promised : Promised group (coveredFrom group (largestClock damagedNodes)) (runFrom (atStart damagedNodes) damagedCalls .past)
 damaged-promised = demand3 group damagedNodes damagedCalls damaged-start damaged-keeps
 
 -- the same stations, fresh at clocks 11 and 13, with nonsense past the 2ε counts and behind the count of the shelf
 abbrev freshNode : ℕ → ℕ → Node
 freshNode own clock =
     record {
+      listens = false;
       own = own;
       clock = clock;
       tables = record { r = clock; c = 0; kn = 0 ∷ 0 ∷ 1 ∷ 0 ∷ replicate 28 255 };
@@ -330,7 +333,7 @@ fresh-figures = refl
 
 -- so demand 2 holds of this list, with Equation 4.11's program
 pub fresh-matched :
-    (j : ℕ) (d : Done) → getElem? (runFrom (atStart freshNodes) freshCalls .past) j ≡ some d → isAccepted (d .output) ≡ true
+    (j : ℕ) (d : Done) → getElem? (runFrom (atStart freshNodes) freshCalls .past) j ≡ some d → isEvent d ≡ true
     → Matched deliverable group (publishedAfter deliverable group freshNodes freshCalls j) d
 fresh-matched = demand2-ones group freshNodes freshCalls fresh-start fresh-nodes fresh-keeps fresh-none-stale fresh-ones
 
@@ -351,7 +354,7 @@ nudged-figures = refl
 
 -- demand 2 holds of it with the program that delivers at or past a due clock
 pub nudged-matched :
-    (j : ℕ) (d : Done) → getElem? (runFrom (atStart freshNodes) nudgedCalls .past) j ≡ some d → isAccepted (d .output) ≡ true
+    (j : ℕ) (d : Done) → getElem? (runFrom (atStart freshNodes) nudgedCalls .past) j ≡ some d → isEvent d ≡ true
     → Matched deliverableBy group (publishedAfter deliverableBy group freshNodes nudgedCalls j) d
 nudged-matched = demand2-fresh group freshNodes nudgedCalls fresh-start fresh-nodes nudged-keeps nudged-none-stale
 
@@ -366,3 +369,138 @@ pub nudged-missed :
     ≡ 0 ∷ 2 ∷ []
 unfolding running
 nudged-missed = refl
+
+-- 02, 2.6: with an observer, behind both stations: its last clock is B or more, its shelf is nonsense. X is 12 again
+abbrev watchedNodes : List Node
+watchedNodes =
+    record { listens = false; own = 0; clock = 12; tables = badTables; holdback = badQueue }
+    ∷ record { listens = false; own = 1; clock = 12; tables = likelyTables; holdback = badQueue }
+    ∷ record { listens = true; own = 0; clock = 10; tables = record { r = 77; c = 9; kn = replicate 32 77 }; holdback = badQueue }
+    ∷ []
+
+-- node 0 and node 1 send at 21, node 1 because of the other's: it counts two events at 21, as many as there are stations
+abbrev watched : List ℕ
+watched = bytesOf 0 7 0 (0 ∷ 1 ∷ 1 ∷ 0 ∷ []) (65 ∷ [])
+
+abbrev crowded : List ℕ
+crowded = bytesOf 1 7 0 (0 ∷ 1 ∷ 2 ∷ 0 ∷ []) (66 ∷ [])
+
+-- the observer, node 2, hears an older frame at 12, and at 20 both messages of 21, one of them again. Both are due at 24; its clock goes from 23
+-- to 25
+abbrev watchedCalls : List Call
+watchedCalls =
+    stepping 2 2 12 false [] (old ∷ []) ∷ nudged 0 14 ∷ nudged 1 14 ∷ nudged 2 14 ∷ nudged 0 16 ∷ nudged 1 16 ∷ nudged 2 16
+    ∷ nudged 0 18 ∷ nudged 1 18 ∷ nudged 2 18 ∷ nudged 0 20 ∷ nudged 1 20 ∷ quiet 2 19
+    ∷ sending 0 21 65 [] ∷ sending 1 21 66 (from 13 watched ∷ [])
+    ∷ hearing 2 20 (from 14 crowded ∷ from 13 watched ∷ from 14 crowded ∷ [])
+    ∷ hearing 0 22 (from 13 watched ∷ from 14 crowded ∷ []) ∷ quiet 1 22 ∷ nudged 2 22
+    ∷ nudged 0 24 ∷ nudged 1 24 ∷ failing 2 group 99 ∷ quiet 2 23 ∷ nudged 2 25
+    ∷ []
+
+pub watched-start : goodStart group watchedNodes ≡ true
+unfolding running
+watched-start = refl
+
+pub watched-keeps : keeps group (largestClock watchedNodes) (atStart watchedNodes) watchedCalls ≡ true
+unfolding running
+watched-keeps = refl
+
+-- the observer's calls: both its last clock and its shelf are mended, the older frame is taken, and both messages
+pub watched-figures :
+    map (λ k. map figures (take 1 (drop k (runFrom (atStart watchedNodes) watchedCalls .past)))) (0 ∷ 3 ∷ 12 ∷ 15 ∷ 18 ∷ 21 ∷ 22 ∷ 23 ∷ [])
+    ≡ ((12 ∷ 0 ∷ 3 ∷ 1 ∷ 0 ∷ 0 ∷ 0 ∷ []) ∷ [])
+    ∷ ((14 ∷ 0 ∷ 0 ∷ 0 ∷ 0 ∷ 0 ∷ []) ∷ [])
+    ∷ ((19 ∷ 0 ∷ 0 ∷ 0 ∷ 0 ∷ 0 ∷ []) ∷ [])
+    ∷ ((20 ∷ 0 ∷ 0 ∷ 2 ∷ 0 ∷ 0 ∷ 0 ∷ 0 ∷ 16 ∷ []) ∷ [])
+    ∷ ((22 ∷ 0 ∷ 0 ∷ 0 ∷ 0 ∷ 0 ∷ []) ∷ [])
+    ∷ ((22 ∷ 2 ∷ 0 ∷ 0 ∷ 0 ∷ 0 ∷ []) ∷ [])
+    ∷ ((23 ∷ 0 ∷ 0 ∷ 0 ∷ 0 ∷ 0 ∷ []) ∷ [])
+    ∷ ((25 ∷ 0 ∷ 0 ∷ 0 ∷ 2 ∷ 0 ∷ []) ∷ [])
+    ∷ []
+unfolding running
+watched-figures = refl
+
+-- what a station answers at 20 to the message that counts two events at 21, and what the observer does: "not 15: all n stations may be ahead of it"
+pub watched-crowded : (firstNo (judgeQuestions group 6 [] crowded) ∷ firstNo (observerQuestions group 6 [] crowded) ∷ []) ≡ 15 ∷ 0 ∷ []
+unfolding running
+watched-crowded = refl
+
+-- node 0, at 24, and the observer, at 25, hand out both, the cause first
+pub watched-delivers :
+    map (λ k. coveredIn (getElem? (runFrom (atStart watchedNodes) watchedCalls .past) k)) (19 ∷ 23 ∷ [])
+    ≡ (watched ∷ crowded ∷ []) ∷ (watched ∷ crowded ∷ []) ∷ []
+unfolding running
+watched-delivers = refl
+
+-- so demand 3 holds of this list
+pub watched-promised : Promised group (coveredFrom group (largestClock watchedNodes)) (runFrom (atStart watchedNodes) watchedCalls .past)
+watched-promised = demand3 group watchedNodes watchedCalls watched-start watched-keeps
+
+-- the fresh stations with a fresh observer, behind them: its last clock is right, its tables are else nonsense
+abbrev attendedNodes : List Node
+attendedNodes =
+    freshNode 0 11 ∷ freshNode 1 13
+    ∷ record { listens = true; own = 0; clock = 11; tables = record { r = 11; c = 9; kn = replicate 32 77 }; holdback = 0 ∷ 0 ∷ replicate (holdbackSize group - 2) 170 }
+    ∷ []
+
+-- the observer hears both messages at 13, where the effect counts two events, and its clock goes from 15 to 17, when both are due
+abbrev attendedCalls : List Call
+attendedCalls =
+    quiet 0 12 ∷ quiet 2 12 ∷ sending 1 14 66 [] ∷ sending 0 13 65 (from 2 freshCause ∷ [])
+    ∷ hearing 2 13 (from 3 freshEffect ∷ from 2 freshCause ∷ from 3 freshEffect ∷ [])
+    ∷ hearing 1 15 (from 3 freshEffect ∷ from 2 freshCause ∷ []) ∷ hearing 0 14 (from 2 freshCause ∷ from 3 freshEffect ∷ [])
+    ∷ nudged 2 15 ∷ quiet 1 16 ∷ nudged 0 16 ∷ quiet 1 17 ∷ nudged 2 17 ∷ quiet 0 17 ∷ []
+
+pub attended-start : goodStart group attendedNodes ≡ true
+unfolding running
+attended-start = refl
+
+pub attended-nodes : allFresh group attendedNodes ≡ true
+unfolding running
+attended-nodes = refl
+
+pub attended-keeps : keeps group (largestClock attendedNodes) (atStart attendedNodes) attendedCalls ≡ true
+unfolding running
+attended-keeps = refl
+
+pub attended-none-stale : noneStale (runFrom (atStart attendedNodes) attendedCalls .past) ≡ true
+unfolding running
+attended-none-stale = refl
+
+pub attended-figures :
+    map (λ k. map figures (take 1 (drop k (runFrom (atStart attendedNodes) attendedCalls .past)))) (1 ∷ 4 ∷ 7 ∷ 11 ∷ [])
+    ≡ ((12 ∷ 0 ∷ 0 ∷ 0 ∷ 0 ∷ 0 ∷ []) ∷ [])
+    ∷ ((13 ∷ 0 ∷ 0 ∷ 2 ∷ 0 ∷ 0 ∷ 0 ∷ 0 ∷ 16 ∷ []) ∷ [])
+    ∷ ((15 ∷ 0 ∷ 0 ∷ 0 ∷ 0 ∷ 0 ∷ []) ∷ [])
+    ∷ ((17 ∷ 0 ∷ 0 ∷ 0 ∷ 2 ∷ 0 ∷ []) ∷ [])
+    ∷ []
+unfolding running
+attended-figures = refl
+
+-- the frames that a call handed out
+abbrev deliveredIn : Option Done → List (List ℕ)
+deliveredIn none = []
+deliveredIn (some d) = heldBytes 2 (d .output .delivery)
+
+-- every board hands out both, the cause first
+pub attended-delivers :
+    map (λ k. deliveredIn (getElem? (runFrom (atStart attendedNodes) attendedCalls .past) k)) (10 ∷ 11 ∷ 12 ∷ [])
+    ≡ replicate 3 (freshCause ∷ freshEffect ∷ [])
+unfolding running
+attended-delivers = refl
+
+-- so demand 3 holds of this list for every message, and demand 2 of the stations' calls
+pub attended-promised : Promised group 0 (runFrom (atStart attendedNodes) attendedCalls .past)
+attended-promised = demand3-fresh group attendedNodes attendedCalls attended-start attended-nodes attended-keeps attended-none-stale
+
+pub attended-matched :
+    (j : ℕ) (d : Done) → getElem? (runFrom (atStart attendedNodes) attendedCalls .past) j ≡ some d → isEvent d ≡ true
+    → Matched deliverableBy group (publishedAfter deliverableBy group attendedNodes attendedCalls j) d
+attended-matched = demand2-fresh group attendedNodes attendedCalls attended-start attended-nodes attended-keeps attended-none-stale
+
+-- an observer more than ε behind, or ahead, is ruled out, at the start and later
+pub attended-drift :
+    map (λ clock. goodStart group (freshNode 0 13 ∷ record { listens = true; own = 0; clock = clock; tables = badTables; holdback = badQueue } ∷ [])) (10 ∷ 11 ∷ 15 ∷ 16 ∷ [])
+    ≡ false ∷ true ∷ true ∷ false ∷ []
+unfolding running
+attended-drift = refl

@@ -532,10 +532,6 @@ module _ {A : Type 0} where
   unfoldable pub countOf : (A → Bool) → List A → ℕ
   countOf p l = length (select p l)
 
-  pub countOf-le : (p : A → Bool) (l : List A) → countOf p l ≤ length l
-  unfolding countOf
-  countOf-le p l = select-length-le p l
-
   pub countOf-yes : (p : A → Bool) (x : A) (l : List A) → p x ≡ true → countOf p (x ∷ l) ≡ suc (countOf p l)
   unfolding countOf
   countOf-yes p x l e = ap length (select-yes p x l e)
@@ -544,14 +540,26 @@ module _ {A : Type 0} where
   unfolding countOf
   countOf-no p x l e = ap length (select-no p x l e)
 
-  -- an element that fails leaves the count below the length
-  pub countOf-lt : (p : A → Bool) {l : List A} {x : A} → List·Memᴰ x l → p x ≡ false → countOf p l < length l
-  countOf-lt p (List·Memᴰ·head {x = y} {xs} e) h = rw (countOf-no p y xs (rw e at h)) (suc-le-suc (countOf-le p xs))
-  countOf-lt p (List·Memᴰ·tail {x = y} {xs} m) h = go (true-or-false (p y)) (countOf-lt p m h)
+  -- a narrower test counts no more, and less where an element fails it alone
+  pub countOf-under : (p q : A → Bool) (l : List A) → ((x : A) → p x ≡ true → q x ≡ true) → countOf p l ≤ countOf q l
+  unfolding countOf select
+  countOf-under p q [] h = omega arith
+  countOf-under p q (x ∷ l) h = go (true-or-false (p x)) (true-or-false (q x)) (countOf-under p q l h)
     where
-      go : (p y ≡ true) ⊎ (p y ≡ false) → countOf p xs < length xs → countOf p (y ∷ xs) < length (y ∷ xs)
-      go (inl k) r = rw (countOf-yes p y xs k) (suc-le-suc r)
-      go (inr k) r = rw (countOf-no p y xs k) (omega arith)
+      go : (p x ≡ true) ⊎ (p x ≡ false) → (q x ≡ true) ⊎ (q x ≡ false) → countOf p l ≤ countOf q l → countOf p (x ∷ l) ≤ countOf q (x ∷ l)
+      go (inl k) m r = rw (countOf-yes p x l k, countOf-yes q x l (h x k)) (suc-le-suc r)
+      go (inr k) (inl m) r = rw (countOf-no p x l k, countOf-yes q x l m) (omega arith)
+      go (inr k) (inr m) r = rw (countOf-no p x l k, countOf-no q x l m) r
+
+  pub countOf-among : (p q : A → Bool) {l : List A} {x : A} → ((y : A) → p y ≡ true → q y ≡ true) → List·Memᴰ x l → p x ≡ false → q x ≡ true → countOf p l < countOf q l
+  countOf-among p q h (List·Memᴰ·head {x = y} {xs} e) bad good =
+      rw (countOf-no p y xs (rw e at bad), countOf-yes q y xs (rw e at good)) (suc-le-suc (countOf-under p q xs h))
+  countOf-among p q h (List·Memᴰ·tail {x = y} {xs} m) bad good = go (true-or-false (p y)) (true-or-false (q y)) (countOf-among p q h m bad good)
+    where
+      go : (p y ≡ true) ⊎ (p y ≡ false) → (q y ≡ true) ⊎ (q y ≡ false) → countOf p xs < countOf q xs → countOf p (y ∷ xs) < countOf q (y ∷ xs)
+      go (inl k) n r = rw (countOf-yes p y xs k, countOf-yes q y xs (h y k)) (suc-le-suc r)
+      go (inr k) (inl n) r = rw (countOf-no p y xs k, countOf-yes q y xs n) (omega arith)
+      go (inr k) (inr n) r = rw (countOf-no p y xs k, countOf-no q y xs n) r
 
   -- one element changed
   pub countOf-set-same : (p : A → Bool) (l : List A) (i : ℕ) (a d : A) → p (getD l i d) ≡ p a → countOf p (set l i a) ≡ countOf p l

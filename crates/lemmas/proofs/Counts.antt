@@ -15,7 +15,7 @@ use Rattle.laws.specs.Lists.{within, tab, placedAt, padded}
 use Rattle.laws.proofs.Numbers.{lt-or-ge, eq-or-ne, and-intro, and-left, and-right}
 use Rattle.laws.proofs.Lists.{length-tab, getD-tab, getD-tab-out, tab-getD, tab-ext, every-index, every-of-index, getD-zeros, getD-append-zeros, getD-padded}
 use Rattle.model.specs.Setup.{width, widest}
-use Rattle.model.specs.Timestamp.{Timestamp, countAt, countsFrom, sum, atMost, soundTimestamp, clockStep, soundTables, shift, step, replaced, absorb, countOwn, trimmed, widened, fresh}
+use Rattle.model.specs.Timestamp.{Timestamp, countAt, countsFrom, sum, atMost, soundTimestamp, clockStep, soundTables, shift, step, replaced, absorb, countOwn, trimmed, widened, fresh, soundClock}
 use Rattle.model.specs.Order.{countsDown}
 use Rattle.lemmas.proofs.Bounds.{Sound, Opened}
 
@@ -154,10 +154,24 @@ sound-to n epsilon t s =
     (and-intro (le-leb 1 (placedAt 0 (t .kn) (t .c + epsilon)) (subst (λ (x : ℕ). 1 ≤ placedAt 0 (t .kn) x) same (s .top)))
     (at-most-past-to 0 epsilon 0 (t .kn) (t .c + 1) (λ i h. let z : placedAt 0 (t .kn) i ≡ 0 = s .above i (omega arith) in omega arith))))
 
+-- the last clock, of tables or of an observer: it is below B, and lies 1 to ε before v
+pub clock-steps : (epsilon B v r : ℕ) → soundClock epsilon B v r ≡ true → (1 ≤ clockStep B r v) × (clockStep B r v ≤ epsilon)
+unfolding within
+clock-steps epsilon B v r h =
+    let w = and-right (ltb r B) (leb 1 (clockStep B r v) && leb (clockStep B r v) epsilon) h in
+    (leb-true 1 (clockStep B r v) (and-left _ _ w), leb-true (clockStep B r v) epsilon (and-right (leb 1 (clockStep B r v)) _ w))
+
+pub clock-sound : (epsilon B v r k : ℕ) → r < B → clockStep B r v ≡ k → 1 ≤ k → k ≤ epsilon → soundClock epsilon B v r ≡ true
+unfolding within
+clock-sound epsilon B v r k below e pos few = and-intro (lt-ltb r B below) (rw e (and-intro (le-leb 1 k pos) (le-leb k epsilon few)))
+
 -- the tests that tables pass besides
-tables-rest : (n epsilon B v : ℕ) (t : Timestamp) → soundTables n epsilon B v t ≡ true → (ltb (t .r) B && (within 1 epsilon (clockStep B (t .r) v) && atMost (n - 1) (countsFrom epsilon 0 (t .kn) 1))) ≡ true
+tables-rest : (n epsilon B v : ℕ) (t : Timestamp) → soundTables n epsilon B v t ≡ true → (soundClock epsilon B v (t .r) && atMost (n - 1) (countsFrom epsilon 0 (t .kn) 1)) ≡ true
 unfolding soundTables
 tables-rest n epsilon B v t h = and-right (soundTimestamp n epsilon t) _ h
+
+pub tables-clock : (n epsilon B v : ℕ) (t : Timestamp) → soundTables n epsilon B v t ≡ true → soundClock epsilon B v (t .r) ≡ true
+tables-clock n epsilon B v t h = and-left (soundClock epsilon B v (t .r)) _ (tables-rest n epsilon B v t h)
 
 pub tables-sound : (n epsilon B v : ℕ) (t : Timestamp) → soundTables n epsilon B v t ≡ true → soundTimestamp n epsilon t ≡ true
 unfolding soundTables
@@ -165,19 +179,16 @@ tables-sound n epsilon B v t h = and-left (soundTimestamp n epsilon t) _ h
 
 -- the step of sound tables is 1 to ε
 pub tables-step : (n epsilon B v : ℕ) (t : Timestamp) → soundTables n epsilon B v t ≡ true → (1 ≤ clockStep B (t .r) v) × (clockStep B (t .r) v ≤ epsilon)
-unfolding within
-tables-step n epsilon B v t h =
-    let w = and-left (leb 1 (clockStep B (t .r) v) && leb (clockStep B (t .r) v) epsilon) _ (and-right (ltb (t .r) B) _ (tables-rest n epsilon B v t h)) in
-    (leb-true 1 (clockStep B (t .r) v) (and-left _ _ w), leb-true (clockStep B (t .r) v) epsilon (and-right (leb 1 (clockStep B (t .r) v)) _ w))
+tables-step n epsilon B v t h = clock-steps epsilon B v (t .r) (tables-clock n epsilon B v t h)
 
 pub tables-below : (n epsilon B v : ℕ) (t : Timestamp) → soundTables n epsilon B v t ≡ true → t .r < B
-tables-below n epsilon B v t h = ltb-true (t .r) B (and-left (ltb (t .r) B) _ (tables-rest n epsilon B v t h))
+tables-below n epsilon B v t h = ltb-true (t .r) B (and-left (ltb (t .r) B) _ (tables-clock n epsilon B v t h))
 
 -- no count of sound tables past their clock is full
 pub tables-room : (n epsilon B v : ℕ) (t : Timestamp) → soundTables n epsilon B v t ≡ true → (i : ℕ) → epsilon < i → placedAt 0 (t .kn) i ≤ n - 1
 tables-room n epsilon B v t h i k =
     at-most-past (n - 1) epsilon 0 (t .kn) 1
-    (and-right (within 1 epsilon (clockStep B (t .r) v)) _ (and-right (ltb (t .r) B) _ (tables-rest n epsilon B v t h))) i (omega arith)
+    (and-right (soundClock epsilon B v (t .r)) _ (tables-rest n epsilon B v t h)) i (omega arith)
 
 pub trimmed-wide : (epsilon : ℕ) (t : Timestamp) → length (trimmed epsilon t .kn) ≡ width epsilon
 unfolding trimmed
@@ -439,13 +450,10 @@ own-left n epsilon v t n-pos e o =
 
 -- such tables are sound for the clocks 1 to ε after theirs
 pub left-tables : (n epsilon B : ℕ) (t : Timestamp) → Left n epsilon t → t .r < B → (v k : ℕ) → clockStep B (t .r) v ≡ k → 1 ≤ k → k ≤ epsilon → soundTables n epsilon B v t ≡ true
-unfolding soundTables within
+unfolding soundTables
 left-tables n epsilon B t left below v k e pos few =
-    and-intro (sound-to n epsilon t (left .sound)) (and-intro (lt-ltb (t .r) B below)
-    (and-intro steps (at-most-past-to (n - 1) epsilon 0 (t .kn) 1 (λ i k. left .room i (omega arith)))))
-  where
-    steps : (leb 1 (clockStep B (t .r) v) && leb (clockStep B (t .r) v) epsilon) ≡ true
-    steps = rw e (and-intro (le-leb 1 k pos) (le-leb k epsilon few))
+    and-intro (sound-to n epsilon t (left .sound)) (and-intro (clock-sound epsilon B v (t .r) k below e pos few)
+    (at-most-past-to (n - 1) epsilon 0 (t .kn) 1 (λ i k. left .room i (omega arith))))
 
 -- fresh tables are replaced ones after their own event
 pub fresh-own : (epsilon clock : ℕ) → fresh epsilon clock ≡ countOwn epsilon clock (replaced epsilon clock)

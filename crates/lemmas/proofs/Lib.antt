@@ -4,6 +4,8 @@ pub mod Reading
 pub mod Counts
 pub mod RoundTrip
 pub mod Queue
+pub mod Board
 pub mod OneTick
+pub mod OneListening
 pub mod NextTick
 pub mod Comparing

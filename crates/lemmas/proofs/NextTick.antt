@@ -13,9 +13,10 @@ use Rattle.model.specs.Timestamp.{Timestamp, widened, clockStep}
 use Rattle.model.specs.Frame.{Frame, decode}
 use Rattle.model.specs.Batch.{batchEntries}
 use Rattle.model.specs.Question.{firstNo}
-use Rattle.model.specs.Judge.{Heard, verdictBy, judge, hearBy, hear, hearOne, judgeQuestions, placeFor}
+use Rattle.model.specs.Judge.{Asking, Heard, verdictBy, judge, hearBy, hear, hearOne, judgeQuestions, placeFor}
 use Rattle.model.specs.Tick.{Input, Output, stepOf, leastDue, openingQueue, openedQueue, dueBefore, earlyOf, opening, heardOf, takenCount, deliveredOf, dueNow, keptOf, acceptance, tick}
-use Rattle.lemmas.proofs.OneTick.{Accepted, new-r, step-later, tables-are, tables-next, kept-held, shelf-sound, numbersOf, heard-verdicts}
+use Rattle.lemmas.proofs.Board.{step-later, numbersOf}
+use Rattle.lemmas.proofs.OneTick.{Accepted, new-r, tables-are, tables-next, kept-held, shelf-sound, heard-verdicts}
 
 -- what it opens: the queue as it was left
 module _ (i : Input) (k : ℕ) (a : Accepted i) (pos : 1 ≤ k) (few : k ≤ i .setup .epsilon) where
@@ -28,7 +29,7 @@ module _ (i : Input) (k : ℕ) (a : Accepted i) (pos : 1 ≤ k) (few : k ≤ i .
 
   step-next : stepOf (i .setup) later (tick i .answer .tables) ≡ k
   unfolding stepOf
-  step-next = ap (λ (r : ℕ). clockStep (i .setup .modulus) r later) r-left ∙ step-later i k a few
+  step-next = ap (λ (r : ℕ). clockStep (i .setup .modulus) r later) r-left ∙ step-later (i .setup) (i .clock) k (a .limits) (a .clock-below) few
 
   least-next : leastDue (i .setup) later (tick i .answer .tables) ≡ i .setup .modulus + 1 - k
   unfolding leastDue
@@ -46,19 +47,19 @@ none-taken (suc k) verdicts e = ((λ z. omega arith), rw (ne-eqb (suc k) 0 (λ z
 
 -- a hearing that takes no frame leaves the queue as it was
 pub hear-none :
-    (s : Setup) (v : ℕ) (h : Heard) (entries : List (List ℕ)) → takenCount (numbersOf s v h entries) ≡ 0
-    → hear s v (judgeQuestions s v) h entries .queue ≡ h .queue
+    (s : Setup) (v : ℕ) (asking : Asking) (h : Heard) (entries : List (List ℕ)) → takenCount (numbersOf s v asking h entries) ≡ 0
+    → hear s v asking h entries .queue ≡ h .queue
 unfolding hear numbersOf hearOne judge
-hear-none s v h [] e = refl
-hear-none s v h (bytes ∷ rest) e =
-    let none = none-taken (firstNo (judgeQuestions s v (h .queue) bytes)) (numbersOf s v (hearOne s v (judgeQuestions s v) h bytes) rest) e in
-    hear-none s v (hearOne s v (judgeQuestions s v) h bytes) rest (none .1) ∙ one (none .0)
+hear-none s v asking h [] e = refl
+hear-none s v asking h (bytes ∷ rest) e =
+    let none = none-taken (firstNo (asking (h .queue) bytes)) (numbersOf s v asking (hearOne s v asking h bytes) rest) e in
+    hear-none s v asking (hearOne s v asking h bytes) rest (none .1) ∙ one (none .0)
   where
     f : Frame
     f = decode (s .epsilon) bytes
 
-    one : (firstNo (judgeQuestions s v (h .queue) bytes) ≡ 0 → ⊥) → hearOne s v (judgeQuestions s v) h bytes .queue ≡ h .queue
-    one = go (firstNo (judgeQuestions s v (h .queue) bytes))
+    one : (firstNo (asking (h .queue) bytes) ≡ 0 → ⊥) → hearOne s v asking h bytes .queue ≡ h .queue
+    one = go (firstNo (asking (h .queue) bytes))
       where
         go : (k : ℕ) → (k ≡ 0 → ⊥) → hearBy (verdictBy k (placeFor s v (h .queue) f)) f h .queue ≡ h .queue
         go zero n = absurd (n refl)
@@ -78,5 +79,5 @@ delivered-quiet i a e =
   where
     quiet : heardOf i .queue ≡ opening i .queue
     quiet =
-        hear-none (i .setup) (i .clock) (opening i) (batchEntries (i .batch))
+        hear-none (i .setup) (i .clock) (judgeQuestions (i .setup) (i .clock)) (opening i) (batchEntries (i .batch))
         (ap takenCount (sym (heard-verdicts i)) ∙ (sym (ap (λ (o : Output). o .answer .taken) (a .accepted)) ∙ e))

@@ -22,8 +22,8 @@ use Rattle.model.specs.Timestamp.{sum, countsFrom, atMost}
 use Rattle.model.specs.Frame.{Frame, encode, decode, twoAt}
 use Rattle.model.specs.Order.{readingOf, countsDown, keyBy, key, keyNear, compareFrames, before, due, dueNear}
 use Rattle.model.specs.Holdback.{sameOrigin, passes, notEarly, notOverdue, heldBytes, held, soundHoldback, encodeFrames, encodeHoldback}
-use Rattle.model.specs.Question.{firstNo}
-use Rattle.model.specs.Judge.{askLate, askEarly, askCounts, askRepeat, askRoom, placeQuestions, judgeQuestions, placeFor}
+use Rattle.model.specs.Question.{Question, firstNo}
+use Rattle.model.specs.Judge.{Asking, askLate, askEarly, askCounts, askRepeat, askRoom, placeQuestions, judgeQuestions, observerPlaceQuestions, observerQuestions, placeFor}
 use Rattle.model.specs.Tick.{openingQueue, dueBefore, dueNow, holdbackSize}
 use Rattle.lemmas.proofs.Bounds.{Limits, FrameOk, QueueOk}
 use Rattle.lemmas.proofs.Reading.{near-true, near-high, near-later, near-injective}
@@ -90,50 +90,95 @@ in-window s v least f limits ok h =
     let c = ok .sound .close in
     record { low = omega arith; high = reading-high s v f limits }
 
--- what a frame that is taken has passed
+-- what a frame that is taken has passed, 15 aside
 pub record Passed (s : Setup) (v : ℕ) (queue : List Frame) (f : Frame) : Type 0 where
   pub frame : FrameOk s f
   pub late : s .modulus ≤ readingOf s v f + (s .delta + s .epsilon)
   pub early : notEarly s v f ≡ true
-  pub counts : atMost (s .n - 1) (countsFrom (s .epsilon) (readingOf s v f) (f .stamp .kn) (s .modulus)) ≡ true
   pub new : any (sameOrigin f) queue ≡ false
 
-pub judged-passed : (s : Setup) (v : ℕ) (queue : List Frame) (bytes : List ℕ) → Limits s → firstNo (judgeQuestions s v queue bytes) ≡ 0 → Passed s v queue (decode (s .epsilon) bytes)
-unfolding judgeQuestions placeQuestions askLate askEarly askCounts askRepeat
-judged-passed s v queue bytes limits e =
+-- questions that take no other frame
+abbrev pub Places : Setup → ℕ → Asking → Type 0
+Places s v asking = (queue : List Frame) (bytes : List ℕ) → firstNo (asking queue bytes) ≡ 0 → Passed s v queue (decode (s .epsilon) bytes)
+
+-- 13 and 14, and then 16
+passed-times : (s : Setup) (v : ℕ) (f : Frame) (qs : List Question) → firstNo (askLate s v f ∷ askEarly s v f ∷ qs) ≡ 0 → (s .modulus ≤ readingOf s v f + (s .delta + s .epsilon)) × (notEarly s v f ≡ true) × (firstNo qs ≡ 0)
+unfolding askLate askEarly
+passed-times s v f qs e =
+    let q13 = none-no (leb (s .modulus) (readingOf s v f + (s .delta + s .epsilon))) 12 (askEarly s v f ∷ qs) e in
+    let q14 = none-no (notEarly s v f) 13 qs (q13 .1) in
+    (leb-true (s .modulus) (readingOf s v f + (s .delta + s .epsilon)) (q13 .0), q14 .0, q14 .1)
+
+passed-new : (queue : List Frame) (f : Frame) (qs : List Question) → firstNo (askRepeat queue f ∷ qs) ≡ 0 → any (sameOrigin f) queue ≡ false
+unfolding askRepeat
+passed-new queue f qs e = false-of-not (any (sameOrigin f) queue) (none-no (not (any (sameOrigin f) queue)) 15 qs e .0)
+
+-- 10 to 17
+judged-all :
+    (s : Setup) (v : ℕ) (queue : List Frame) (bytes : List ℕ) → Limits s → firstNo (judgeQuestions s v queue bytes) ≡ 0
+    → Passed s v queue (decode (s .epsilon) bytes)
+    × (atMost (s .n - 1) (countsFrom (s .epsilon) (readingOf s v (decode (s .epsilon) bytes)) (decode (s .epsilon) bytes .stamp .kn) (s .modulus)) ≡ true)
+unfolding judgeQuestions placeQuestions askCounts
+judged-all s v queue bytes limits e =
     let f = decode (s .epsilon) bytes in
     let q = frame-passed s bytes (placeQuestions s v queue f) limits e in
-    let q13 = none-no (leb (s .modulus) (readingOf s v f + (s .delta + s .epsilon))) 12 (askEarly s v f ∷ askCounts s v f ∷ askRepeat queue f ∷ askRoom s queue ∷ []) (q .1) in
-    let q14 = none-no (notEarly s v f) 13 (askCounts s v f ∷ askRepeat queue f ∷ askRoom s queue ∷ []) (q13 .1) in
-    let q15 = none-no (atMost (s .n - 1) (countsFrom (s .epsilon) (readingOf s v f) (f .stamp .kn) (s .modulus))) 14 (askRepeat queue f ∷ askRoom s queue ∷ []) (q14 .1) in
-    let q16 = none-no (not (any (sameOrigin f) queue)) 15 (askRoom s queue ∷ []) (q15 .1) in
-    record {
-      frame = q .0;
-      late = leb-true (s .modulus) (readingOf s v f + (s .delta + s .epsilon)) (q13 .0);
-      early = q14 .0;
-      counts = q15 .0;
-      new = false-of-not (any (sameOrigin f) queue) (q16 .0);
-    }
+    let t = passed-times s v f (askCounts s v f ∷ askRepeat queue f ∷ askRoom s queue ∷ []) (q .1) in
+    let q15 = none-no (atMost (s .n - 1) (countsFrom (s .epsilon) (readingOf s v f) (f .stamp .kn) (s .modulus))) 14 (askRepeat queue f ∷ askRoom s queue ∷ []) (t .2) in
+    (record { frame = q .0; late = t .0; early = t .1; new = passed-new queue f (askRoom s queue ∷ []) (q15 .1) }, q15 .0)
+
+pub judged-passed : (s : Setup) (v : ℕ) (queue : List Frame) (bytes : List ℕ) → Limits s → firstNo (judgeQuestions s v queue bytes) ≡ 0 → Passed s v queue (decode (s .epsilon) bytes)
+judged-passed s v queue bytes limits e = judged-all s v queue bytes limits e .0
+
+-- 15
+pub judged-counts :
+    (s : Setup) (v : ℕ) (queue : List Frame) (bytes : List ℕ) → Limits s → firstNo (judgeQuestions s v queue bytes) ≡ 0
+    → atMost (s .n - 1) (countsFrom (s .epsilon) (readingOf s v (decode (s .epsilon) bytes)) (decode (s .epsilon) bytes .stamp .kn) (s .modulus)) ≡ true
+judged-counts s v queue bytes limits e = judged-all s v queue bytes limits e .1
+
+-- 02, 2.6: an observer's questions
+pub observed-passed : (s : Setup) (v : ℕ) (queue : List Frame) (bytes : List ℕ) → Limits s → firstNo (observerQuestions s v queue bytes) ≡ 0 → Passed s v queue (decode (s .epsilon) bytes)
+unfolding observerQuestions observerPlaceQuestions
+observed-passed s v queue bytes limits e =
+    let f = decode (s .epsilon) bytes in
+    let q = frame-passed s bytes (observerPlaceQuestions s v queue f) limits e in
+    let t = passed-times s v f (askRepeat queue f ∷ askRoom s queue ∷ []) (q .1) in
+    record { frame = q .0; late = t .0; early = t .1; new = passed-new queue f (askRoom s queue ∷ []) (t .2) }
 
 -- and the other way round, where there is room
-pub passed-judged : (s : Setup) (v : ℕ) (queue : List Frame) (f : Frame) → Limits s → Passed s v queue f → length queue < depth (s .n) (s .epsilon) (s .delta) → firstNo (judgeQuestions s v queue (encode f)) ≡ 0
+pub passed-judged :
+    (s : Setup) (v : ℕ) (queue : List Frame) (f : Frame) → Passed s v queue f
+    → atMost (s .n - 1) (countsFrom (s .epsilon) (readingOf s v f) (f .stamp .kn) (s .modulus)) ≡ true
+    → length queue < depth (s .n) (s .epsilon) (s .delta) → firstNo (judgeQuestions s v queue (encode f)) ≡ 0
 unfolding judgeQuestions placeQuestions askLate askEarly askCounts askRepeat askRoom firstNo
-passed-judged s v queue f limits p room =
+passed-judged s v queue f p counts room =
     let d = decode-encode (s .epsilon) f (p .frame .sound .wide) in
     rw (
       frame-passes s f (placeQuestions s v queue (decode (s .epsilon) (encode f))) (p .frame),
       d,
       le-leb (s .modulus) (readingOf s v f + (s .delta + s .epsilon)) (p .late),
       p .early,
-      p .counts,
+      counts,
+      p .new,
+      lt-ltb (length queue) (depth (s .n) (s .epsilon) (s .delta)) room,
+    )
+
+pub passed-observed : (s : Setup) (v : ℕ) (queue : List Frame) (f : Frame) → Passed s v queue f → length queue < depth (s .n) (s .epsilon) (s .delta) → firstNo (observerQuestions s v queue (encode f)) ≡ 0
+unfolding observerQuestions observerPlaceQuestions askLate askEarly askRepeat askRoom firstNo
+passed-observed s v queue f p room =
+    let d = decode-encode (s .epsilon) f (p .frame .sound .wide) in
+    rw (
+      frame-passes s f (observerPlaceQuestions s v queue (decode (s .epsilon) (encode f))) (p .frame),
+      d,
+      le-leb (s .modulus) (readingOf s v f + (s .delta + s .epsilon)) (p .late),
+      p .early,
       p .new,
       lt-ltb (length queue) (depth (s .n) (s .epsilon) (s .delta)) room,
     )
 
 -- a frame that passes all but 16
-pub repeat-judged : (s : Setup) (v : ℕ) (queue : List Frame) (f : Frame) → Limits s → FrameOk s f → s .modulus ≤ readingOf s v f + (s .delta + s .epsilon) → notEarly s v f ≡ true → atMost (s .n - 1) (countsFrom (s .epsilon) (readingOf s v f) (f .stamp .kn) (s .modulus)) ≡ true → any (sameOrigin f) queue ≡ true → firstNo (judgeQuestions s v queue (encode f)) ≡ 16
+pub repeat-judged : (s : Setup) (v : ℕ) (queue : List Frame) (f : Frame) → FrameOk s f → s .modulus ≤ readingOf s v f + (s .delta + s .epsilon) → notEarly s v f ≡ true → atMost (s .n - 1) (countsFrom (s .epsilon) (readingOf s v f) (f .stamp .kn) (s .modulus)) ≡ true → any (sameOrigin f) queue ≡ true → firstNo (judgeQuestions s v queue (encode f)) ≡ 16
 unfolding judgeQuestions placeQuestions askLate askEarly askCounts askRepeat askRoom firstNo
-repeat-judged s v queue f limits ok late early counts old =
+repeat-judged s v queue f ok late early counts old =
     let d = decode-encode (s .epsilon) f (ok .sound .wide) in
     rw (
       frame-passes s f (placeQuestions s v queue (decode (s .epsilon) (encode f))) ok,
@@ -141,6 +186,18 @@ repeat-judged s v queue f limits ok late early counts old =
       le-leb (s .modulus) (readingOf s v f + (s .delta + s .epsilon)) late,
       early,
       counts,
+      old,
+    )
+
+pub repeat-observed : (s : Setup) (v : ℕ) (queue : List Frame) (f : Frame) → FrameOk s f → s .modulus ≤ readingOf s v f + (s .delta + s .epsilon) → notEarly s v f ≡ true → any (sameOrigin f) queue ≡ true → firstNo (observerQuestions s v queue (encode f)) ≡ 16
+unfolding observerQuestions observerPlaceQuestions askLate askEarly askRepeat askRoom firstNo
+repeat-observed s v queue f ok late early old =
+    let d = decode-encode (s .epsilon) f (ok .sound .wide) in
+    rw (
+      frame-passes s f (observerPlaceQuestions s v queue (decode (s .epsilon) (encode f))) ok,
+      d,
+      le-leb (s .modulus) (readingOf s v f + (s .delta + s .epsilon)) late,
+      early,
       old,
     )
 

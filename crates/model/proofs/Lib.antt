@@ -2,3 +2,4 @@ pub mod Computing
 pub mod Samples
 pub mod Comparisons
 pub mod Polls
+pub mod Observers

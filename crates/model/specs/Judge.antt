@@ -40,6 +40,13 @@ placeQuestions s v queue f = askLate s v f ∷ askEarly s v f ∷ askCounts s v 
 unfoldable pub judgeQuestions : Setup → ℕ → List Frame → List ℕ → List Question
 judgeQuestions s v queue bytes = frameQuestions s bytes ++ placeQuestions s v queue (decode (s .epsilon) bytes)
 
+-- 02, 2.6: "It judges frames by 10 to 14, 16 and 17, not 15: all n stations may be ahead of it"
+unfoldable pub observerPlaceQuestions : Setup → ℕ → List Frame → Frame → List Question
+observerPlaceQuestions s v queue f = askLate s v f ∷ askEarly s v f ∷ askRepeat queue f ∷ askRoom s queue ∷ []
+
+unfoldable pub observerQuestions : Setup → ℕ → List Frame → List ℕ → List Question
+observerQuestions s v queue bytes = frameQuestions s bytes ++ observerPlaceQuestions s v queue (decode (s .epsilon) bytes)
+
 -- 01: "A verdict is either taken, with its place on the shelf, or refused, with the number"
 pub data Verdict : Type 0 where
   taken : ℕ → Verdict

@@ -10,5 +10,6 @@ pub mod Codec
 pub mod Judge
 pub mod Tick
 pub mod Poll
+pub mod Observer
 pub mod Published
 pub mod Run

@@ -1,6 +1,6 @@
 -- 01, "Premises of demands 2 and 3" and "Demand 3 in full": stations, lists of calls, and what a call does to the stations.
 use Prim.Native.Nat.{ℕ, _+_}
-use mathlib.Core.Bool.{Bool, _&&_, cond}
+use mathlib.Core.Bool.{Bool, _&&_, not, cond}
 use mathlib.Core.List.{List, [], _∷_, _++_}
 use mathlib.Core.Option.{Option, none, some}
 use lib.Dec.{eqb}
@@ -9,9 +9,13 @@ use Rattle.model.specs.Setup.{Setup}
 use Rattle.model.specs.Timestamp.{Timestamp}
 use Rattle.model.specs.Frame.{Frame, decode}
 use Rattle.model.specs.Tick.{Input, Output, tick}
+use Rattle.model.specs.Observer.{Listening, Listened, listen}
 
--- 01: a station: its own number, its true clock, the tables and the shelf that its call before left
+-- 01: a station: its own number, its true clock, the tables and the shelf that its call before left. 02, 2.6: or a board that only
+-- listens, an observer, which has no own number, and of the tables r alone, its last clock
 pub record Node : Type 0 where
+  -- 02, 2.6: it is an observer
+  pub listens : Bool
   -- 01: the own number
   pub own : ℕ
   -- 01: the true clock
@@ -26,7 +30,8 @@ pub data Source : Type 0 where
   sentBy : ℕ → Source
   stale : Source
 
--- one call in the list: which node's it is (its position), its arguments but for the tables and the shelf, and where its entries come from
+-- one call in the list: which node's it is (its position), its arguments but for the tables and the shelf, and where its entries come from.
+-- An observer's call has no use for the own number, for what is to be sent and for the outgoing buffer
 pub record Call : Type 0 where
   pub node : ℕ
   pub setup : Setup
@@ -64,14 +69,47 @@ inputOf node call =
       delivery = call .delivery;
     }
 
+-- 02, 2.6: the arguments of an observer's call
+unfoldable pub listeningOf : Node → Call → Listening
+listeningOf node call =
+    record {
+      setup = call .setup;
+      clock = call .clock;
+      last = node .tables .r;
+      holdback = node .holdback;
+      batch = call .batch;
+      verdicts = call .verdicts;
+      delivery = call .delivery;
+    }
+
+-- what came of an observer's call, in the form of a tick's output: it sends nothing
+unfoldable pub listenedOutput : Node → Call → Listened → Output
+listenedOutput node call o =
+    record {
+      answer =
+          record {
+            number = o .number;
+            tables = record { r = o .last; c = node .tables .c; kn = node .tables .kn };
+            repair = o .repair;
+            taken = o .taken;
+            delivered = o .delivered;
+            sent = 0;
+          };
+      holdback = o .holdback;
+      outgoing = call .outgoing;
+      verdicts = o .verdicts;
+      delivery = o .delivery;
+    }
+
 -- 01: a call is accepted if its answer's number is 0
 unfoldable pub isAccepted : Output → Bool
 isAccepted o = eqb (o .answer .number) 0
 
--- a call that has been made: by which node (its position and own number), the node's true clock before it and after it (which a refused
--- call does not move), the call, and what came of it
+-- a call that has been made: by which node (its position, whether it is an observer, and its own number), the node's true clock before it
+-- and after it (which a refused call does not move), the call, and what came of it
 pub record Done : Type 0 where
   pub node : ℕ
+  pub listens : Bool
   pub own : ℕ
   pub last : ℕ
   pub clock : ℕ
@@ -91,6 +129,7 @@ movedClock o step clock = cond (isAccepted o) (clock + step) clock
 unfoldable pub nodeAfter : Node → ℕ → Output → Node
 nodeAfter node step o =
     record {
+      listens = node .listens;
       own = node .own;
       clock = movedClock o step (node .clock);
       tables = o .answer .tables;
@@ -99,13 +138,14 @@ nodeAfter node step o =
 
 -- what comes of a call to a node
 unfoldable pub outputOf : Node → Call → Output
-outputOf node call = tick (inputOf node call)
+outputOf node call = cond (node .listens) (listenedOutput node call (listen (listeningOf node call))) (tick (inputOf node call))
 
 -- the record of a call to a node
 unfoldable pub doneOf : Node → Call → Done
 doneOf node call =
     record {
       node = call .node;
+      listens = node .listens;
       own = node .own;
       last = node .clock;
       clock = movedClock (outputOf node call) (call .step) (node .clock);
@@ -135,9 +175,13 @@ unfoldable pub runFrom : World → List Call → World
 runFrom w [] = w
 runFrom w (call ∷ calls) = runFrom (act w call) calls
 
--- 01: "A message is the outgoing frame of an accepted call with a ticket to send"
+-- 01: "every tick is exactly one event": an accepted call of a station. 02, 2.6: an observer's is none
+unfoldable pub isEvent : Done → Bool
+isEvent d = isAccepted (d .output) && not (d .listens)
+
+-- 01: "A message is the outgoing frame of an accepted call with a ticket to send"; an observer "sends nothing"
 unfoldable pub sends : Done → Bool
-sends d = isAccepted (d .output) && d .call .send
+sends d = isEvent d && d .call .send
 
 -- the bytes of that frame
 unfoldable pub messageBytes : Done → List ℕ

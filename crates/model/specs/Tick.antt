@@ -63,11 +63,13 @@ pub record Output : Type 0 where
 abbrev pub holdbackSize : Setup → ℕ
 holdbackSize s = holdbackLength (s .n) (s .epsilon) (s .delta)
 
--- 01, 6: "Has the outgoing buffer at least 39 + 2ε bytes, the verdict buffer 255, the hand-out buffer a shelf's length?"
+-- 01, 6: "Has … the verdict buffer 255, the hand-out buffer a shelf's length?"
+abbrev pub boardRoomy : Setup → List ℕ → List ℕ → Bool
+boardRoomy s verdicts delivery = leb verdictLength (length verdicts) && leb (holdbackSize s) (length delivery)
+
+-- 01, 6: "Has the outgoing buffer at least 39 + 2ε bytes", and these
 unfoldable pub roomy : Input → Bool
-roomy i =
-    leb (longestFrame (i .setup .epsilon)) (length (i .outgoing)) && (leb verdictLength (length (i .verdicts))
-    && leb (holdbackSize (i .setup)) (length (i .delivery)))
+roomy i = leb (longestFrame (i .setup .epsilon)) (length (i .outgoing)) && boardRoomy (i .setup) (i .verdicts) (i .delivery)
 
 -- 01, 2: "Is the clock below B?", and 3: "Has the shelf its exact length?"
 abbrev pub holdbackQuestions : Setup → ℕ → List ℕ → List Question
@@ -99,10 +101,14 @@ tablesSound s v tables = soundTables (s .n) (s .epsilon) (s .modulus) v (trimmed
 unfoldable pub stepOf : Setup → ℕ → Timestamp → ℕ
 stepOf s v tables = clockStep (s .modulus) (tables .r) v
 
--- 02, 2.2: the least due clock that the shelf may have, as a reading, in which v stands at B: one past "the last clock, r of the tables";
--- "When the tables themselves are replaced, no due clock before v is accepted"
+-- 02, 2.2: the least due clock that the shelf may have, as a reading, in which v stands at B: one past "the last clock", by the step from
+-- it, where it is sound; where not, "no due clock before v is accepted"
+abbrev pub leastAfter : Setup → Bool → ℕ → ℕ
+leastAfter s sound step = cond sound (s .modulus + 1 - step) (s .modulus)
+
+-- 02, 2.2: the last clock is "r of the tables"
 unfoldable pub leastDue : Setup → ℕ → Timestamp → ℕ
-leastDue s v tables = cond (tablesSound s v tables) (s .modulus + 1 - stepOf s v tables) (s .modulus)
+leastDue s v tables = leastAfter s (tablesSound s v tables) (stepOf s v tables)
 
 -- the shelf is sound for v, after these tables
 unfoldable pub shelfSound : Setup → ℕ → Timestamp → List ℕ → Bool
@@ -130,12 +136,19 @@ unfoldable pub dueBefore : Setup → ℕ → Frame → Bool
 dueBefore s v f = ltb (dueNear s v f) (s .modulus)
 
 -- 02, 2.2: "Frames whose due clock lies before v go out before the bundle is judged"
-unfoldable pub earlyOf : Input → List Frame
-earlyOf i = select (dueBefore (i .setup) (i .clock)) (openedQueue i)
+abbrev pub earlyIn : Setup → ℕ → List Frame → List Frame
+earlyIn s v queue = select (dueBefore s v) queue
 
 -- what hearing starts from, on the shelf: all others
+abbrev pub openingIn : Setup → ℕ → List Frame → Heard
+openingIn s v queue = record { queue = select (λ f. not (dueBefore s v f)) queue; verdicts = [] }
+
+-- the same in a call
+unfoldable pub earlyOf : Input → List Frame
+earlyOf i = earlyIn (i .setup) (i .clock) (openedQueue i)
+
 abbrev pub opening : Input → Heard
-opening i = record { queue = select (λ f. not (dueBefore (i .setup) (i .clock) f)) (openedQueue i); verdicts = [] }
+opening i = openingIn (i .setup) (i .clock) (openedQueue i)
 
 -- 01, tick 3: the shelf and the verdicts
 unfoldable pub heardOf : Input → Heard
@@ -161,12 +174,19 @@ unfoldable pub dueNow : Setup → ℕ → Frame → Bool
 dueNow s v f = eqb (dueNear s v f) (s .modulus)
 
 -- 01, tick 6: "is handed out, in order". 02, 2.2: those due before v and those due at v: "both make one hand-out"
-unfoldable pub deliveredOf : Input → List Frame
-deliveredOf i = earlyOf i ++ select (dueNow (i .setup) (i .clock)) (heardOf i .queue)
+abbrev pub deliveredIn : Setup → ℕ → List Frame → List Frame → List Frame
+deliveredIn s v early queue = early ++ select (dueNow s v) queue
 
 -- 01, tick 6: "and leaves the shelf"
+abbrev pub keptIn : Setup → ℕ → List Frame → List Frame
+keptIn s v queue = select (λ f. not (dueNow s v f)) queue
+
+-- the same in a call
+unfoldable pub deliveredOf : Input → List Frame
+deliveredOf i = deliveredIn (i .setup) (i .clock) (earlyOf i) (heardOf i .queue)
+
 unfoldable pub keptOf : Input → List Frame
-keptOf i = select (λ f. not (dueNow (i .setup) (i .clock) f)) (heardOf i .queue)
+keptOf i = keptIn (i .setup) (i .clock) (heardOf i .queue)
 
 -- how many verdicts are 0
 unfoldable pub takenCount : List ℕ → ℕ

@@ -46,12 +46,14 @@ ahead modulus v r = (r + (modulus - v)) % modulus
 unfoldable pub clockStep : ℕ → ℕ → ℕ → ℕ
 clockStep modulus r v = ahead modulus r v
 
--- 01: "sound for a new clock v if the stamp is sound, r is below B and one before v modulo B, and counts at offsets 1 and up are at most n − 1".
--- 02, 2.2: "A step of 1 to ε is no longer damage": r lies 1 to ε before v
+-- 01: "r is below B and one before v modulo B". 02, 2.2: "A step of 1 to ε is no longer damage": r lies 1 to ε before v
+abbrev pub soundClock : ℕ → ℕ → ℕ → ℕ → Bool
+soundClock epsilon modulus v r = ltb r modulus && within 1 epsilon (clockStep modulus r v)
+
+-- 01: "sound for a new clock v if the stamp is sound, r is below B and one before v modulo B, and counts at offsets 1 and up are at most n − 1"
 unfoldable pub soundTables : ℕ → ℕ → ℕ → ℕ → Timestamp → Bool
 soundTables n epsilon modulus v t =
-    soundTimestamp n epsilon t && (ltb (t .r) modulus && (within 1 epsilon (clockStep modulus (t .r) v)
-    && atMost (n - 1) (countsFrom epsilon 0 (t .kn) 1)))
+    soundTimestamp n epsilon t && (soundClock epsilon modulus v (t .r) && atMost (n - 1) (countsFrom epsilon 0 (t .kn) 1))
 
 -- the 2ε counts alone. 01: "Places past the 2ε counts are ignored"
 unfoldable pub trimmed : ℕ → Timestamp → Timestamp

@@ -3,15 +3,14 @@ use Prim.Native.Nat.{ℕ, _≤_, _<_}
 use mathlib.Core.Path.{_≡_, refl, sym, _∙_}
 use mathlib.Core.Bool.{Bool, true, false, _&&_}
 use mathlib.Core.List.{List, [], _∷_, _++_}
-use lib.Dec.{leb}
 use lib.ListN.{length}
 use borrow.Author.Tests.{le-leb, lt-leb}
 use Rattle.laws.specs.Lists.{every}
-use Rattle.model.specs.Setup.{inLimits, isMember, longestPayload, longestFrame, verdictLength}
+use Rattle.model.specs.Setup.{inLimits, isMember, longestPayload, longestFrame}
 use Rattle.model.specs.Batch.{exactBatch}
 use Rattle.model.specs.Question.{Question, ask, firstNo, askSetup}
 use Rattle.model.specs.Codec.{askPayload}
-use Rattle.model.specs.Tick.{Input, holdbackSize, roomy, holdbackQuestions, callQuestions}
+use Rattle.model.specs.Tick.{Input, boardRoomy, roomy, holdbackQuestions, callQuestions}
 use Rattle.lemmas.proofs.Questions.{yes-cons, no-cons, yes-append, no-append}
 
 module _ (i : Input) where
@@ -74,19 +73,13 @@ module _ (i : Input) where
           outgoing-no h = room-no (rw (lt-leb (longestFrame (i .setup .epsilon)) (length (i .outgoing)) h))
 
           module _ (h6 : longestFrame (i .setup .epsilon) ≤ length (i .outgoing)) where
-            pub verdicts-no : length (i .verdicts) < verdictLength → 6 ≡ firstNo (callQuestions i)
+            roomy-is : roomy i ≡ boardRoomy (i .setup) (i .verdicts) (i .delivery)
             unfolding roomy
-            verdicts-no h =
-                room-no (rw (le-leb (longestFrame (i .setup .epsilon)) (length (i .outgoing)) h6, lt-leb verdictLength (length (i .verdicts)) h))
+            roomy-is = rw (le-leb (longestFrame (i .setup .epsilon)) (length (i .outgoing)) h6)
 
-            module _ (h7 : verdictLength ≤ length (i .verdicts)) where
-              roomy-is : roomy i ≡ leb (holdbackSize (i .setup)) (length (i .delivery))
-              unfolding roomy
-              roomy-is = rw (le-leb (longestFrame (i .setup .epsilon)) (length (i .outgoing)) h6, le-leb verdictLength (length (i .verdicts)) h7)
+            pub board-no : boardRoomy (i .setup) (i .verdicts) (i .delivery) ≡ false → 6 ≡ firstNo (callQuestions i)
+            board-no h = room-no (roomy-is ∙ h)
 
-              pub delivery-no : length (i .delivery) < holdbackSize (i .setup) → 6 ≡ firstNo (callQuestions i)
-              delivery-no h = room-no (roomy-is ∙ lt-leb (holdbackSize (i .setup)) (length (i .delivery)) h)
-
-              pub none-no : holdbackSize (i .setup) ≤ length (i .delivery) → 0 ≡ firstNo (callQuestions i)
-              unfolding firstNo
-              none-no h = sym (left6 ∙ yes-cons (roomy i) 6 [] (roomy-is ∙ le-leb (holdbackSize (i .setup)) (length (i .delivery)) h))
+            pub none-no : boardRoomy (i .setup) (i .verdicts) (i .delivery) ≡ true → 0 ≡ firstNo (callQuestions i)
+            unfolding firstNo
+            none-no h = sym (left6 ∙ yes-cons (roomy i) 6 [] (roomy-is ∙ h))

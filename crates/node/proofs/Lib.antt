@@ -9,5 +9,8 @@ mod Places
 -- `StampTurns` and `Turns` have the hearing loop, turn by turn: what goes into the stamp, and what goes on the queue.
 mod StampTurns
 mod Turns
+-- `Clocks` has the last clock, and `Shared` what a node and an observer share, from its parts.
+mod Clocks
+mod Shared
 -- `Finish` has the tick from its parts.
 pub mod Finish

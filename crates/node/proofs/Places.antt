@@ -16,12 +16,13 @@ use Rattle.model.specs.Frame.{Frame, twoAt, twoBytes, wellFormed, encode, decod
 use Rattle.model.specs.Timestamp.{sum}
 use Rattle.model.specs.Order.{before, due, dueNear}
 use Rattle.model.specs.Holdback.{heldBytes, held, passes, soundHoldback, encodeFrames, encodeHoldback}
-use Rattle.model.specs.Judge.{placeFor, judgeQuestions}
+use Rattle.model.specs.Question.{firstNo, frameQuestions}
+use Rattle.model.specs.Judge.{placeFor}
 use Rattle.model.specs.Tick.{holdbackSize, openingQueue, dueBefore}
 use Rattle.lemmas.proofs.Bounds.{Limits, FrameOk, QueueOk}
 use Rattle.lemmas.proofs.Questions.{limits-from}
 use Rattle.lemmas.proofs.RoundTrip.{formed-from, form-passed, passes-formed, held-frames, held-holdback, frame-fits, length-holdback}
-use Rattle.lemmas.proofs.Queue.{Passed, judged-passed, sound-queue, queue-none, queue-take, queue-room, frames-sound, queue-sound, both-few, depth-small}
+use Rattle.lemmas.proofs.Queue.{Passed, sound-queue, queue-none, queue-take, queue-room, frames-sound, queue-sound, both-few, depth-small}
 use Rattle.setup.proofs.InLimits.{frames-most}
 use Rattle.holdback.specs.Early.{SoundBy, earlyFrames, releasedBuffer, Released}
 use Rattle.holdback.specs.Queue.{frameStart, endOf, Spans}
@@ -36,8 +37,9 @@ use Rattle.holdback.proofs.Placed.{Wide, length-joined-insert, start-before, st
 use Rattle.holdback.proofs.Started.{starts-none, spans-small, moving, moved-table}
 use Rattle.holdback.proofs.Judging.{sound-few}
 use Rattle.holdback.proofs.Seen.{seen-insert}
+use Rattle.node.specs.Views.{questionsFor}
 use Rattle.node.specs.States.{Timed, Queued, Extent, Taking, keptBuffer, QueueJudged, earlyOnes, HandedEarly, QueueOpened}
-use Rattle.node.proofs.Verdicts.{taken-passed, judged-form, fits-when, late-placeable}
+use Rattle.node.proofs.Verdicts.{taken-passed, asked-form, asked-passed, fits-when, late-placeable}
 
 -- ---- a sound queue
 
@@ -128,13 +130,14 @@ pub record Known (s : Setup) (v : ℕ) (buffer : List ℕ) (place : ℕ) (bytes 
   pub fit : sounds.fits s v (s .modulus) bytes ≡ true
 
 pub known : {s : Setup} {v : ℕ} {buffer : List ℕ} {place at : ℕ} {bytes : List ℕ} → Taking s v buffer place at bytes → Known s v buffer place bytes
-unfolding placeFor judgeQuestions depth
+unfolding placeFor frameQuestions depth
 known {s} {v} {buffer} {place} {at} {bytes} t =
     let lim : Limits s = limits-from s (t .timed .limits) in
     let queue : List Frame = held (s .epsilon) buffer in
     let ok : QueueOk s v (s .modulus) queue = sound-queue s v (s .modulus) buffer lim (t .sound) in
-    let both = taken-passed s v queue bytes place (t .judged) in
-    let passed : Passed s v queue (decode (s .epsilon) bytes) = judged-passed s v queue bytes lim (both .0) in
+    let both = taken-passed s v (questionsFor (t .listens) s v) queue bytes place (t .judged) in
+    let passed : Passed s v queue (decode (s .epsilon) bytes) = asked-passed (t .listens) s v queue bytes lim (both .0) in
+    let form : firstNo (frameQuestions s bytes) ≡ 0 = asked-form (t .listens) s v queue bytes (both .0) in
     let long : length queue ≡ twoAt buffer 0 = length-held (s .epsilon) buffer in
     let room : length queue < depth (s .n) (s .epsilon) (s .delta) = queue-room s v (s .modulus) queue lim (t .timed .below) (omega arith) ok in
     let most : s .n * (s .delta + 3 * s .epsilon) ≤ 16 * (s .delta + 3 * s .epsilon) = mul-le-mul-right (s .delta + 3 * s .epsilon) (lim .n-most) in
@@ -146,11 +149,11 @@ known {s} {v} {buffer} {place} {at} {bytes} t =
       two = size-two s (length buffer) (t .size);
       formed = sound-formed s v (s .modulus) buffer (t .sound);
       inside = omega (arith, both .1, leading-le (λ g. before s v g (decode (s .epsilon) bytes)) queue, long);
-      form = form-passed s bytes _ (both .0);
+      form = form-passed s bytes [] form;
       ok = ok;
       few = omega (arith, long, room, most, lim .epsilon-most, lim .delta-most);
       placeable = late-placeable s v (decode (s .epsilon) bytes) (passed .frame) (passed .late);
-      fit = fits-when s v bytes (judged-form s v queue bytes (both .0)) (passed .late) (passed .early);
+      fit = fits-when s v bytes form (passed .late) (passed .early);
     }
 
 module _ {s : Setup} {v : ℕ} {buffer : List ℕ} {place at : ℕ} {bytes : List ℕ} (t : Taking s v buffer place at bytes) where

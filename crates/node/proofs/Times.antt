@@ -1,8 +1,8 @@
--- The questions 13 to 15 of a frame, one by one, as the code asks them. Assumes nothing.
+-- The questions 13 to 15 of a frame, one by one, as the code asks them; 15 not where one only listens. Assumes nothing.
 use Prim.Native.Nat.{ℕ, _+_, _-_, _≤_, _<_}
 use native.Mathlib.Omega.{arith}
 use mathlib.Core.Path.{_≡_, sym, ap, _∙_}
-use mathlib.Core.Bool.{true, false}
+use mathlib.Core.Bool.{Bool, true, false, cond}
 use mathlib.Core.List.{List, [], _∷_}
 use lib.ListN.{length, take, drop}
 use lib.Seq.{take-all}
@@ -22,29 +22,37 @@ use Rattle.lemmas.proofs.Queue.{reading-high}
 use Rattle.node.specs.Views.{timeQuestions}
 use Rattle.node.specs.States.{Readable}
 
-module _ (s : Setup) (v : ℕ) (f : Frame) (reading : ℕ) (e : reading ≡ readingOf s v f) where
-  pub late-no : reading + (s .delta + s .epsilon) < s .modulus → 13 ≡ firstNo (timeQuestions s v f)
+module _ (listens : Bool) (s : Setup) (v : ℕ) (f : Frame) (reading : ℕ) (e : reading ≡ readingOf s v f) where
+  pub late-no : reading + (s .delta + s .epsilon) < s .modulus → 13 ≡ firstNo (timeQuestions listens s v f)
   unfolding timeQuestions askLate firstNo
   late-no h = rw (← e, lt-leb (s .modulus) (reading + (s .delta + s .epsilon)) h)
 
   module _ (h1 : s .modulus ≤ reading + (s .delta + s .epsilon)) where
-    pub early-no : s .modulus + (s .epsilon - 1) < reading + f .stamp .c → 14 ≡ firstNo (timeQuestions s v f)
+    pub early-no : s .modulus + (s .epsilon - 1) < reading + f .stamp .c → 14 ≡ firstNo (timeQuestions listens s v f)
     unfolding timeQuestions askLate askEarly notEarly sum firstNo
     early-no h =
         rw (← e, le-leb (s .modulus) (reading + (s .delta + s .epsilon)) h1, lt-leb (reading + f .stamp .c) (s .modulus + (s .epsilon - 1)) h)
 
     module _ (h2 : reading + f .stamp .c ≤ s .modulus + (s .epsilon - 1)) where
-      counts-left : firstNo (timeQuestions s v f) ≡ firstNo (ask (atMost (s .n - 1) (countsFrom (s .epsilon) reading (f .stamp .kn) (s .modulus))) 15 ∷ [])
+      counts-left : firstNo (timeQuestions listens s v f) ≡ firstNo (cond listens [] (ask (atMost (s .n - 1) (countsFrom (s .epsilon) reading (f .stamp .kn) (s .modulus))) 15 ∷ []))
       unfolding timeQuestions askLate askEarly askCounts notEarly sum firstNo
       counts-left =
           rw (← e, le-leb (s .modulus) (reading + (s .delta + s .epsilon)) h1, le-leb (reading + f .stamp .c) (s .modulus + (s .epsilon - 1)) h2)
 
-      pub counts-no : atMost (s .n - 1) (countsFrom (s .epsilon) reading (f .stamp .kn) (s .modulus)) ≡ false → 15 ≡ firstNo (timeQuestions s v f)
-      counts-no h = sym (counts-left ∙ no-cons _ 15 [] h)
-
-      pub times-right : atMost (s .n - 1) (countsFrom (s .epsilon) reading (f .stamp .kn) (s .modulus)) ≡ true → 0 ≡ firstNo (timeQuestions s v f)
+      pub counts-unasked : listens ≡ true → 0 ≡ firstNo (timeQuestions listens s v f)
       unfolding firstNo
-      times-right h = sym (counts-left ∙ yes-cons _ 15 [] h)
+      counts-unasked l = sym (counts-left ∙ rw l)
+
+      module _ (l : listens ≡ false) where
+        counts-asked : firstNo (timeQuestions listens s v f) ≡ firstNo (ask (atMost (s .n - 1) (countsFrom (s .epsilon) reading (f .stamp .kn) (s .modulus))) 15 ∷ [])
+        counts-asked = counts-left ∙ rw l
+
+        pub counts-no : atMost (s .n - 1) (countsFrom (s .epsilon) reading (f .stamp .kn) (s .modulus)) ≡ false → 15 ≡ firstNo (timeQuestions listens s v f)
+        counts-no h = sym (counts-asked ∙ no-cons _ 15 [] h)
+
+        pub times-right : atMost (s .n - 1) (countsFrom (s .epsilon) reading (f .stamp .kn) (s .modulus)) ≡ true → 0 ≡ firstNo (timeQuestions listens s v f)
+        unfolding firstNo
+        times-right h = sym (counts-asked ∙ yes-cons _ 15 [] h)
 
 -- the counts for a clock and those after it, where they stand in the frame's part
 pub counts-there : (epsilon reading clock : ℕ) (bytes counts : List ℕ) → counts ≡ countsOf epsilon bytes → reading ≤ clock + epsilon

@@ -5,7 +5,7 @@ use native.Mathlib.Nat.{sub-zero, add-zero}
 use native.Mathlib.Numerals.{add-one}
 use native.Mathlib.Omega.{arith}
 use mathlib.Core.Path.{_≡_, refl, sym, ap, ap₂, _∙_}
-use mathlib.Core.Bool.{true}
+use mathlib.Core.Bool.{Bool, true}
 use mathlib.Core.List.{List, [], _∷_, _++_, append-assoc}
 use lib.Dec.{eqb}
 use lib.ListN.{length, take, drop, getD, set, length-set, length-append, take-append-drop}
@@ -17,12 +17,14 @@ use Rattle.model.specs.Setup.{Setup}
 use Rattle.model.specs.Frame.{Frame, decode}
 use Rattle.model.specs.Batch.{exactBatch}
 use Rattle.model.specs.Holdback.{held, encodeFrames}
-use Rattle.model.specs.Judge.{Heard, Verdict, taken, refused, judge, judgeQuestions, hearBy, hearOne, hear}
+use Rattle.model.specs.Judge.{Heard, Verdict, taken, refused, judge, hearBy, hearOne, hear}
 use Rattle.model.specs.Tick.{takenCount}
-use Rattle.lemmas.proofs.OneTick.{taken-more, numbersOf, hear-verdicts}
+use Rattle.lemmas.proofs.Board.{numbersOf, hear-verdicts}
+use Rattle.lemmas.proofs.OneTick.{taken-more}
 use Rattle.holdback.proofs.RoundTrip.{Bytes}
 use Rattle.batch.specs.Walk.{countOf, entryAt, nextAt}
 use Rattle.batch.proofs.Walk.{walked, batch-walked}
+use Rattle.node.specs.Views.{questionsFor}
 use Rattle.node.specs.States.{Queued, Extent, Enqueued, heardAll, HeardQueue}
 use Rattle.node.proofs.Verdicts.{refused-number}
 use Rattle.node.proofs.Places.{size-two, queue-own, overlay-hides, frames-longer}
@@ -33,21 +35,21 @@ abbrev pub sofar : ℕ → List ℕ → List ℕ → Heard
 sofar epsilon buffer done = record { queue = held epsilon buffer; verdicts = done }
 
 -- this half of the loop's invariant, at entry i, whose length stands at `at`
-pub record QueueTurning (s : Setup) (v : ℕ) (batch buffer₀ verdicts₀ : List ℕ) (took count stop at i : ℕ) (buffer table starts verdicts : List ℕ) : Type 0 where
+pub record QueueTurning (listens : Bool) (s : Setup) (v : ℕ) (batch buffer₀ verdicts₀ : List ℕ) (took count stop at i : ℕ) (buffer table starts verdicts : List ℕ) : Type 0 where
   pub within : i ≤ countOf batch
   pub queued : Queued s v buffer table starts
   pub extent : Extent (s .epsilon) buffer count stop
   pub laid : buffer ≡ overlay (encodeFrames (held (s .epsilon) buffer)) buffer₀
-  pub whole : heardAll s v batch buffer₀ ≡ hear s v (judgeQuestions s v) (sofar (s .epsilon) buffer (take i verdicts)) (walked (countOf batch - i) batch at)
+  pub whole : heardAll listens s v batch buffer₀ ≡ hear s v (questionsFor listens s v) (sofar (s .epsilon) buffer (take i verdicts)) (walked (countOf batch - i) batch at)
   pub taken-is : took ≡ takenCount (take i verdicts)
   pub few : took ≤ i
   pub long : length verdicts ≡ length verdicts₀
   pub after : drop i verdicts ≡ drop i verdicts₀
 
-pub queue-start : {s : Setup} {v count stop : ℕ} {batch buffer table starts verdicts : List ℕ} → Bytes buffer → exactBatch batch ≡ true → Queued s v buffer table starts → Extent (s .epsilon) buffer count stop
-    → QueueTurning s v batch buffer verdicts 0 count stop 1 0 buffer table starts verdicts
+pub queue-start : {listens : Bool} {s : Setup} {v count stop : ℕ} {batch buffer table starts verdicts : List ℕ} → Bytes buffer → exactBatch batch ≡ true → Queued s v buffer table starts → Extent (s .epsilon) buffer count stop
+    → QueueTurning listens s v batch buffer verdicts 0 count stop 1 0 buffer table starts verdicts
 unfolding takenCount select
-queue-start {s} {v} {batch} {buffer} clean exact q extent =
+queue-start {listens} {s} {v} {batch} {buffer} clean exact q extent =
     record {
       within = omega arith;
       queued = q;
@@ -75,8 +77,8 @@ done-more : (l : List ℕ) (i x : ℕ) → i < length l → take (i + 1) (set l 
 done-more l i x h = rw add-one (take-suc-set l i x h)
 
 -- one turn: the entry's bytes are judged, and the next entry stands at `at′`
-module _ {s : Setup} {v : ℕ} {batch buffer₀ verdicts₀ : List ℕ} {took count stop at i : ℕ} {buffer table starts verdicts : List ℕ}
-    (u : QueueTurning s v batch buffer₀ verdicts₀ took count stop at i buffer table starts verdicts) (more : i < countOf batch) (few : countOf batch ≤ length verdicts₀)
+module _ {listens : Bool} {s : Setup} {v : ℕ} {batch buffer₀ verdicts₀ : List ℕ} {took count stop at i : ℕ} {buffer table starts verdicts : List ℕ}
+    (u : QueueTurning listens s v batch buffer₀ verdicts₀ took count stop at i buffer table starts verdicts) (more : i < countOf batch) (few : countOf batch ≤ length verdicts₀)
     {bytes : List ℕ} {at′ : ℕ} (entry : bytes ≡ entryAt batch at) (step : at′ ≡ nextAt batch at) where
   abbrev now : Heard
   now = sofar (s .epsilon) buffer (take i verdicts)
@@ -84,19 +86,19 @@ module _ {s : Setup} {v : ℕ} {batch buffer₀ verdicts₀ : List ℕ} {took co
   abbrev others : List (List ℕ)
   others = walked (countOf batch - (i + 1)) batch at′
 
-  heard-one : (verdict : Verdict) → judge s v (judgeQuestions s v) (held (s .epsilon) buffer) bytes ≡ verdict
-      → heardAll s v batch buffer₀ ≡ hear s v (judgeQuestions s v) (hearBy verdict (decode (s .epsilon) bytes) now) others
+  heard-one : (verdict : Verdict) → judge s v (questionsFor listens s v) (held (s .epsilon) buffer) bytes ≡ verdict
+      → heardAll listens s v batch buffer₀ ≡ hear s v (questionsFor listens s v) (hearBy verdict (decode (s .epsilon) bytes) now) others
   unfolding hear hearOne
   heard-one verdict e =
       u .whole
-      ∙ (ap (hear s v (judgeQuestions s v) now) (walk-more batch at i more ∙ ap₂ (λ (b : List ℕ) (k : ℕ). b ∷ walked (countOf batch - (i + 1)) batch k) (sym entry) (sym step))
-      ∙ ap (λ (d : Verdict). hear s v (judgeQuestions s v) (hearBy d (decode (s .epsilon) bytes) now) others) e)
+      ∙ (ap (hear s v (questionsFor listens s v) now) (walk-more batch at i more ∙ ap₂ (λ (b : List ℕ) (k : ℕ). b ∷ walked (countOf batch - (i + 1)) batch k) (sym entry) (sym step))
+      ∙ ap (λ (d : Verdict). hear s v (questionsFor listens s v) (hearBy d (decode (s .epsilon) bytes) now) others) e)
 
-  pub queue-refused : {number x : ℕ} → judge s v (judgeQuestions s v) (held (s .epsilon) buffer) bytes ≡ refused number → x ≡ number
-      → QueueTurning s v batch buffer₀ verdicts₀ took count stop at′ (i + 1) buffer table starts (set verdicts i x)
+  pub queue-refused : {number x : ℕ} → judge s v (questionsFor listens s v) (held (s .epsilon) buffer) bytes ≡ refused number → x ≡ number
+      → QueueTurning listens s v batch buffer₀ verdicts₀ took count stop at′ (i + 1) buffer table starts (set verdicts i x)
   queue-refused {number} {x} e same =
       let inside : i < length verdicts = omega (arith, u .long) in
-      let no-zero : x ≡ 0 → ⊥ = λ z. refused-number s v (held (s .epsilon) buffer) bytes number e (sym same ∙ z) in
+      let no-zero : x ≡ 0 → ⊥ = λ z. refused-number s v (questionsFor listens s v) (held (s .epsilon) buffer) bytes number e (sym same ∙ z) in
       let next : take (i + 1) (set verdicts i x) ≡ take i verdicts ++ (x ∷ []) = done-more verdicts i x inside in
       record {
         within = omega arith;
@@ -105,16 +107,16 @@ module _ {s : Setup} {v : ℕ} {batch buffer₀ verdicts₀ : List ℕ} {took co
         laid = u .laid;
         whole =
             heard-one (refused number) e
-            ∙ ap (λ (done : List ℕ). hear s v (judgeQuestions s v) (sofar (s .epsilon) buffer done) others) (ap (λ (k : ℕ). take i verdicts ++ (k ∷ [])) (sym same) ∙ sym next);
+            ∙ ap (λ (done : List ℕ). hear s v (questionsFor listens s v) (sofar (s .epsilon) buffer done) others) (ap (λ (k : ℕ). take i verdicts ++ (k ∷ [])) (sym same) ∙ sym next);
         taken-is = u .taken-is ∙ sym (ap takenCount next ∙ refused-more (take i verdicts) x no-zero);
         few = omega (arith, u .few);
         long = length-set verdicts i x ∙ u .long;
         after = rest-after verdicts verdicts₀ i x (u .after);
       }
 
-  pub queue-taken : {place : ℕ} {buffer′ table′ starts′ : List ℕ} → judge s v (judgeQuestions s v) (held (s .epsilon) buffer) bytes ≡ taken place
+  pub queue-taken : {place : ℕ} {buffer′ table′ starts′ : List ℕ} → judge s v (questionsFor listens s v) (held (s .epsilon) buffer) bytes ≡ taken place
       → Enqueued s v place bytes buffer count stop buffer′ table′ starts′
-      → QueueTurning s v batch buffer₀ verdicts₀ (took + 1) (count + 1) (stop + length bytes) at′ (i + 1) buffer′ table′ starts′ (set verdicts i 0)
+      → QueueTurning listens s v batch buffer₀ verdicts₀ (took + 1) (count + 1) (stop + length bytes) at′ (i + 1) buffer′ table′ starts′ (set verdicts i 0)
   queue-taken {place} {buffer′} e k =
       let f : Frame = decode (s .epsilon) bytes in
       let inside : i < length verdicts = omega (arith, u .long) in
@@ -129,7 +131,7 @@ module _ {s : Setup} {v : ℕ} {batch buffer₀ verdicts₀ : List ℕ} {took co
         queued = k .queued;
         extent = k .extent;
         laid = k .buffer-is ∙ hidden ∙ ap (λ (q : List Frame). overlay (encodeFrames q) buffer₀) (sym (k .queue));
-        whole = heard-one (taken place) e ∙ ap (λ (h : Heard). hear s v (judgeQuestions s v) h others) same;
+        whole = heard-one (taken place) e ∙ ap (λ (h : Heard). hear s v (questionsFor listens s v) h others) same;
         taken-is = ap (λ (n : ℕ). n + 1) (u .taken-is) ∙ sym (ap takenCount next ∙ taken-more (take i verdicts));
         few = omega (arith, u .few);
         long = length-set verdicts i 0 ∙ u .long;
@@ -144,26 +146,26 @@ seam numbers done rest i x size e =
     let here : getD numbers i 0 ≡ x = ap₂ (λ (l : List ℕ) (k : ℕ). getD l k 0) e′ (sym size) ∙ getD-append-seam done x rest 0 in
     rw (add-one i) (drop-cons numbers i 0 (omega arith) ∙ ap (λ (y : ℕ). y ∷ drop (suc i) numbers) here)
 
-pub written-last : {s : Setup} {v : ℕ} {batch buffer₀ verdicts₀ : List ℕ} {took count stop at : ℕ} {buffer table starts : List ℕ} (verdicts : List ℕ) (i x : ℕ)
-    → QueueTurning s v batch buffer₀ verdicts₀ took count stop at (i + 1) buffer table starts (set verdicts i x) → i < length verdicts
-    → drop i (heardAll s v batch buffer₀ .verdicts) ≡ x ∷ drop (i + 1) (heardAll s v batch buffer₀ .verdicts)
-written-last {s} {v} {batch} {buffer₀} {verdicts₀} {took} {count} {stop} {at} {buffer} verdicts i x u inside =
+pub written-last : {listens : Bool} {s : Setup} {v : ℕ} {batch buffer₀ verdicts₀ : List ℕ} {took count stop at : ℕ} {buffer table starts : List ℕ} (verdicts : List ℕ) (i x : ℕ)
+    → QueueTurning listens s v batch buffer₀ verdicts₀ took count stop at (i + 1) buffer table starts (set verdicts i x) → i < length verdicts
+    → drop i (heardAll listens s v batch buffer₀ .verdicts) ≡ x ∷ drop (i + 1) (heardAll listens s v batch buffer₀ .verdicts)
+written-last {listens} {s} {v} {batch} {buffer₀} {verdicts₀} {took} {count} {stop} {at} {buffer} verdicts i x u inside =
     let h : Heard = sofar (s .epsilon) buffer (take (i + 1) (set verdicts i x)) in
     let others : List (List ℕ) = walked (countOf batch - (i + 1)) batch at in
-    seam (heardAll s v batch buffer₀ .verdicts) (take i verdicts) (numbersOf s v h others) i x (length-take-le i verdicts (omega arith))
-    (ap (λ (y : Heard). y .verdicts) (u .whole) ∙ (hear-verdicts s v h others ∙ ap (λ (l : List ℕ). l ++ numbersOf s v h others) (done-more verdicts i x inside)))
+    seam (heardAll listens s v batch buffer₀ .verdicts) (take i verdicts) (numbersOf s v (questionsFor listens s v) h others) i x (length-take-le i verdicts (omega arith))
+    (ap (λ (y : Heard). y .verdicts) (u .whole) ∙ (hear-verdicts s v (questionsFor listens s v) h others ∙ ap (λ (l : List ℕ). l ++ numbersOf s v (questionsFor listens s v) h others) (done-more verdicts i x inside)))
 
-heard-none : (s : Setup) (v : ℕ) (h : Heard) (batch : List ℕ) (at k : ℕ) → k ≡ 0 → hear s v (judgeQuestions s v) h (walked k batch at) ≡ h
+heard-none : (listens : Bool) (s : Setup) (v : ℕ) (h : Heard) (batch : List ℕ) (at k : ℕ) → k ≡ 0 → hear s v (questionsFor listens s v) h (walked k batch at) ≡ h
 unfolding hear walked
-heard-none s v h batch at k e = rw e
+heard-none listens s v h batch at k e = rw e
 
-pub queue-end : {s : Setup} {v : ℕ} {batch buffer₀ verdicts₀ : List ℕ} {took count stop at i : ℕ} {buffer table starts verdicts : List ℕ}
-    → QueueTurning s v batch buffer₀ verdicts₀ took count stop at i buffer table starts verdicts → countOf batch ≤ i → countOf batch ≤ length verdicts₀
-    → HeardQueue s v batch buffer₀ verdicts₀ took count stop buffer table starts verdicts
+pub queue-end : {listens : Bool} {s : Setup} {v : ℕ} {batch buffer₀ verdicts₀ : List ℕ} {took count stop at i : ℕ} {buffer table starts verdicts : List ℕ}
+    → QueueTurning listens s v batch buffer₀ verdicts₀ took count stop at i buffer table starts verdicts → countOf batch ≤ i → countOf batch ≤ length verdicts₀
+    → HeardQueue listens s v batch buffer₀ verdicts₀ took count stop buffer table starts verdicts
 unfolding overlay
-queue-end {s} {v} {batch} {buffer₀} {verdicts₀} {took} {count} {stop} {at} {i} {buffer} {table} {starts} {verdicts} u h few =
+queue-end {listens} {s} {v} {batch} {buffer₀} {verdicts₀} {took} {count} {stop} {at} {i} {buffer} {table} {starts} {verdicts} u h few =
     let none : countOf batch - i ≡ 0 = omega arith in
-    let all : heardAll s v batch buffer₀ ≡ sofar (s .epsilon) buffer (take i verdicts) = u .whole ∙ heard-none s v (sofar (s .epsilon) buffer (take i verdicts)) batch at (countOf batch - i) none in
+    let all : heardAll listens s v batch buffer₀ ≡ sofar (s .epsilon) buffer (take i verdicts) = u .whole ∙ heard-none listens s v (sofar (s .epsilon) buffer (take i verdicts)) batch at (countOf batch - i) none in
     let size : length (take i verdicts) ≡ i = length-take-le i verdicts (omega (arith, u .long, u .within)) in
     record {
       queued = u .queued;

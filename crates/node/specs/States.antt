@@ -1,4 +1,4 @@
--- What the functions of a tick ask of their arguments, and what they leave.
+-- What the functions of a tick ask of their arguments, and what they leave. `listens` is true of an observer, and false of a node.
 -- Assumes nothing.
 use Prim.Native.Nat.{ℕ, _+_, _*_, _-_, _≤_, _<_}
 use mathlib.Core.Path.{_≡_}
@@ -7,18 +7,20 @@ use mathlib.Core.List.{List, [], _++_}
 use lib.ListN.{length}
 use Rattle.laws.specs.Lists.{select, overlay, insertAt}
 use Rattle.model.specs.Setup.{Setup, inLimits, verdictLength}
-use Rattle.model.specs.Timestamp.{Timestamp, trimmed, widened}
+use Rattle.model.specs.Timestamp.{Timestamp, trimmed, widened, clockStep, soundClock}
 use Rattle.model.specs.Frame.{Frame, twoAt, encode, decode}
 use Rattle.model.specs.Batch.{exactBatch, batchEntries}
 use Rattle.model.specs.Holdback.{held, soundHoldback, encodeFrames, encodeHoldback}
 use Rattle.model.specs.Question.{firstNo, frameQuestions}
 use Rattle.model.specs.Codec.{frameOf}
-use Rattle.model.specs.Judge.{Heard, judge, judgeQuestions, taken, hear, absorbAll}
-use Rattle.model.specs.Tick.{holdbackSize, tablesSound, leastDue, openingStamp, openingQueue, dueBefore, dueNow, takenCount}
+use Rattle.model.specs.Judge.{Heard, judge, taken, hear, absorbAll}
+use Rattle.model.specs.Tick.{holdbackSize, tablesSound, leastAfter, leastDue, openingStamp, openingQueue, dueBefore, dueNow, deliveredIn, keptIn, takenCount}
 use Rattle.holdback.specs.Queue.{frameStart, endOf, Spans}
 use Rattle.holdback.specs.Seen.{seenTable}
 use Rattle.holdback.specs.Starts.{startsOf}
+use Rattle.holdback.specs.Sound.{Recent}
 use Rattle.holdback.specs.Early.{SoundBy, releasedBuffer}
+use Rattle.node.specs.Views.{questionsFor}
 
 -- a call that has passed 1 and 2
 pub record Timed (s : Setup) (v : ℕ) : Type 0 where
@@ -49,12 +51,13 @@ pub record Extent (epsilon : ℕ) (buffer : List ℕ) (count stop : ℕ) : Type 
 
 -- ---- a frame taken: on the queue
 
--- a frame that is to be taken, at its place, and where that stands
+-- a frame that is to be taken, by a node or an observer, at its place, and where that stands
 pub record Taking (s : Setup) (v : ℕ) (buffer : List ℕ) (place at : ℕ) (bytes : List ℕ) : Type 0 where
   pub timed : Timed s v
   pub size : length buffer ≡ holdbackSize s
   pub sound : soundHoldback s v (s .modulus) buffer ≡ true
-  pub judged : judge s v (judgeQuestions s v) (held (s .epsilon) buffer) bytes ≡ taken place
+  pub listens : Bool
+  pub judged : judge s v (questionsFor listens s v) (held (s .epsilon) buffer) bytes ≡ taken place
   pub starts : at ≡ frameStart (s .epsilon) buffer place
 
 -- what putting it on the queue leaves
@@ -67,37 +70,51 @@ pub record Enqueued (s : Setup) (v place : ℕ) (bytes buffer : List ℕ) (count
 -- ---- the hearing
 
 -- what it asks: the places past the 2ε counts are 0, the batch is exact, and there is a place for each verdict
-pub record Listening (epsilon : ℕ) (t : Timestamp) (batch verdicts : List ℕ) : Type 0 where
+pub record Hearing (epsilon : ℕ) (t : Timestamp) (batch verdicts : List ℕ) : Type 0 where
   pub narrow : t ≡ widened (trimmed epsilon t)
   pub exact : exactBatch batch ≡ true
   pub room : verdictLength ≤ length verdicts
 
 -- a batch heard with those frames on the queue
-abbrev pub heardWith : Setup → ℕ → List Frame → List ℕ → Heard
-heardWith s v queue batch = hear s v (judgeQuestions s v) (record { queue = queue; verdicts = [] }) (batchEntries batch)
+abbrev pub heardWith : Bool → Setup → ℕ → List Frame → List ℕ → Heard
+heardWith listens s v queue batch = hear s v (questionsFor listens s v) (record { queue = queue; verdicts = [] }) (batchEntries batch)
 
 -- what goes on the queue, and the verdicts
-abbrev pub heardAll : Setup → ℕ → List ℕ → List ℕ → Heard
-heardAll s v batch buffer = heardWith s v (held (s .epsilon) buffer) batch
+abbrev pub heardAll : Bool → Setup → ℕ → List ℕ → List ℕ → Heard
+heardAll listens s v batch buffer = heardWith listens s v (held (s .epsilon) buffer) batch
 
-pub record HeardQueue (s : Setup) (v : ℕ) (batch buffer verdicts : List ℕ) (took count stop : ℕ) (buffer′ table′ starts′ verdicts′ : List ℕ) : Type 0 where
+pub record HeardQueue (listens : Bool) (s : Setup) (v : ℕ) (batch buffer verdicts : List ℕ) (took count stop : ℕ) (buffer′ table′ starts′ verdicts′ : List ℕ) : Type 0 where
   pub queued : Queued s v buffer′ table′ starts′
   pub extent : Extent (s .epsilon) buffer′ count stop
-  pub buffer-is : buffer′ ≡ overlay (encodeFrames (heardAll s v batch buffer .queue)) buffer
-  pub queue : held (s .epsilon) buffer′ ≡ heardAll s v batch buffer .queue
-  pub numbers : verdicts′ ≡ overlay (heardAll s v batch buffer .verdicts) verdicts
-  pub taken-is : took ≡ takenCount (heardAll s v batch buffer .verdicts)
+  pub buffer-is : buffer′ ≡ overlay (encodeFrames (heardAll listens s v batch buffer .queue)) buffer
+  pub queue : held (s .epsilon) buffer′ ≡ heardAll listens s v batch buffer .queue
+  pub numbers : verdicts′ ≡ overlay (heardAll listens s v batch buffer .verdicts) verdicts
+  pub taken-is : took ≡ takenCount (heardAll listens s v batch buffer .verdicts)
 
--- what goes into the stamp, by the verdicts
-pub record HeardStamp (s : Setup) (v : ℕ) (t : Timestamp) (batch buffer : List ℕ) (t′ : Timestamp) : Type 0 where
-  pub stamp : t′ ≡ widened (absorbAll s v (trimmed (s .epsilon) t) (batchEntries batch) (heardAll s v batch buffer .verdicts))
+-- what goes into the stamp, by the verdicts. 02, 2.6: one that only listens keeps "no counts"
+unfoldable pub absorbedFor : Bool → Setup → ℕ → Timestamp → List (List ℕ) → List ℕ → Timestamp
+absorbedFor listens s v t entries numbers = cond listens t (absorbAll s v t entries numbers)
+
+pub record HeardStamp (listens : Bool) (s : Setup) (v : ℕ) (t : Timestamp) (batch buffer : List ℕ) (t′ : Timestamp) : Type 0 where
+  pub stamp : t′ ≡ widened (absorbedFor listens s v (trimmed (s .epsilon) t) (batchEntries batch) (heardAll listens s v batch buffer .verdicts))
 
 -- ---- the opening
 
--- 01, tick 1 and 2: the tables judged, the stamp with which hearing starts, and 02's least due clock that the queue may have after them
+-- 02, 2.2: a last clock that is called sound is judged so
+pub record LastClock (s : Setup) (v : ℕ) (sound : Bool) (last : ℕ) : Type 0 where
+  pub judged : sound ≡ true → soundClock (s .epsilon) (s .modulus) v last ≡ true
+
+-- the least due clock that the queue may have after it, and its share of the repair
+pub record ClockOpened (s : Setup) (v : ℕ) (sound : Bool) (last least repair : ℕ) : Type 0 where
+  pub least-is : least ≡ leastAfter s sound (clockStep (s .modulus) last v)
+  pub recent : Recent s least
+  pub repaired : repair ≡ cond sound 0 1
+
+-- 01, tick 1 and 2: the tables judged, the stamp with which hearing starts, and the least due clock that the queue may have after them
 pub record StampOpened (s : Setup) (v : ℕ) (t t′ : Timestamp) (least repair : ℕ) : Type 0 where
   pub stamp : t′ ≡ widened (openingStamp s v t)
   pub least-is : least ≡ leastDue s v t
+  pub recent : Recent s least
   pub repaired : repair ≡ cond (tablesSound s v t) 0 1
 
 -- 01, tick 1: the queue judged by the least due clock allowed, and emptied if it is unsound
@@ -139,32 +156,6 @@ pub record QueueOpened (s : Setup) (v least : ℕ) (buffer : List ℕ) (repair c
   pub buffer-is : buffer′ ≡ openedBuffer s v least buffer
   pub queue : held (s .epsilon) buffer′ ≡ otherOnes s v least buffer
 
--- ---- the first three steps
-
--- what they ask, of a call that has passed 1 and 2
-pub record Attending (s : Setup) (batch buffer verdicts delivery : List ℕ) : Type 0 where
-  pub size : length buffer ≡ holdbackSize s
-  pub exact : exactBatch batch ≡ true
-  pub room : verdictLength ≤ length verdicts
-  pub delivery-room : holdbackSize s ≤ length delivery
-
--- what they leave: the queue and the verdicts
-abbrev pub listenedAll : Setup → ℕ → ℕ → List ℕ → List ℕ → Heard
-listenedAll s v least batch buffer = heardWith s v (otherOnes s v least buffer) batch
-
-pub record ListenedQueue (s : Setup) (v least : ℕ) (batch buffer verdicts : List ℕ) (took count stop : ℕ) (buffer′ verdicts′ : List ℕ) : Type 0 where
-  pub size : length buffer′ ≡ holdbackSize s
-  pub sound : soundHoldback s v (s .modulus) buffer′ ≡ true
-  pub extent : Extent (s .epsilon) buffer′ count stop
-  pub buffer-is : buffer′ ≡ overlay (encodeFrames (listenedAll s v least batch buffer .queue)) (openedBuffer s v least buffer)
-  pub queue : held (s .epsilon) buffer′ ≡ listenedAll s v least batch buffer .queue
-  pub numbers : verdicts′ ≡ overlay (listenedAll s v least batch buffer .verdicts) verdicts
-  pub taken-is : took ≡ takenCount (listenedAll s v least batch buffer .verdicts)
-
--- and the stamp
-pub record ListenedStamp (s : Setup) (v least : ℕ) (t : Timestamp) (batch buffer : List ℕ) (t′ : Timestamp) : Type 0 where
-  pub stamp : t′ ≡ widened (absorbAll s v (openingStamp s v t) (batchEntries batch) (listenedAll s v least batch buffer .verdicts))
-
 -- ---- sending and delivering
 
 -- 01, tick 5: the bytes of the frame that is sent, if one is
@@ -189,3 +180,31 @@ pub record Delivered (s : Setup) (v index : ℕ) (buffer delivery : List ℕ) (c
   pub count-is : count ≡ index + length (select (dueNow s v) (held (s .epsilon) buffer))
   pub kept : buffer′ ≡ encodeHoldback (holdbackSize s) (select (λ f. not (dueNow s v f)) (held (s .epsilon) buffer))
   pub given : delivery′ ≡ overlay (encodeFrames (held (s .epsilon) delivery ++ select (dueNow s v) (held (s .epsilon) buffer))) delivery
+
+-- ---- what a node and an observer share: the queue opened, the batch heard, and what is due delivered
+
+-- what it asks, of a call that has passed 1 and 2
+pub record Attending (s : Setup) (t : Timestamp) (batch buffer verdicts delivery : List ℕ) : Type 0 where
+  pub size : length buffer ≡ holdbackSize s
+  pub hearing : Hearing (s .epsilon) t batch verdicts
+  pub delivery-room : holdbackSize s ≤ length delivery
+
+-- what it leaves: the batch heard with what is left of the opened queue
+abbrev pub attendedAll : Bool → Setup → ℕ → ℕ → List ℕ → List ℕ → Heard
+attendedAll listens s v least batch buffer = heardWith listens s v (otherOnes s v least buffer) batch
+
+-- the frames handed out. 02, 2.2: "both make one hand-out"
+abbrev pub attendedFrames : Bool → Setup → ℕ → ℕ → List ℕ → List ℕ → List Frame
+attendedFrames listens s v least batch buffer = deliveredIn s v (earlyOnes s v least buffer) (attendedAll listens s v least batch buffer .queue)
+
+pub record AttendedQueue (listens : Bool) (s : Setup) (v least : ℕ) (batch buffer verdicts delivery : List ℕ) (repair took delivered : ℕ) (buffer′ verdicts′ delivery′ : List ℕ) : Type 0 where
+  pub repaired : repair ≡ cond (soundHoldback s v least buffer) 0 2
+  pub taken-is : took ≡ takenCount (attendedAll listens s v least batch buffer .verdicts)
+  pub count-is : delivered ≡ length (attendedFrames listens s v least batch buffer)
+  pub kept : buffer′ ≡ encodeHoldback (holdbackSize s) (keptIn s v (attendedAll listens s v least batch buffer .queue))
+  pub numbers : verdicts′ ≡ overlay (attendedAll listens s v least batch buffer .verdicts) verdicts
+  pub given : delivery′ ≡ overlay (encodeFrames (attendedFrames listens s v least batch buffer)) delivery
+
+-- and the stamp
+pub record AttendedStamp (listens : Bool) (s : Setup) (v least : ℕ) (t : Timestamp) (batch buffer : List ℕ) (t′ : Timestamp) : Type 0 where
+  pub stamp : t′ ≡ widened (absorbedFor listens s v (trimmed (s .epsilon) t) (batchEntries batch) (attendedAll listens s v least batch buffer .verdicts))

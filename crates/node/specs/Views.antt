@@ -2,13 +2,13 @@
 -- Assumes nothing.
 use Prim.Native.Nat.{ℕ}
 use mathlib.Core.Path.{_≡_}
-use mathlib.Core.Bool.{Bool}
+use mathlib.Core.Bool.{Bool, cond}
 use mathlib.Core.List.{List, [], _∷_}
 use Rattle.model.specs.Setup as setups
 use Rattle.model.specs.Frame.{Frame, decode}
 use Rattle.model.specs.Order.{readingOf}
 use Rattle.model.specs.Question.{Question}
-use Rattle.model.specs.Judge.{taken, refused, askLate, askEarly, askCounts}
+use Rattle.model.specs.Judge.{Asking, taken, refused, askLate, askEarly, askCounts, judgeQuestions, observerQuestions}
 use Rattle.model.specs.Judge as judging
 use Rattle.model.specs.Tick.{Input}
 use Rattle.setup.specs.Views.{setupOf}
@@ -47,6 +47,10 @@ pub record Located (s : setups.Setup) (v : ℕ) (buffer bytes : List ℕ) (r : V
   pub stands : (placed : Placed) → r ≡ Taken placed → placed .place .at ≡ frameStart (s .epsilon) buffer (placed .place .index)
   pub reads : (placed : Placed) → r ≡ Taken placed → placed .reading ≡ readingOf s v (decode (s .epsilon) bytes)
 
--- 01, 13 to 15: what is asked of a frame's clock and counts
-unfoldable pub timeQuestions : setups.Setup → ℕ → Frame → List Question
-timeQuestions s v f = askLate s v f ∷ askEarly s v f ∷ askCounts s v f ∷ []
+-- what is asked of a frame: 10 to 17. 02, 2.6: "not 15" of one that only listens
+unfoldable pub questionsFor : Bool → setups.Setup → ℕ → Asking
+questionsFor listens s v = cond listens (observerQuestions s v) (judgeQuestions s v)
+
+-- 13 to 15 of them: what is asked of a frame's clock and counts
+unfoldable pub timeQuestions : Bool → setups.Setup → ℕ → Frame → List Question
+timeQuestions listens s v f = askLate s v f ∷ askEarly s v f ∷ cond listens [] (askCounts s v f ∷ [])

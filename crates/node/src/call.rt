@@ -1,7 +1,7 @@
 // 01, "Of the call, in order": questions 1 to 6.
 use setup::LONGEST_PAYLOAD;
 use setup::Setup;
-use setup::VERDICT_LENGTH;
+use setup::board_roomy;
 use setup::check_holdback;
 use setup::longest_frame;
 use setup::valid_for;
@@ -44,10 +44,7 @@ pub fn check_call(
     if outgoing.len() < longest_frame(setup.epsilon as usize) {
         return 6;
     }
-    if verdicts.len() < VERDICT_LENGTH {
-        return 6;
-    }
-    if delivery.len() < holdback.len() {
+    if !board_roomy(holdback, verdicts, delivery) {
         return 6;
     }
     0

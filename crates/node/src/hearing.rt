@@ -15,13 +15,14 @@ use holdback::sum_place;
 use setup::Setup;
 use timestamp::Timestamp;
 ghost use mathlib.Core.Path.{_≡_};
+ghost use mathlib.Core.Bool.{cond};
 ghost use Rattle.model.specs.Timestamp.{trimmed, widened};
 ghost use Rattle.model.specs.Frame.{decode};
 ghost use Rattle.model.specs.Order.{readingOf};
 ghost use Rattle.model.specs.Judge.{absorbBy};
 ghost use Rattle.setup.specs.Views.{setupOf};
 ghost use Rattle.timestamp.specs.Views.{stampOf};
-ghost use Rattle.node.specs.States.{Timed, Readable, Queued, Extent, Taking, Enqueued, Listening, HeardQueue, HeardStamp};
+ghost use Rattle.node.specs.States.{Timed, Readable, Queued, Extent, Taking, Enqueued, Hearing, HeardQueue, HeardStamp};
 
 // "A taken frame goes on the shelf". Its origin is marked, and the starts of the larger sums move. The queue has `count` frames,
 // which end at `end`; the frame's r is read already.
@@ -50,12 +51,23 @@ fn enqueue(
     mark(setup, clock, s, reading, seen);
 }
 
-// "c and each count become the larger of own and frame's, both placed relative to v": the frame's r is read already.
-fn absorb_frame(setup: Setup, clock: usize, stamp: Timestamp, s: &[u8], reading: usize) -> Timestamp
+// "c and each count become the larger of own and frame's, both placed relative to v": the frame's r is read already. 02, 2.6: one that
+// only listens keeps "no counts", and its stamp stays.
+fn absorb_frame(
+    setup: Setup,
+    clock: usize,
+    listens: bool,
+    stamp: Timestamp,
+    s: &[u8],
+    reading: usize,
+) -> Timestamp
     requires { ⌜ Readable (setupOf setup) clock (now s) × (reading ≡ readingOf (setupOf setup) clock (decode (setup .epsilon) (now s))) ⌝ }
-    ensures { λ r. ⌜ stampOf r
-        ≡ widened (absorbBy 0 (setupOf setup) clock (decode (setup .epsilon) (now (s .entry))) (trimmed (setup .epsilon) (stampOf stamp))) ⌝ }
+    ensures { λ r. ⌜ stampOf r ≡ cond listens (stampOf stamp)
+        (widened (absorbBy 0 (setupOf setup) clock (decode (setup .epsilon) (now (s .entry))) (trimmed (setup .epsilon) (stampOf stamp)))) ⌝ }
 {
+    if listens {
+        return stamp;
+    }
     let epsilon = setup.epsilon as usize;
     let modulus = setup.modulus as usize;
     let other = stamp_of(epsilon, s);
@@ -75,9 +87,11 @@ pub struct Heard {
 
 // The hearing loop. The batch's walker says where each entry stands. A verdict is taken apart for its place; of a refused
 // frame the number is recorded, and it goes on. A taken one is one frame more for the queue, and moves its end by the frame's length.
+// 02, 2.6: one that only listens judges frames "not" by 15, and absorbs none.
 pub fn hear(
     setup: Setup,
     clock: usize,
+    listens: bool,
     stamp: Timestamp,
     batch: &[u8],
     count: usize,
@@ -90,10 +104,10 @@ pub fn hear(
     requires { ⌜ Timed (setupOf setup) clock ⌝ }
     requires { ⌜ Queued (setupOf setup) clock (now holdback) (now seen) (now starts) ⌝ }
     requires { ⌜ Extent (setup .epsilon) (now holdback) count end ⌝ }
-    requires { ⌜ Listening (setup .epsilon) (stampOf stamp) (now batch) (now verdicts) ⌝ }
-    ensures { λ r. ⌜ HeardQueue (setupOf setup) clock (now (batch .entry)) (now (holdback .entry)) (now (verdicts .entry))
+    requires { ⌜ Hearing (setup .epsilon) (stampOf stamp) (now batch) (now verdicts) ⌝ }
+    ensures { λ r. ⌜ HeardQueue listens (setupOf setup) clock (now (batch .entry)) (now (holdback .entry)) (now (verdicts .entry))
         (r .taken) (r .count) (r .end) (now (holdback .exit)) (now (seen .exit)) (now (starts .exit)) (now (verdicts .exit)) ⌝ }
-    ensures { λ r. ⌜ HeardStamp (setupOf setup) clock (stampOf stamp) (now (batch .entry)) (now (holdback .entry)) (stampOf (r .stamp)) ⌝ }
+    ensures { λ r. ⌜ HeardStamp listens (setupOf setup) clock (stampOf stamp) (now (batch .entry)) (now (holdback .entry)) (stampOf (r .stamp)) ⌝ }
 {
     let entries = count_of(batch);
     let mut absorbed = stamp;
@@ -107,14 +121,14 @@ pub fn hear(
         let start = step.start;
         at = step.end;
         let s = &batch[start..at];
-        let verdict = judge(setup, clock, holdback, held, seen, starts, s);
+        let verdict = judge(setup, clock, listens, holdback, held, seen, starts, s);
         let Verdict::Taken(placed) = verdict else {
             verdicts[i] = number_of(verdict);
             i += 1;
             continue;
         };
         enqueue(setup, clock, placed, held, stop, s, holdback, seen, starts);
-        absorbed = absorb_frame(setup, clock, absorbed, s, placed.reading);
+        absorbed = absorb_frame(setup, clock, listens, absorbed, s, placed.reading);
         held += 1;
         stop += s.len();
         verdicts[i] = 0;

@@ -1,5 +1,7 @@
-// One tick of a node: the call's questions, one frame judged, the hearing, sending and delivering.
+// One tick of a node: the call's questions, one frame judged, the hearing, sending and delivering; and what of it an observer shares.
+mod attending;
 mod call;
+mod clock;
 mod hearing;
 mod questions;
 mod queue;
@@ -7,5 +9,9 @@ mod sending;
 mod ticking;
 mod verdict;
 
+pub use attending::Attended;
+pub use attending::attend;
+pub use clock::OpenedClock;
+pub use clock::open_clock;
 pub use ticking::Answer;
 pub use ticking::tick;

@@ -17,13 +17,13 @@ ghost use Rattle.model.specs.Question.{firstNo};
 ghost use Rattle.model.specs.Holdback.{held};
 ghost use Rattle.model.specs.Judge as model;
 ghost use Rattle.setup.specs.Views.{setupOf};
-ghost use Rattle.node.specs.Views.{verdictOf, Located, timeQuestions};
+ghost use Rattle.node.specs.Views.{verdictOf, Located, questionsFor, timeQuestions};
 ghost use Rattle.node.specs.States.{Timed, Readable, Queued};
 
-// 01, 13 to 15, of a frame whose r is read already: the number of the first no, or 0.
-pub fn check_time(setup: Setup, clock: usize, s: &[u8], reading: usize) -> u8
+// 01, 13 to 15, of a frame whose r is read already: the number of the first no, or 0. 02, 2.6: one that only listens does not ask 15.
+pub fn check_time(setup: Setup, clock: usize, listens: bool, s: &[u8], reading: usize) -> u8
     requires { ⌜ Readable (setupOf setup) clock (now s) × (reading ≡ readingOf (setupOf setup) clock (decode (setup .epsilon) (now s))) ⌝ }
-    ensures { λ r. ⌜ r ≡ firstNo (timeQuestions (setupOf setup) clock (decode (setup .epsilon) (now (s .entry)))) ⌝ }
+    ensures { λ r. ⌜ r ≡ firstNo (timeQuestions listens (setupOf setup) clock (decode (setup .epsilon) (now (s .entry)))) ⌝ }
 {
     let epsilon = setup.epsilon as usize;
     let modulus = setup.modulus as usize;
@@ -32,6 +32,9 @@ pub fn check_time(setup: Setup, clock: usize, s: &[u8], reading: usize) -> u8
     }
     if modulus + (epsilon - 1) < reading + c_of(s) {
         return 14;
+    }
+    if listens {
+        return 0;
     }
     let counts = counts_part(epsilon, s);
     let from = modulus + epsilon - reading;
@@ -47,6 +50,7 @@ pub fn check_time(setup: Setup, clock: usize, s: &[u8], reading: usize) -> u8
 pub fn judge(
     setup: Setup,
     clock: usize,
+    listens: bool,
     holdback: &[u8],
     count: usize,
     seen: &[u8],
@@ -56,7 +60,7 @@ pub fn judge(
     requires { ⌜ Timed (setupOf setup) clock ⌝ }
     requires { ⌜ Queued (setupOf setup) clock (now holdback) (now seen) (now starts) ⌝ }
     requires { ⌜ count ≡ twoAt (now holdback) 0 ⌝ }
-    ensures { λ r. ⌜ verdictOf r ≡ model.judge (setupOf setup) clock (model.judgeQuestions (setupOf setup) clock) (held (setup .epsilon) (now (holdback .entry))) (now (s .entry)) ⌝ }
+    ensures { λ r. ⌜ verdictOf r ≡ model.judge (setupOf setup) clock (questionsFor listens (setupOf setup) clock) (held (setup .epsilon) (now (holdback .entry))) (now (s .entry)) ⌝ }
     ensures { λ r. ⌜ Located (setupOf setup) clock (now (holdback .entry)) (now (s .entry)) r ⌝ }
 {
     let form = check(setup, s);
@@ -64,7 +68,7 @@ pub fn judge(
         return Verdict::Refused(form);
     }
     let reading = reading_of(setup, clock, s);
-    let time = check_time(setup, clock, s, reading);
+    let time = check_time(setup, clock, listens, s, reading);
     if time != 0 {
         return Verdict::Refused(time);
     }

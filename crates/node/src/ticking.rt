@@ -1,13 +1,8 @@
 // 01, "One tick at clock v".
+use crate::attending::attend;
 use crate::call::check_call;
-use crate::hearing::hear;
-use crate::queue::deliver;
-use crate::queue::open_queue;
+use crate::clock::open_clock;
 use crate::sending::send_frame;
-use holdback::FRONT;
-use holdback::Place;
-use holdback::START_PLACES;
-use holdback::TABLE_LENGTH;
 use setup::Setup;
 use timestamp::Timestamp;
 use timestamp::clock_step;
@@ -18,7 +13,7 @@ ghost use Rattle.setup.specs.Views.{setupOf};
 ghost use Rattle.timestamp.specs.Views.{stampOf};
 ghost use Rattle.node.specs.Views.{callInput};
 ghost use Rattle.node.specs.Answers.{callOutput};
-ghost use Rattle.node.specs.States.{Timed, StampOpened, Attending, ListenedQueue, HandedEarly, ListenedStamp};
+ghost use Rattle.node.specs.States.{Timed, StampOpened};
 
 // The stamp with which hearing starts, the least due clock that the queue may have, and the tables' share of the repair.
 pub struct Opening {
@@ -29,8 +24,8 @@ pub struct Opening {
     pub repair: u8,
 }
 
-// 01, tick 1 and 2: sound tables take a step; "Unsound tables are replaced by c 0 and no counts at all (mend 1)". 02, 2.2: each frame
-// of the queue is to be due after the clock of sound tables, and not before v where they are replaced.
+// 01, tick 1 and 2: sound tables take a step; "Unsound tables are replaced by c 0 and no counts at all (mend 1)". 02, 2.2: the last
+// clock is "r of the tables".
 fn open_stamp(setup: Setup, clock: usize, tables: Timestamp) -> Opening
     requires { ⌜ Timed (setupOf setup) clock ⌝ }
     ensures { λ r. ⌜ StampOpened (setupOf setup) clock (stampOf tables) (stampOf (r .stamp)) (r .least) (r .repair) ⌝ }
@@ -38,92 +33,24 @@ fn open_stamp(setup: Setup, clock: usize, tables: Timestamp) -> Opening
     let n = setup.n as usize;
     let epsilon = setup.epsilon as usize;
     let modulus = setup.modulus as usize;
-    if tables.is_sound_for(n, epsilon, modulus, clock) {
-        let k = clock_step(modulus, tables.r, clock);
-        let stamp = tables.step(epsilon, k, clock);
+    let sound = tables.is_sound_for(n, epsilon, modulus, clock);
+    let opened = open_clock(setup, clock, sound, tables.r);
+    let least = opened.least;
+    let repair = opened.repair;
+    if !sound {
+        let stamp = Timestamp::replaced(clock);
         return Opening {
             stamp,
-            least: modulus + 1 - k,
-            repair: 0,
+            least,
+            repair,
         };
     }
-    let stamp = Timestamp::replaced(clock);
+    let k = clock_step(modulus, tables.r, clock);
+    let stamp = tables.step(epsilon, k, clock);
     Opening {
         stamp,
-        least: modulus,
-        repair: 1,
-    }
-}
-
-// What the first three steps of a tick answer beside the buffers.
-pub struct Listened {
-    pub stamp: Timestamp,
-    pub repair: u8,
-    pub taken: usize,
-    // how many frames the queue has
-    pub count: usize,
-    // where they end
-    pub end: usize,
-    // how many frames are handed out early, and where they end in the delivery
-    pub early: Place,
-}
-
-// 01, tick 1 to 3. The tables of origins and of starts live here.
-fn listen(
-    setup: Setup,
-    clock: usize,
-    tables: Timestamp,
-    batch: &[u8],
-    holdback: &mut [u8],
-    verdicts: &mut [u8],
-    delivery: &mut [u8],
-) -> Listened
-    requires { ⌜ Timed (setupOf setup) clock ⌝ }
-    requires { ⌜ Attending (setupOf setup) (now batch) (now holdback) (now verdicts) (now delivery) ⌝ }
-    ensures { λ r. ⌜ r .repair ≡ model.repairOf (setupOf setup) clock (stampOf tables) (now (holdback .entry)) ⌝ }
-    ensures { λ r. ⌜ ListenedQueue (setupOf setup) clock (model.leastDue (setupOf setup) clock (stampOf tables)) (now (batch .entry)) (now (holdback .entry)) (now (verdicts .entry))
-        (r .taken) (r .count) (r .end) (now (holdback .exit)) (now (verdicts .exit)) ⌝ }
-    ensures { λ r. ⌜ HandedEarly (setupOf setup) clock (model.leastDue (setupOf setup) clock (stampOf tables)) (now (holdback .entry)) (now (delivery .entry))
-        (r .early .index) (r .early .at) (now (delivery .exit)) ⌝ }
-    ensures { λ r. ⌜ ListenedStamp (setupOf setup) clock (model.leastDue (setupOf setup) clock (stampOf tables)) (stampOf tables) (now (batch .entry)) (now (holdback .entry)) (stampOf (r .stamp)) ⌝ }
-{
-    let mut seen = [0u8; TABLE_LENGTH];
-    let mut starts = [FRONT; START_PLACES];
-    let opening = open_stamp(setup, clock, tables);
-    let least = opening.least;
-    let opened = open_queue(
-        setup,
-        clock,
         least,
-        holdback,
-        &mut seen,
-        &mut starts,
-        delivery,
-    );
-    let stamp = opening.stamp;
-    let count = opened.count;
-    let end = opened.end;
-    let early = opened.early;
-    let heard = hear(
-        setup,
-        clock,
-        stamp,
-        batch,
-        count,
-        end,
-        holdback,
-        &mut seen,
-        &mut starts,
-        verdicts,
-    );
-    let absorbed = heard.stamp;
-    Listened {
-        stamp: absorbed,
-        repair: opening.repair + opened.repair,
-        taken: heard.taken,
-        count: heard.count,
-        end: heard.end,
-        early,
+        repair,
     }
 }
 
@@ -159,26 +86,28 @@ fn accept(
         ≡ model.tick (callInput setup own clock tables (now (holdback .entry)) (now (batch .entry)) send (now (payload .entry))
         (now (outgoing .entry)) (now (verdicts .entry)) (now (delivery .entry))) ⌝ }
 {
-    let listened = listen(setup, clock, tables, batch, holdback, verdicts, delivery);
-    let absorbed = listened.stamp;
-    let stamp = absorbed.count_own(setup.epsilon as usize, clock);
-    let sent = send_frame(setup, own, stamp, send, payload, outgoing);
-    let early = listened.early;
-    let delivered = deliver(
+    let opening = open_stamp(setup, clock, tables);
+    let opened = opening.stamp;
+    let attended = attend(
         setup,
         clock,
-        listened.count,
-        listened.end,
-        early,
+        false,
+        opening.least,
+        opened,
+        batch,
         holdback,
+        verdicts,
         delivery,
     );
+    let absorbed = attended.stamp;
+    let stamp = absorbed.count_own(setup.epsilon as usize, clock);
+    let sent = send_frame(setup, own, stamp, send, payload, outgoing);
     Answer {
         number: 0,
         tables: stamp,
-        repair: listened.repair,
-        taken: listened.taken,
-        delivered,
+        repair: opening.repair + attended.repair,
+        taken: attended.taken,
+        delivered: attended.delivered,
         sent,
     }
 }

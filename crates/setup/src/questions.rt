@@ -1,9 +1,12 @@
-// The questions on a clock and a shelf, which every call with a shelf asks.
+// The questions on a clock and a shelf, which every call with a shelf asks, and on the buffers of one that hands out.
 use crate::limits::Setup;
+use crate::limits::VERDICT_LENGTH;
 use crate::limits::holdback_length;
 ghost use mathlib.Core.Path.{_≡_};
-ghost use mathlib.Core.Bool.{true};
-ghost use Rattle.model.specs.Setup.{inLimits};
+ghost use mathlib.Core.Bool.{true, _&&_};
+ghost use lib.Dec.{leb};
+ghost use lib.ListN.{length};
+ghost use Rattle.model.specs.Setup.{inLimits, verdictLength};
 ghost use Rattle.model.specs.Question.{firstNo};
 ghost use Rattle.model.specs.Tick.{holdbackQuestions};
 ghost use Rattle.setup.specs.Views.{setupOf};
@@ -20,4 +23,14 @@ pub fn check_holdback(s: Setup, clock: usize, holdback: &[u8]) -> u8
         return 3;
     }
     0
+}
+
+// 01, check 6: "Has … the verdict buffer 255, the hand-out buffer a shelf's length?" The shelf has that length.
+pub fn board_roomy(holdback: &[u8], verdicts: &[u8], delivery: &[u8]) -> bool
+    ensures { λ r. ⌜ r ≡ (leb verdictLength (length (now (verdicts .entry))) && leb (length (now (holdback .entry))) (length (now (delivery .entry)))) ⌝ }
+{
+    if verdicts.len() < VERDICT_LENGTH {
+        return false;
+    }
+    holdback.len() <= delivery.len()
 }

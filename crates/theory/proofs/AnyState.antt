@@ -1,18 +1,16 @@
--- Demand 2 from any state: verdicts, figures and bounds of every accepted call.
+-- Demand 2 from any state: verdicts, figures and bounds of every accepted call, a station's and an observer's.
 -- Assumes nothing.
-use Prim.Native.Nat.{ℕ, _+_}
-use native.Mathlib.Nat.{zero-add}
+use Prim.Native.Nat.{_+_}
 use mathlib.Core.Path.{_≡_, ap, _∙_, sym}
 use mathlib.Core.Bool.{cond}
-use lib.ListN.{length, take}
-use Rattle.laws.specs.Lists.{overlay}
-use Rattle.laws.proofs.Lists.{take-overlay}
-use Rattle.model.specs.Timestamp.{trimmed, soundTables}
+use lib.ListN.{length}
+use Rattle.model.specs.Timestamp.{trimmed, soundClock, soundTables}
 use Rattle.model.specs.Holdback.{soundHoldback}
-use Rattle.model.specs.Batch.{batchEntries}
-use Rattle.model.specs.Tick.{Input, Output, tablesSound, leastDue, shelfSound, repairOf, opening, heardOf, deliveredOf, takenCount, acceptance, tick}
-use Rattle.theory.specs.Demand2.{heardBefore, Demand2Any}
-use Rattle.lemmas.proofs.OneTick.{Accepted, accepted-call, hear-length, tables-next, shelf-sound, verdicts-are, verdict-byte, sent-is, delivered-bytes, sent-bytes}
+use Rattle.model.specs.Tick.{Input, Output, tablesSound, leastDue, shelfSound, repairOf, heardOf, deliveredOf, takenCount, acceptance, tick}
+use Rattle.model.specs.Observer.{Listening, Listened, lastSound, observerLeast, observerRepair, observerHeard, observerDelivered, listened, listen}
+use Rattle.theory.specs.Demand2.{heardBefore, Demand2Any, observedBefore, Demand2Observer}
+use Rattle.lemmas.proofs.OneTick.{Accepted, accepted-call, tables-next, shelf-sound, verdict-byte, verdicts-front, sent-is, delivered-bytes, sent-bytes}
+use Rattle.lemmas.proofs.OneListening.{Heeded, listen-accepted, last-is, last-next, listen-shelf, listen-bytes, listen-verdict, listen-front}
 
 taken-is : (i : Input) → Accepted i → tick i .answer .taken ≡ takenCount (heardOf i .verdicts)
 unfolding acceptance
@@ -30,15 +28,6 @@ delivered-is : (i : Input) → Accepted i → tick i .answer .delivered ≡ leng
 unfolding acceptance
 delivered-is i a = ap (λ (o : Output). o .answer .delivered) (a .accepted)
 
--- the verdicts stand at the front of their buffer
-verdicts-front : (i : Input) → Accepted i → take (length (batchEntries (i .batch))) (tick i .verdicts) ≡ heardOf i .verdicts
-unfolding heardOf
-verdicts-front i a =
-    ap (take (length (batchEntries (i .batch)))) (verdicts-are i a)
-    ∙ (ap (λ (k : ℕ). take k (overlay (heardOf i .verdicts) (i .verdicts)))
-    (sym (hear-length (i .setup) (i .clock) (opening i) (batchEntries (i .batch)) ∙ zero-add (length (batchEntries (i .batch)))))
-    ∙ take-overlay (heardOf i .verdicts) (i .verdicts))
-
 pub demand2-any : Demand2Any
 unfolding heardBefore tablesSound
 demand2-any i h =
@@ -53,4 +42,36 @@ demand2-any i h =
       outgoing = sent-bytes i a;
       bounded = λ k pos few. tables-next i k a pos few;
       boundedQueue = λ k pos few. shelf-sound i k a few;
+    }
+
+-- 02, 2.6: an observer's
+taken-listened : (i : Listening) → Heeded i → listen i .taken ≡ takenCount (observerHeard i .verdicts)
+unfolding listened
+taken-listened i a = ap (λ (o : Listened). o .taken) (a .accepted)
+
+repair-listened :
+    (i : Listening) → Heeded i
+    → listen i .repair
+    ≡ cond (soundClock (i .setup .epsilon) (i .setup .modulus) (i .clock) (i .last)) 0 1
+    + cond (soundHoldback (i .setup) (i .clock) (observerLeast i) (i .holdback)) 0 2
+unfolding listened observerRepair lastSound
+repair-listened i a = ap (λ (o : Listened). o .repair) (a .accepted)
+
+delivered-listened : (i : Listening) → Heeded i → listen i .delivered ≡ length (observerDelivered i)
+unfolding listened
+delivered-listened i a = ap (λ (o : Listened). o .delivered) (a .accepted)
+
+pub demand2-observer : Demand2Observer
+unfolding observedBefore
+demand2-observer i h =
+    let a = listen-accepted i h in
+    record {
+      verdict = λ k entry e. listen-verdict i a k entry e;
+      repair = repair-listened i a;
+      taken = taken-listened i a ∙ ap takenCount (sym (listen-front i a));
+      delivered = delivered-listened i a;
+      delivery = listen-bytes i a;
+      last = last-is i a;
+      bounded = λ k pos few. last-next i k a pos few;
+      boundedQueue = λ k pos few. listen-shelf i k a few;
     }

@@ -1,10 +1,10 @@
--- Calls that lead to one another are in order: by their station, by what they take, and on through such steps.
+-- Calls that lead to one another are in order: by their station, by what they take, and on through such steps. An observer's lead to none of a station.
 -- Assumes nothing.
 use Prim.Native.Nat.{ℕ, zero, suc, _≤_, _<_, Ordering·lt}
 use native.Mathlib.Omega.{arith}
 use mathlib.Core.Path.{_≡_, refl, sym, ap, subst, _∙_}
 use mathlib.Core.Logic.{_⊎_, inl, inr}
-use mathlib.Core.Bool.{true}
+use mathlib.Core.Bool.{true, false}
 use mathlib.Core.List.{List, [], _∷_}
 use mathlib.Core.Option.{some}
 use lib.ListN.{take, getElem?}
@@ -13,10 +13,10 @@ use Rattle.laws.proofs.Numbers.{eq-or-ne}
 use Rattle.laws.proofs.Lists.{getElem?-lt}
 use Rattle.laws.proofs.Lex.{lex-trans}
 use Rattle.model.specs.Setup.{Setup}
-use Rattle.model.specs.Run.{Done, isAccepted}
+use Rattle.model.specs.Run.{Node, Done, isEvent}
 use Rattle.theory.specs.Demand3.{Leads, later, takes, on}
 use Rattle.theory.proofs.HearLoop.{some-inj}
-use Rattle.theory.proofs.World.{eventKey, sends-accepted, AllKept}
+use Rattle.theory.proofs.World.{eventKey, AllKept, AllKinds, sends-event, event-accepted, event-kind, event-of}
 
 -- a list's beginning
 module _ {A : Type 0} where
@@ -39,20 +39,20 @@ module _ {A : Type 0} where
   below-take (suc j) (y ∷ l) (suc k) e = let h : k < j = below-take j l k e in omega arith
 
 -- the later of two accepted calls of a station
-module _ (s : Setup) (from : ℕ) (past : List Done) (kept : AllKept s from past) where
+module _ (s : Setup) (from : ℕ) (nodes : List Node) (past : List Done) (kept : AllKept s from past) (kinds : AllKinds nodes past) where
   abbrev Less : Done → Done → Type 0
   Less a b = lexCompare (eventKey s a) (eventKey s b) ≡ Ordering·lt
 
-  -- an accepted call and its position
+  -- an accepted call of a station and its position
   record Made : Type 0 where
     at : ℕ
     done : Done
     is : getElem? past at ≡ some done
-    accepted : isAccepted (done .output) ≡ true
+    made : isEvent done ≡ true
 
   station-order : (a b : Made) → a .done .node ≡ b .done .node → a .at < b .at → Less (a .done) (b .done)
   station-order a b o h =
-      kept (b .at) (b .done) (b .is) (b .accepted) .later (a .at) (a .done) (in-take (b .at) past (a .at) h (a .is)) (a .accepted) o
+      kept (b .at) (b .done) (b .is) (event-accepted (b .done) (b .made)) .later (b .made) (a .at) (a .done) (in-take (b .at) past (a .at) h (a .is)) (a .made) o
 
   same-made : (a b : Made) → a .at ≡ b .at → a .done ≡ b .done
   same-made a b e = some-inj (sym (a .is) ∙ (ap (getElem? past) e ∙ b .is))
@@ -134,12 +134,30 @@ module _ (s : Setup) (from : ℕ) (past : List Done) (kept : AllKept s from past
         way = way-on (ap (λ (x : Done). x .node) (some-inj (sym (c .second-is) ∙ d .first-is))) (c .way) (d .way);
       }
 
-  chain-of : {i j : ℕ} → Leads past i j → Chain i j
-  chain-of (later {i} {j} {a} {b} h p q o) = record { first = a; second = b; first-is = p; second-is = q; way = inl (h, o) }
-  chain-of (takes {i} {j} {b} e q acc at zero-at) =
+  -- calls of one node are all an observer's, or none
+  same-kind : (i j : ℕ) (a b : Done) → getElem? past i ≡ some a → getElem? past j ≡ some b → a .node ≡ b .node → a .listens ≡ b .listens
+  same-kind i j a b p q e =
+      let x = kinds i a p in
+      let y = kinds j b q in
+      let one : x .0 ≡ y .0 = some-inj (sym (x .1) ∙ (ap (getElem? nodes) e ∙ y .1)) in
+      sym (x .2) ∙ (ap (λ (node : Node). node .listens) one ∙ y .2)
+
+  -- what leads to a station's call is a station's
+  first-kind : {i j : ℕ} (c : Chain i j) → c .second .listens ≡ false → c .first .listens ≡ false
+  first-kind {i} {j} c station = go (c .way)
+    where
+      go : Way i j (c .first) (c .second) → c .first .listens ≡ false
+      go (inl h) = same-kind i j (c .first) (c .second) (c .first-is) (c .second-is) (h .1) ∙ station
+      go (inr h) =
+          same-kind i (h .out .at) (c .first) (h .out .done) (c .first-is) (h .out .is) (h .out-node) ∙ event-kind (h .out .done) (h .out .made)
+
+  chain-of : {i j : ℕ} → Leads past i j → (b : Done) → getElem? past j ≡ some b → b .listens ≡ false → Chain i j
+  chain-of (later {i} {j} {a} {b} h p q o) d d-at station = record { first = a; second = b; first-is = p; second-is = q; way = inl (h, o) }
+  chain-of (takes {i} {j} {b} e q acc at zero-at) d d-at station =
       let k = kept j b q acc in
       let r = k .sent-before e i at in
       let p : getElem? past i ≡ some (r .0) = of-take j past i (r .1) in
+      let here : isEvent b ≡ true = event-of b acc (ap (λ (x : Done). x .listens) (some-inj (sym q ∙ d-at)) ∙ station) in
       record {
         first = r .0;
         second = b;
@@ -147,30 +165,32 @@ module _ (s : Setup) (from : ℕ) (past : List Done) (kept : AllKept s from past
         second-is = q;
         way =
             inr (record {
-              out = record { at = i; done = r .0; is = p; accepted = sends-accepted (r .0) (r .2) };
-              into = record { at = j; done = b; is = q; accepted = acc };
+              out = record { at = i; done = r .0; is = p; made = sends-event (r .0) (r .2) };
+              into = record { at = j; done = b; is = q; made = here };
               out-node = refl;
               into-node = refl;
               out-after = omega arith;
               into-before = omega arith;
-              less = k .takes e i (r .0) at (r .1) zero-at;
+              less = k .takes here e i (r .0) at (r .1) zero-at;
             });
       }
-  chain-of (on p q) = chain-on (chain-of p) (chain-of q)
+  chain-of (on {i} {j} {k} p q) d d-at station =
+      let c = chain-of q d d-at station in
+      let last : c .second .listens ≡ false = ap (λ (x : Done). x .listens) (some-inj (sym (c .second-is) ∙ d-at)) ∙ station in
+      chain-on (chain-of p (c .first) (c .first-is) (first-kind c last)) c
 
   pub leads-less :
-      (i j : ℕ) (a b : Done) → Leads past i j → getElem? past i ≡ some a → getElem? past j ≡ some b → isAccepted (a .output) ≡ true → isAccepted (b .output) ≡ true
-      → Less a b
+      (i j : ℕ) (a b : Done) → Leads past i j → getElem? past i ≡ some a → getElem? past j ≡ some b → isEvent a ≡ true → isEvent b ≡ true → Less a b
   leads-less i j a b l p q x y = go (c .way)
     where
       c : Chain i j
-      c = chain-of l
+      c = chain-of l b q (event-kind b y)
 
       from-a : Made
-      from-a = record { at = i; done = a; is = p; accepted = x }
+      from-a = record { at = i; done = a; is = p; made = x }
 
       to-b : Made
-      to-b = record { at = j; done = b; is = q; accepted = y }
+      to-b = record { at = j; done = b; is = q; made = y }
 
       e : c .first .node ≡ a .node
       e = ap (λ (d : Done). d .node) (some-inj (sym (c .first-is) ∙ p))

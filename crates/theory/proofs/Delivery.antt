@@ -21,14 +21,14 @@ use Rattle.model.specs.Setup.{Setup}
 use Rattle.model.specs.Timestamp.{sum}
 use Rattle.model.specs.Frame.{Frame, encode, decode}
 use Rattle.model.specs.Order.{readingOf, key, keyNear, due, dueNear}
-use Rattle.model.specs.Run.{Done, isAccepted, sends, messageBytes, messageFrame}
-use Rattle.theory.specs.Demand3.{heardIn, earlier, dueClock, dueIn, messageKey}
+use Rattle.model.specs.Run.{Done, isEvent, sends, messageBytes, messageFrame}
+use Rattle.theory.specs.Demand3.{covered, heardIn, earlier, dueClock, dueIn, dueHere, coveredFrame, messageKey}
 use Rattle.lemmas.proofs.Bounds.{Limits, FrameOk}
 use Rattle.lemmas.proofs.Queue.{key-origin, key-lower}
 use Rattle.theory.proofs.Event.{event-reads}
 use Rattle.lemmas.proofs.RoundTrip.{decode-encode}
-use Rattle.theory.proofs.HearLoop.{followed-sends, followed-from, event-station}
-use Rattle.theory.proofs.World.{eventFrame, followed, heardAt, Explained, AllExplained, CallEvent, dueFollowed, followedFrame}
+use Rattle.theory.proofs.HearLoop.{covered-sends, covered-from, event-station}
+use Rattle.theory.proofs.World.{eventFrame, heardAt, Explained, AllExplained, CallEvent, sends-event}
 
 -- all readings may be moved by the same
 key-moved :
@@ -39,7 +39,7 @@ key-moved s a b u u′ w w′ f f′ e e′ = sym (key-lower s a (u + a) u (u′
 same-call : Done → Done → Bool
 same-call a b = eqb (a .own) (b .own) && eqb (a .clock) (b .clock)
 
--- the frames delivered in a call that moves a clock from `last` to v: in order, each explained and come due, and all of these that are followed
+-- the frames delivered in a call that moves a clock from `last` to v: in order, each explained and come due, and all of these that are covered
 pub record Delivers (s : Setup) (from : ℕ) (past : List Done) (heard : ℕ → Bool) (last v : ℕ) (frames : List Frame) : Type 0 where
   pub ok : (f : Frame) → List·Memᴰ f frames → FrameOk s f
   pub sorted : Sorted (keyNear s (v % s .modulus)) frames
@@ -47,37 +47,36 @@ pub record Delivers (s : Setup) (from : ℕ) (past : List Done) (heard : ℕ →
   pub not-before : (f : Frame) → List·Memᴰ f frames → s .modulus + from ≤ readingOf s (v % s .modulus) f + v → s .modulus + last < dueNear s (v % s .modulus) f + v
   pub not-past : (f : Frame) → List·Memᴰ f frames → dueNear s (v % s .modulus) f ≤ s .modulus
   pub all :
-      (k : ℕ) (m : Done) → getElem? past k ≡ some m → followed from m ≡ true → heard k ≡ true
+      (k : ℕ) (m : Done) → getElem? past k ≡ some m → covered from m ≡ true → heard k ≡ true
       → last < due s (m .clock) (eventFrame s m .stamp .c) → due s (m .clock) (eventFrame s m .stamp .c) ≤ v → List·Memᴰ (eventFrame s m) frames
 
 -- the calls past, then the call d, which delivers the frames
 module _
     (s : Setup) (from last v node : ℕ) (past : List Done) (d : Done) (frames : List Frame) (limits : Limits s) (near : v ≤ last + s .epsilon)
-    (events : (k : ℕ) (m : Done) → getElem? past k ≡ some m → isAccepted (m .output) ≡ true → CallEvent s m)
-    (unique : (k l : ℕ) (a b : Done) → getElem? past k ≡ some a → getElem? past l ≡ some b → isAccepted (a .output) ≡ true → isAccepted (b .output) ≡ true
+    (events : (k : ℕ) (m : Done) → getElem? past k ≡ some m → isEvent m ≡ true → CallEvent s m)
+    (unique : (k l : ℕ) (a b : Done) → getElem? past k ≡ some a → getElem? past l ≡ some b → isEvent a ≡ true → isEvent b ≡ true
     → a .own ≡ b .own → a .clock ≡ b .clock → k ≡ l)
     (clock-is : d .clock ≡ v)
     (delivers : Delivers s from past (heardAt (past ++ (d ∷ [])) node) last v frames)
   where
     abbrev list : List Done
-    list = dueFollowed s from (past ++ (d ∷ [])) node last v
+    list = dueHere s from (past ++ (d ∷ [])) node last v
 
     -- a message of the list
     abbrev Found : ℕ → Done → Type 0
     Found k m =
-        (getElem? past k ≡ some m) × (followed from m ≡ true) × (last < due s (m .clock) (eventFrame s m .stamp .c)) × (due s (m .clock) (eventFrame s m .stamp .c) ≤ v)
+        (getElem? past k ≡ some m) × (covered from m ≡ true) × (last < due s (m .clock) (eventFrame s m .stamp .c)) × (due s (m .clock) (eventFrame s m .stamp .c) ≤ v)
         × (heardAt (past ++ (d ∷ [])) node k ≡ true)
 
-    accepted : (m : Done) → followed from m ≡ true → isAccepted (m .output) ≡ true
-    unfolding sends
-    accepted m f = and-left (isAccepted (m .output)) (m .call .send) (followed-sends from m f)
+    made : (m : Done) → covered from m ≡ true → isEvent m ≡ true
+    made m f = sends-event m (covered-sends from m f)
 
-    event : (k : ℕ) (m : Done) → getElem? past k ≡ some m → followed from m ≡ true → CallEvent s m
-    event k m at f = events k m at (accepted m f)
+    event : (k : ℕ) (m : Done) → getElem? past k ≡ some m → covered from m ≡ true → CallEvent s m
+    event k m at f = events k m at (made m f)
 
     -- the test of the list
     abbrev test : ℕ → Done → Bool
-    test k m = followed from m && (dueIn s last v m && any (heardIn node k) (past ++ (d ∷ [])))
+    test k m = covered from m && (dueIn s last v m && any (heardIn node k) (past ++ (d ∷ [])))
 
     due-of :
         (m : Done) → CallEvent s m → sends m ≡ true → dueIn s last v m ≡ true
@@ -111,27 +110,27 @@ module _
           | inr q ↦ absurd (not-itself (subst (λ (y : Done). dueIn s last v y ≡ true) (q .1) d-at))
         ]
       where
-        fol : followed from m ≡ true
-        fol = and-left (followed from m) (dueIn s last v m && any (heardIn node k) (past ++ (d ∷ []))) e
+        fol : covered from m ≡ true
+        fol = and-left (covered from m) (dueIn s last v m && any (heardIn node k) (past ++ (d ∷ []))) e
 
         rest : (dueIn s last v m && any (heardIn node k) (past ++ (d ∷ []))) ≡ true
-        rest = and-right (followed from m) (dueIn s last v m && any (heardIn node k) (past ++ (d ∷ []))) e
+        rest = and-right (covered from m) (dueIn s last v m && any (heardIn node k) (past ++ (d ∷ []))) e
 
         d-at : dueIn s last v m ≡ true
         d-at = and-left (dueIn s last v m) (any (heardIn node k) (past ++ (d ∷ []))) rest
 
         here : getElem? past k ≡ some m → (last < due s (m .clock) (eventFrame s m .stamp .c)) × (due s (m .clock) (eventFrame s m .stamp .c) ≤ v)
-        here q = due-of m (event k m q fol) (followed-sends from m fol) d-at
+        here q = due-of m (event k m q fol) (covered-sends from m fol) d-at
 
     found : (m : Done) → List·Memᴰ m list → (k : ℕ) × Found k m
-    unfolding dueFollowed
+    unfolding dueHere
     found m mem = let r = mem-of-selectFrom-zero test (past ++ (d ∷ [])) mem in (r .0, found-at (r .0) m (r .1) (r .2))
 
     listed : (k : ℕ) (m : Done) → Found k m → List·Memᴰ m list
-    unfolding dueFollowed heardAt
+    unfolding dueHere heardAt
     listed k m f =
         mem-selectFrom-zero test (past ++ (d ∷ [])) k (getElem?-append past (d ∷ []) k (getElem?-lt past k (f .0)) ∙ f .0)
-        (and-intro (f .1) (and-intro (of-due m (event k m (f .0) (f .1)) (followed-sends from m (f .1)) (f .2) (f .3)) (f .4)))
+        (and-intro (f .1) (and-intro (of-due m (event k m (f .0) (f .1)) (covered-sends from m (f .1)) (f .2) (f .3)) (f .4)))
 
     -- its reading is its true clock
     reading : (k : ℕ) (m : Done) → Found k m → readingOf s (v % s .modulus) (eventFrame s m) + v ≡ s .modulus + m .clock
@@ -142,7 +141,7 @@ module _
 
     -- the list has no call twice
     list-apart : apart same-call list ≡ true
-    unfolding dueFollowed same-call
+    unfolding dueHere same-call
     list-apart =
         apart-of-pairwise same-call list
         (pairwise-selectFrom (λ x y. not (same-call x y)) test 0 (past ++ (d ∷ [])) differ)
@@ -153,13 +152,13 @@ module _
             let f : Found j x = found-at j x at-j (rw zero-add at p) in
             let g : Found k y = found-at k y at-k (rw zero-add at q) in
             not-of-false (false-of-no (same-call x y) (λ e.
-            let z : j ≡ k = unique j k x y (f .0) (g .0) (accepted x (f .1)) (accepted y (g .1)) (eqb-true (x .own) (y .own) (and-left (eqb (x .own) (y .own)) (eqb (x .clock) (y .clock)) e)) (eqb-true (x .clock) (y .clock) (and-right (eqb (x .own) (y .own)) (eqb (x .clock) (y .clock)) e)) in
+            let z : j ≡ k = unique j k x y (f .0) (g .0) (made x (f .1)) (made y (g .1)) (eqb-true (x .own) (y .own) (and-left (eqb (x .own) (y .own)) (eqb (x .clock) (y .clock)) e)) (eqb-true (x .clock) (y .clock) (and-right (eqb (x .own) (y .own)) (eqb (x .clock) (y .clock)) e)) in
             let bad : ⊥ = omega arith in bad))
 
     -- the key of a message of the list, with its frame named
     message-key : (k : ℕ) (m : Done) → Found k m → messageKey s m ≡ key s (m .clock) (eventFrame s m)
     unfolding messageKey
-    message-key k m f = ap (key s (m .clock)) (event k m (f .0) (f .1) .message (followed-sends from m (f .1)))
+    message-key k m f = ap (key s (m .clock)) (event k m (f .0) (f .1) .message (covered-sends from m (f .1)))
 
     list-keys : (x y : Done) → List·Memᴰ x list → List·Memᴰ y list → messageKey s x ≡ messageKey s y → same-call x y ≡ true
     unfolding same-call
@@ -194,20 +193,20 @@ module _
         (sorted-rekey (messageKey s) (λ (m : Done). keyAt (eventFrame s m)) sorted (λ x y mx my. same-order x y (mem-of-sortBy (earlier s) list mx) (mem-of-sortBy (earlier s) list my))
         (sorted-sortBy (messageKey s) same-call list list-apart list-keys))
 
-    -- what is delivered and followed
+    -- what is delivered and covered
     abbrev chosen : List Frame
-    chosen = select (λ f. followedFrame s from v (encode f)) frames
+    chosen = select (λ f. coveredFrame s from v (encode f)) frames
 
     sorted-chosen : Sorted keyAt chosen
-    sorted-chosen = sorted-select keyAt (λ f. followedFrame s from v (encode f)) frames (delivers .sorted)
+    sorted-chosen = sorted-select keyAt (λ f. coveredFrame s from v (encode f)) frames (delivers .sorted)
 
     decoded : (f : Frame) → List·Memᴰ f frames → decode (s .epsilon) (encode f) ≡ f
     decoded f mem = decode-encode (s .epsilon) f (delivers .ok f mem .sound .wide)
 
     into : (f : Frame) → List·Memᴰ f chosen → List·Memᴰ f (map (eventFrame s) sorted)
-    unfolding followedFrame dueNear due sum
+    unfolding coveredFrame dueNear due sum
     into f mem =
-        let a = mem-of-select (λ g. followedFrame s from v (encode g)) frames mem in
+        let a = mem-of-select (λ g. coveredFrame s from v (encode g)) frames mem in
         go (a .0) (delivers .members f (a .0))
         (leb-true (s .modulus + from) (readingOf s (v % s .modulus) f + v)
         (subst (λ (g : Frame). leb (s .modulus + from) (readingOf s (v % s .modulus) g + v) ≡ true) (decoded f (a .0)) (a .1)))
@@ -224,7 +223,7 @@ module _
             (mem-map (eventFrame s) (mem-sortBy (earlier s) (listed (x .0) (x .1) (x .2, x .3, lo, hi, x .4))))
 
     back : (f : Frame) → List·Memᴰ f (map (eventFrame s) sorted) → List·Memᴰ f chosen
-    unfolding followedFrame
+    unfolding coveredFrame
     back f mem =
         let a = mem-of-map (eventFrame s) sorted mem in
         let b = found (a .0) (mem-of-sortBy (earlier s) list (a .1)) in
@@ -233,15 +232,15 @@ module _
         go : (k : ℕ) (m : Done) → Found k m → List·Memᴰ (eventFrame s m) chosen
         go k m g =
             let q : List·Memᴰ (eventFrame s m) frames = delivers .all k m (g .0) (g .1) (g .4) (g .2) (g .3) in
-            mem-select (λ h. followedFrame s from v (encode h)) q
+            mem-select (λ h. coveredFrame s from v (encode h)) q
             (subst (λ (h : Frame). leb (s .modulus + from) (readingOf s (v % s .modulus) h + v) ≡ true) (sym (decoded (eventFrame s m) q))
-            (le-leb (s .modulus + from) (readingOf s (v % s .modulus) (eventFrame s m) + v) (omega (arith, reading k m g, followed-from from m (g .1)))))
+            (le-leb (s .modulus + from) (readingOf s (v % s .modulus) (eventFrame s m) + v) (omega (arith, reading k m g, covered-from from m (g .1)))))
 
     pub delivery :
-        select (followedFrame s from v) (map encode frames)
+        select (coveredFrame s from v) (map encode frames)
         ≡ map messageBytes sorted
     delivery =
-        select-map (followedFrame s from v) encode frames
+        select-map (coveredFrame s from v) encode frames
         ∙ (ap (map encode) (sorted-unique keyAt chosen (map (eventFrame s) sorted) sorted-chosen sorted-frames into back)
         ∙ (map-map encode (eventFrame s) sorted
         ∙ sym (map-ext messageBytes (λ (m : Done). encode (eventFrame s m)) sorted bytes)))
@@ -249,4 +248,4 @@ module _
         bytes : (m : Done) → List·Memᴰ m sorted → messageBytes m ≡ encode (eventFrame s m)
         bytes m mem =
             let f = found m (mem-of-sortBy (earlier s) list mem) in
-            event (f .0) m (f .1 .0) (f .1 .1) .bytes (followed-sends from m (f .1 .1))
+            event (f .0) m (f .1 .0) (f .1 .1) .bytes (covered-sends from m (f .1 .1))

@@ -4,8 +4,10 @@ use Prim.Native.Nat.{ℕ, zero, suc}
 use mathlib.Core.Path.{_≡_, refl, ap, _∙_}
 use Rattle.model.specs.Question.{firstNo}
 use Rattle.model.specs.Tick.{Input, Output, callQuestions, acceptance, tick}
-use Rattle.theory.specs.Demand1.{Demand1}
+use Rattle.model.specs.Observer.{Listening, Listened, listenQuestions, listened, listen}
+use Rattle.theory.specs.Demand1.{Demand1, Demand1Observer}
 use Rattle.lemmas.proofs.OneTick.{tick-by, refusal-number}
+use Rattle.lemmas.proofs.OneListening.{listen-by, not-listened-number}
 
 -- the number in the answer is that of the first question that gets a no
 number-is : (i : Input) → tick i .answer .number ≡ firstNo (callQuestions i)
@@ -18,3 +20,15 @@ number-is i = go (firstNo (callQuestions i)) refl
 
 pub demand1 : (i : Input) → Demand1 i
 demand1 i = record { refused = λ k e. tick-by i (suc k) e; accepted = λ e. tick-by i 0 e; number = number-is i }
+
+-- 02, 2.6: an observer's
+number-listened : (i : Listening) → listen i .number ≡ firstNo (listenQuestions i)
+unfolding listened
+number-listened i = go (firstNo (listenQuestions i)) refl
+  where
+    go : (k : ℕ) → firstNo (listenQuestions i) ≡ k → listen i .number ≡ k
+    go zero e = ap (λ (o : Listened). o .number) (listen-by i 0 e)
+    go (suc k) e = ap (λ (o : Listened). o .number) (listen-by i (suc k) e) ∙ not-listened-number i (suc k)
+
+pub demand1-observer : (i : Listening) → Demand1Observer i
+demand1-observer i = record { refused = λ k e. listen-by i (suc k) e; accepted = λ e. listen-by i 0 e; number = number-listened i }

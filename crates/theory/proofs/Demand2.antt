@@ -4,30 +4,30 @@ use Prim.Native.Nat.{ℕ, _+_, _≤_, _<_}
 use native.Mathlib.Omega.{arith}
 use mathlib.Core.Path.{_≡_, refl, sym, ap, subst, _∙_}
 use mathlib.Core.Logic.{_⊎_, inl, inr}
-use mathlib.Core.Bool.{Bool, true, false, _&&_, _||_, not, cond}
+use mathlib.Core.Bool.{Bool, true, false, cond}
 use mathlib.Core.List.{List, [], _∷_, _++_, List·Memᴰ}
 use mathlib.Core.Option.{Option, none, some}
 use lib.ListN.{length, take, set, getElem?}
 use lib.Seq.{take-append-le, take-append-seam}
 use borrow.Author.Tests.{ne-eqb}
-use Rattle.laws.specs.Lists.{every}
-use Rattle.laws.proofs.Numbers.{eq-or-ne, clash, and-intro, and-left, and-right, or-cases, false-of-not}
-use Rattle.laws.proofs.Lists.{every-mem, every-append-left, every-append-right, getElem?-mem, getElem?-lt, getElem?-set-same, getElem?-set-other, getElem?-snoc-cases}
+use Rattle.laws.proofs.Numbers.{eq-or-ne, true-or-false, clash, and-intro, and-left, and-right}
+use Rattle.laws.proofs.Lists.{getElem?-lt, getElem?-set-same, getElem?-set-other, getElem?-snoc-cases}
 use Rattle.model.specs.Setup.{Setup}
 use Rattle.model.specs.Published.{Message, Process, deliverableBy, buffered, advanced, eventOf, nextEvent, messageOf}
-use Rattle.model.specs.Run.{Node, Source, sentBy, stale, Call, Done, World, isAccepted, outputOf, doneOf, nodeAfter, act, actOn, runFrom, atStart, sends}
-use Rattle.theory.specs.Premises.{goodStart, allFresh, largestClock, staleUntil, allowed, keeps, isSent, noneStale}
-use Rattle.theory.specs.Demand2.{Published, messagesHeard, outcomeOf, publish, publishAll, publishedStart, Matched, Demand2Fresh}
+use Rattle.model.specs.Run.{Node, Call, Done, World, isAccepted, outputOf, doneOf, nodeAfter, act, runFrom, atStart, isEvent, sends}
+use Rattle.theory.specs.Premises.{goodStart, allFresh, largestClock, staleUntil, allowed, keeps, noneStale}
+use Rattle.theory.specs.Demand2.{Published, messagesHeard, outcomeOf, publishOn, publish, publishAll, publishedStart, Matched, Demand2Fresh}
 use Rattle.theory.specs.Demand3.{heardIn}
-use Rattle.theory.proofs.World.{act-is, sends-accepted, Good, Legal, EntryOk}
+use Rattle.theory.proofs.World.{act-is, after-at, after-other, nodesAfter, sends-event, event-accepted, event-kind, event-of, Good, Legal}
 use Rattle.theory.proofs.Event.{done-clock}
 use Rattle.theory.proofs.HearLoop.{some-inj}
 use Rattle.theory.proofs.Refused.{refused-node, refused-good}
 use Rattle.theory.proofs.Promises.{ends}
 use Rattle.theory.proofs.Invariant.{step-good}
 use Rattle.theory.proofs.Start.{allowed-fact}
+use Rattle.theory.proofs.Fresh.{settles-fresh, legal-fresh, none-stale-before, last-sent}
 use Rattle.theory.proofs.PublishedQueue.{messageDue}
-use Rattle.theory.proofs.PublishedRun.{Copies, Twin, Paired, LastAs, settles-fresh, sent-as-snoc, ranked-snoc, twin-stays}
+use Rattle.theory.proofs.PublishedRun.{Copies, Twin, Paired, LastAs, sent-as-snoc, ranked-snoc, twin-stays}
 use Rattle.theory.proofs.PublishedCall.{heardHere, none-overdue, frame-is, same-as, ranked-last, twin-moves}
 use Rattle.theory.proofs.PublishedStart.{paired-fresh}
 
@@ -45,9 +45,13 @@ NoneOverdue s u d =
 abbrev pub Follows : Setup → Published → Done → Type 0
 Follows s u d = Matched deliverableBy s u d × (d .call .step ≡ 1 → NoneOverdue s u d)
 
--- an accepted call
+-- an accepted call of a station
 module _ (s : Setup) (w : World) (u : Published) (call : Call) (node : Node) (v : ℕ) (paired : Paired s w u) (legal : Legal s 0 w call node v)
-    (p : Process) (p-at : getElem? (u .processes) (call .node) ≡ some p) (twin : Twin s (w .past) (u .sent) (call .node) node p) where
+    (p : Process) (p-at : getElem? (u .processes) (call .node) ≡ some p) (twin : Twin s (w .past) (u .sent) (call .node) node p)
+    (station : node .listens ≡ false) where
+  here : isEvent (doneOf node call) ≡ true
+  here = event-of (doneOf node call) (unfold doneOf in (legal .called .accepted)) (unfold doneOf in station)
+
   moved : doneOf node call .clock ≡ v
   moved = done-clock s node call (legal .called)
 
@@ -58,7 +62,7 @@ module _ (s : Setup) (w : World) (u : Published) (call : Call) (node : Node) (v 
         sent = u .sent ++ (sentHere s (u .sent) call v p ∷ []);
       }
   unfolding publish outcomeOf doneOf
-  published = rw (legal .called .accepted, p-at, moved) refl
+  published = rw (here, p-at, moved) refl
 
   -- what is sent is the message
   sent-is : (m : Message) → sentHere s (u .sent) call v p ≡ some m → (call .send ≡ true) × (messageOf (s .epsilon) v p (heardHere (u .sent) call) (call .payload) ≡ m)
@@ -76,7 +80,7 @@ module _ (s : Setup) (w : World) (u : Published) (call : Call) (node : Node) (v 
   copies : Copies s (messageOf (s .epsilon) v p (heardHere (u .sent) call) (call .payload)) (doneOf node call)
   copies =
       record {
-        frame = frame-is s w (u .sent) call node v p (paired .good) legal (paired .sent-as) (paired .ranked) twin;
+        frame = frame-is s w (u .sent) call node v p (paired .good) legal (paired .sent-as) (paired .ranked) twin station;
         clock-is = unfold messageOf eventOf nextEvent in (sym moved);
       }
 
@@ -85,13 +89,13 @@ module _ (s : Setup) (w : World) (u : Published) (call : Call) (node : Node) (v 
   last-as =
       record {
         each = λ h.
-            let send : call .send ≡ true = and-right (isAccepted (outputOf node call)) (call .send) h in (
+            let send : call .send ≡ true = and-right (isEvent (doneOf node call)) (call .send) h in (
               messageOf (s .epsilon) v p (heardHere (u .sent) call) (call .payload),
               ap (λ (b : Bool). cond b (some (messageOf (s .epsilon) v p (heardHere (u .sent) call) (call .payload))) none) send,
               copies,
             );
         only = λ m e.
-            (and-intro (legal .called .accepted) (sent-is m e .0), subst (λ (x : Message). Copies s x (doneOf node call)) (sent-is m e .1) copies);
+            (and-intro here (sent-is m e .0), subst (λ (x : Message). Copies s x (doneOf node call)) (sent-is m e .1) copies);
       }
 
   abbrev world′ : World
@@ -112,30 +116,30 @@ module _ (s : Setup) (w : World) (u : Published) (call : Call) (node : Node) (v 
     advanced deliverableBy (s .epsilon) (s .delta) v p (heardHere (u .sent) call),
     getElem?-set-same (u .processes) (call .node) (advanced deliverableBy (s .epsilon) (s .delta) v p (heardHere (u .sent) call))
         (getElem?-lt (u .processes) (call .node) p-at),
-    twin-moves s w (u .sent) call node v p (paired .good) legal (paired .sent-as) (paired .ranked) twin (sentHere s (u .sent) call v p) sent-event,
+    twin-moves s w (u .sent) call node v p (paired .good) legal (paired .sent-as) (paired .ranked) twin station (sentHere s (u .sent) call v p) sent-event,
   )
 
   quiet : (j : ℕ) → (call .node ≡ j → ⊥) → (k : ℕ) → heardIn j k (doneOf node call) ≡ false
   unfolding heardIn doneOf
   quiet j ne k = rw (legal .called .accepted, ne-eqb (call .node) j ne) refl
 
-  other-twin : (j : ℕ) (a : Node) → (call .node ≡ j → ⊥) → getElem? (w .nodes) j ≡ some a → Paired-at j a
-  other-twin j a ne at =
-      let (q, q-at, t) = paired .twins j a at in (
+  other-twin : (j : ℕ) (a : Node) → (call .node ≡ j → ⊥) → getElem? (w .nodes) j ≡ some a → a .listens ≡ false → Paired-at j a
+  other-twin j a ne at kind =
+      let (q, q-at, t) = paired .twins j a at kind in (
         q,
         getElem?-set-other (u .processes) (call .node) j (advanced deliverableBy (s .epsilon) (s .delta) v p (heardHere (u .sent) call)) ne ∙ q-at,
         twin-stays s (w .past) (u .sent) j a q (doneOf node call) (sentHere s (u .sent) call v p) (paired .sent-as .same-length) (paired .good .heard-before j)
             (quiet j ne) (λ m e. unfold doneOf in ne) t,
       )
 
-  all-twins : (j : ℕ) (a : Node) → getElem? (world′ .nodes) j ≡ some a → Paired-at j a
-  all-twins j a at =
+  all-twins : (j : ℕ) (a : Node) → getElem? (world′ .nodes) j ≡ some a → a .listens ≡ false → Paired-at j a
+  all-twins j a at kind =
       elim (eq-or-ne (call .node) j) [
         | inl e ↦
             let a-is : a ≡ nodeAfter node (call .step) (outputOf node call) =
             some-inj (sym at ∙ (ap (getElem? (world′ .nodes)) (sym e) ∙ getElem?-set-same (w .nodes) (call .node) (nodeAfter node (call .step) (outputOf node call)) (getElem?-lt (w .nodes) (call .node) (legal .at)))) in
             subst (λ (i : ℕ). Paired-at i a) e (subst (Paired-at (call .node)) (sym a-is) own-twin)
-        | inr e ↦ other-twin j a e (sym (getElem?-set-other (w .nodes) (call .node) j (nodeAfter node (call .step) (outputOf node call)) e) ∙ at)
+        | inr e ↦ other-twin j a e (sym (getElem?-set-other (w .nodes) (call .node) j (nodeAfter node (call .step) (outputOf node call)) e) ∙ at) kind
       ]
 
   pub paired-accepted : Paired s (act w call) (publish deliverableBy s u (doneOf node call))
@@ -148,7 +152,7 @@ module _ (s : Setup) (w : World) (u : Published) (call : Call) (node : Node) (v 
         ranked =
             ranked-snoc s (w .past) (u .sent) (doneOf node call) (sentHere s (u .sent) call v p) (paired .sent-as .same-length) (paired .ranked)
             (λ k m m′ d e m-at d-at here.
-            ranked-last s w (u .sent) call node v p (paired .good) legal (paired .sent-as) (paired .ranked) twin k m m′ d (sent-event m′ e) m-at d-at
+            ranked-last s w (u .sent) call node v p (paired .good) legal (paired .sent-as) (paired .ranked) twin station k m m′ d (sent-event m′ e) m-at d-at
             (unfold doneOf in here));
         twins = all-twins;
       }))
@@ -156,80 +160,90 @@ module _ (s : Setup) (w : World) (u : Published) (call : Call) (node : Node) (v 
   follows-here : Follows s u (doneOf node call)
   unfolding doneOf
   follows-here = (
-    (p, p-at, same-as s w (u .sent) call node v p (paired .good) legal (paired .sent-as) (paired .ranked) twin),
+    (p, p-at, same-as s w (u .sent) call node v p (paired .good) legal (paired .sent-as) (paired .ranked) twin station),
     λ one q q-at m t.
         let same : q ≡ p = some-inj (sym q-at ∙ p-at) in
         subst (λ (n : ℕ). n ≤ messageDue s m) (sym moved)
-        (none-overdue s w (u .sent) call node v p (paired .good) legal (paired .sent-as) (paired .ranked) twin one m
+        (none-overdue s w (u .sent) call node v p (paired .good) legal (paired .sent-as) (paired .ranked) twin station one m
         (subst (λ (x : Process). List·Memᴰ m (buffered x (heardHere (u .sent) call))) same t)),
   )
 
--- and sends nothing
+-- a call that is no event: it sends nothing, and leaves every station as it was
 module _ (s : Setup) (w : World) (u : Published) (call : Call) (node : Node) (paired : Paired s w u) (at : getElem? (w .nodes) (call .node) ≡ some node)
-    (refused : isAccepted (outputOf node call) ≡ false) where
+    (idle : isEvent (doneOf node call) ≡ false) (good : Good s 0 0 (act w call))
+    (same : (j : ℕ) (a : Node) → getElem? (nodesAfter (w .nodes) call node) j ≡ some a → a .listens ≡ false
+    → (getElem? (w .nodes) j ≡ some a) × ((k : ℕ) → heardIn j k (doneOf node call) ≡ false)) where
   none-sent : (m : Message) → _≡_ {A = Option Message} none (some m) → ⊥
   none-sent m e = let z : _≡_ {A = ℕ} 0 1 = cc in omega arith
 
   not-published : publish deliverableBy s u (doneOf node call) ≡ record { processes = u .processes; sent = u .sent ++ (none ∷ []) }
-  unfolding publish doneOf
-  not-published = let (p, p-at, twin) = paired .twins (call .node) node at in rw (refused, p-at) refl
+  unfolding publish
+  not-published = rw idle (go (getElem? (u .processes) (doneOf node call .node)))
+    where
+      go : (o : Option Process) → publishOn deliverableBy s u (doneOf node call) false o ≡ record { processes = u .processes; sent = u .sent ++ (none ∷ []) }
+      go none = refl
+      go (some p) = refl
 
-  same-node : (j : ℕ) (a : Node) → getElem? (set (w .nodes) (call .node) (nodeAfter node (call .step) (outputOf node call))) j ≡ some a → getElem? (w .nodes) j ≡ some a
-  same-node j a a-at =
-      elim (eq-or-ne (call .node) j) [
-        | inl e ↦
-            let a-is : nodeAfter node (call .step) (outputOf node call) ≡ a =
-            some-inj (sym (getElem?-set-same (w .nodes) (call .node) (nodeAfter node (call .step) (outputOf node call)) (getElem?-lt (w .nodes) (call .node) at))
-            ∙ (ap (getElem? (set (w .nodes) (call .node) (nodeAfter node (call .step) (outputOf node call)))) e ∙ a-at)) in
-            ap (getElem? (w .nodes)) (sym e) ∙ (at ∙ ap some (sym (refused-node node call refused) ∙ a-is))
-        | inr e ↦ sym (getElem?-set-other (w .nodes) (call .node) j (nodeAfter node (call .step) (outputOf node call)) e) ∙ a-at
-      ]
-
-  pub paired-refused : Paired s (act w call) (publish deliverableBy s u (doneOf node call))
-  paired-refused =
+  paired-idle : Paired s (act w call) (publish deliverableBy s u (doneOf node call))
+  paired-idle =
       subst (λ (y : World). Paired s y (publish deliverableBy s u (doneOf node call))) (sym (act-is w call node at))
-      (subst (Paired s (record { nodes = set (w .nodes) (call .node) (nodeAfter node (call .step) (outputOf node call)); past = w .past ++ (doneOf node call ∷ []) })) (sym not-published)
+      (subst (Paired s (record { nodes = nodesAfter (w .nodes) call node; past = w .past ++ (doneOf node call ∷ []) })) (sym not-published)
       (record {
-        good = subst (Good s 0 0) (act-is w call node at) (refused-good s 0 0 w call node (paired .good) at refused);
+        good = subst (Good s 0 0) (act-is w call node at) good;
         sent-as =
             sent-as-snoc s (w .past) (u .sent) (doneOf node call) none (paired .sent-as)
-            (record { each = λ h. absurd (clash (sends-accepted (doneOf node call) h) (unfold doneOf in refused)); only = λ m e. absurd (none-sent m e) });
+            (record { each = λ h. absurd (clash (sends-event (doneOf node call) h) idle); only = λ m e. absurd (none-sent m e) });
         ranked =
             ranked-snoc s (w .past) (u .sent) (doneOf node call) none (paired .sent-as .same-length) (paired .ranked)
             (λ k m m′ d e. absurd (none-sent m′ e));
-        twins = λ j a a-at.
-            let (q, q-at, t) = paired .twins j a (same-node j a a-at) in (
+        twins = λ j a a-at kind.
+            let (old, quiet) = same j a a-at kind in
+            let (q, q-at, t) = paired .twins j a old kind in (
               q,
               q-at,
               twin-stays s (w .past) (u .sent) j a q (doneOf node call) none (paired .sent-as .same-length) (paired .good .heard-before j)
-                  (λ k. unfold heardIn doneOf in (rw refused refl)) (λ m e. absurd (none-sent m e)) t,
+                  quiet (λ m e. absurd (none-sent m e)) t,
             );
       }))
 
--- without older frames nothing is left out
-sent-entry :
-    (s : Setup) (floor : ℕ) (past : List Done) (nodes : List Node) (v : ℕ) (bytes : List ℕ) (o : Source) → isSent o ≡ true
-    → EntryOk s floor past nodes v bytes o → EntryOk s 0 past nodes v bytes o
-unfolding isSent
-sent-entry s floor past nodes v bytes (sentBy k) h entry = entry
-sent-entry s floor past nodes v bytes stale h entry = absurd (clash h refl)
+-- a refused call
+paired-refused :
+    (s : Setup) (w : World) (u : Published) (call : Call) (node : Node) → Paired s w u → getElem? (w .nodes) (call .node) ≡ some node
+    → isAccepted (outputOf node call) ≡ false → Paired s (act w call) (publish deliverableBy s u (doneOf node call))
+paired-refused s w u call node paired at refused =
+    paired-idle s w u call node paired at (unfold isEvent doneOf in (rw refused refl)) (refused-good s 0 0 w call node (paired .good) at refused)
+    (λ j a a-at kind. (same-node j a a-at, λ k. unfold heardIn doneOf in (rw refused refl)))
+  where
+    same-node : (j : ℕ) (a : Node) → getElem? (nodesAfter (w .nodes) call node) j ≡ some a → getElem? (w .nodes) j ≡ some a
+    same-node j a a-at =
+        elim (eq-or-ne (call .node) j) [
+          | inl e ↦
+              let a-is : nodeAfter node (call .step) (outputOf node call) ≡ a = some-inj (sym (after-at (w .nodes) call node at) ∙ (ap (getElem? (nodesAfter (w .nodes) call node)) e ∙ a-at)) in
+              ap (getElem? (w .nodes)) (sym e) ∙ (at ∙ ap some (sym (refused-node node call refused) ∙ a-is))
+          | inr e ↦ sym (after-other (w .nodes) call node j e) ∙ a-at
+        ]
 
-legal-fresh : (s : Setup) (floor : ℕ) (w : World) (call : Call) (node : Node) (v : ℕ) → Legal s floor w call node v → every isSent (call .sources) ≡ true → Legal s 0 w call node v
-legal-fresh s floor w call node v legal all-sent =
-    record {
-      at = legal .at;
-      called = legal .called;
-      together = legal .together;
-      lengths = legal .lengths;
-      entry = λ e bytes o at o-at.
-          sent-entry s floor (w .past) (act w call .nodes) v bytes o (every-mem isSent all-sent (getElem?-mem (call .sources) e o-at))
-          (legal .entry e bytes o at o-at);
-    }
+-- and an observer's
+paired-observed :
+    (s : Setup) (w : World) (u : Published) (call : Call) (node : Node) (v : ℕ) → Paired s w u → Legal s 0 w call node v → node .listens ≡ true
+    → Paired s (act w call) (publish deliverableBy s u (doneOf node call))
+paired-observed s w u call node v paired legal listens =
+    paired-idle s w u call node paired (legal .at) (unfold isEvent doneOf in (rw (legal .called .accepted, listens) refl))
+    (step-good s 0 0 w call node v (paired .good) legal (ends s 0 0 (settles-fresh s) w call node v (paired .good) legal))
+    (λ j a a-at kind. let ne = other j a a-at kind in (sym (after-other (w .nodes) call node j ne) ∙ a-at, quiet j ne))
+  where
+    other : (j : ℕ) (a : Node) → getElem? (nodesAfter (w .nodes) call node) j ≡ some a → a .listens ≡ false → call .node ≡ j → ⊥
+    other j a a-at kind e =
+        let a-is : nodeAfter node (call .step) (outputOf node call) ≡ a = some-inj (sym (after-at (w .nodes) call node (legal .at)) ∙ (ap (getElem? (nodesAfter (w .nodes) call node)) e ∙ a-at)) in
+        clash (sym (ap (λ (x : Node). x .listens) a-is) ∙ (unfold nodeAfter in listens)) kind
+
+    quiet : (j : ℕ) → (call .node ≡ j → ⊥) → (k : ℕ) → heardIn j k (doneOf node call) ≡ false
+    quiet j ne k = unfold heardIn doneOf in (rw (legal .called .accepted, ne-eqb (call .node) j ne) refl)
 
 -- the calls of a list, one after the other
 abbrev pub AllFollow : Setup → Published → List Done → Type 0
 AllFollow s start past =
-    (j : ℕ) (d : Done) → getElem? past j ≡ some d → isAccepted (d .output) ≡ true → Follows s (publishAll deliverableBy s start (take j past)) d
+    (j : ℕ) (d : Done) → getElem? past j ≡ some d → isEvent d ≡ true → Follows s (publishAll deliverableBy s start (take j past)) d
 
 publish-snoc : (s : Setup) (past : List Done) (u : Published) (d : Done) → publishAll deliverableBy s u (past ++ (d ∷ [])) ≡ publish deliverableBy s (publishAll deliverableBy s u past) d
 unfolding publishAll
@@ -238,7 +252,7 @@ publish-snoc s (a ∷ past) u d = publish-snoc s past (publish deliverableBy s u
 
 follow-snoc :
     (s : Setup) (start : Published) (past : List Done) (d : Done) → AllFollow s start past
-    → (isAccepted (d .output) ≡ true → Follows s (publishAll deliverableBy s start past) d) → AllFollow s start (past ++ (d ∷ []))
+    → (isEvent d ≡ true → Follows s (publishAll deliverableBy s start past) d) → AllFollow s start (past ++ (d ∷ []))
 follow-snoc s start past d follow last j e at acc =
     elim (getElem?-snoc-cases past d j at) [
       | inl q ↦
@@ -247,33 +261,7 @@ follow-snoc s start past d follow last j e at acc =
       | inr q ↦
           subst (λ (n : ℕ). Follows s (publishAll deliverableBy s start (take n (past ++ (d ∷ [])))) e) (sym (q .0))
           (subst (λ (l : List Done). Follows s (publishAll deliverableBy s start l) e) (sym (take-append-seam past (d ∷ [])))
-          (subst (λ (y : Done). Follows s (publishAll deliverableBy s start past) y) (sym (q .1)) (last (ap (λ (y : Done). isAccepted (y .output)) (sym (q .1)) ∙ acc))))
-    ]
-
-none-stale-before : (calls : List Call) (w : World) → noneStale (runFrom w calls .past) ≡ true → noneStale (w .past) ≡ true
-unfolding runFrom
-none-stale-before [] w h = h
-none-stale-before (call ∷ calls) w h = go (getElem? (w .nodes) (call .node)) refl (none-stale-before calls (act w call) h)
-  where
-    go : (o : Option Node) → getElem? (w .nodes) (call .node) ≡ o → noneStale (act w call .past) ≡ true → noneStale (w .past) ≡ true
-    go none e k =
-        let idle : act w call ≡ w = unfold act in (ap (λ (o : Option Node). actOn o w call) e) in
-        subst (λ (y : World). noneStale (y .past) ≡ true) idle k
-    go (some node) e k =
-        unfold noneStale in
-        (every-append-left (λ d. not (isAccepted (d .output)) || every isSent (d .call .sources)) (w .past) (doneOf node call ∷ [])
-        (subst (λ (y : World). noneStale (y .past) ≡ true) (act-is w call node e) k))
-
--- the entries of the last call
-last-sent : (w : World) (call : Call) (node : Node) → getElem? (w .nodes) (call .node) ≡ some node → isAccepted (outputOf node call) ≡ true → noneStale (act w call .past) ≡ true → every isSent (call .sources) ≡ true
-unfolding noneStale every doneOf
-last-sent w call node at acc h =
-    let test : ((not (isAccepted (outputOf node call)) || every isSent (call .sources)) && true) ≡ true =
-    every-append-right (λ d. not (isAccepted (d .output)) || every isSent (d .call .sources)) (w .past) (doneOf node call ∷ [])
-    (subst (λ (y : World). noneStale (y .past) ≡ true) (act-is w call node at) h) in
-    elim (or-cases (not (isAccepted (outputOf node call))) (every isSent (call .sources)) (and-left (not (isAccepted (outputOf node call)) || every isSent (call .sources)) true test)) [
-      | inl q ↦ absurd (clash acc (false-of-not (isAccepted (outputOf node call)) q))
-      | inr q ↦ q
+          (subst (λ (y : Done). Follows s (publishAll deliverableBy s start past) y) (sym (q .1)) (last (ap isEvent (sym (q .1)) ∙ acc))))
     ]
 
 -- one call more
@@ -288,7 +276,7 @@ one-follows s x start w call paired follow ok fresh = go (allowed-fact s x (stal
 
     grown :
         (node : Node) → getElem? (w .nodes) (call .node) ≡ some node → Paired s (act w call) (publish deliverableBy s u (doneOf node call))
-        → (isAccepted (doneOf node call .output) ≡ true → Follows s u (doneOf node call))
+        → (isEvent (doneOf node call) ≡ true → Follows s u (doneOf node call))
         → Paired s (act w call) (publishAll deliverableBy s start (act w call .past)) × AllFollow s start (act w call .past)
     grown node at more last =
         let past-is : act w call .past ≡ w .past ++ (doneOf node call ∷ []) = ap (λ (y : World). y .past) (act-is w call node at) in (
@@ -301,11 +289,21 @@ one-follows s x start w call paired follow ok fresh = go (allowed-fact s x (stal
         × ((isAccepted (outputOf node call) ≡ false) ⊎ Legal s (staleUntil s x + s .epsilon) w call node (doneOf node call .clock))
         → Paired s (act w call) (publishAll deliverableBy s start (act w call .past)) × AllFollow s start (act w call .past)
     go (node, at, inl refused) =
-        grown node at (paired-refused s w u call node paired at refused) (λ acc. absurd (clash acc (unfold doneOf in refused)))
+        grown node at (paired-refused s w u call node paired at refused) (λ made. absurd (clash (event-accepted (doneOf node call) made) (unfold doneOf in refused)))
     go (node, at, inr legal) =
         let here = legal-fresh s (staleUntil s x + s .epsilon) w call node (doneOf node call .clock) legal (last-sent w call node at (legal .called .accepted) fresh) in
-        let (p, p-at, twin) = paired .twins (call .node) node at in
-        grown node at (paired-accepted s w u call node (doneOf node call .clock) paired here p p-at twin) (λ acc. follows-here s w u call node (doneOf node call .clock) paired here p p-at twin)
+        by-kind here (true-or-false (node .listens))
+      where
+        by-kind :
+            Legal s 0 w call node (doneOf node call .clock) → (node .listens ≡ true) ⊎ (node .listens ≡ false)
+            → Paired s (act w call) (publishAll deliverableBy s start (act w call .past)) × AllFollow s start (act w call .past)
+        by-kind here (inl listens) =
+            grown node at (paired-observed s w u call node (doneOf node call .clock) paired here listens)
+            (λ made. absurd (clash listens (unfold doneOf in (event-kind (doneOf node call) made))))
+        by-kind here (inr station) =
+            let (p, p-at, twin) = paired .twins (call .node) node at station in
+            grown node at (paired-accepted s w u call node (doneOf node call .clock) paired here p p-at twin station)
+            (λ made. follows-here s w u call node (doneOf node call .clock) paired here p p-at twin station)
 
 all-follow :
     (s : Setup) (x : ℕ) (start : Published) (calls : List Call) (w : World) → Paired s w (publishAll deliverableBy s start (w .past)) → AllFollow s start (w .past)

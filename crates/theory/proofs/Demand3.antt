@@ -1,9 +1,10 @@
--- Demand 3: stabilization from any state.
+-- Demand 3: stabilization from any state; and the same of every message from a fresh start.
 -- Assumes nothing.
 use Prim.Native.Nat.{ℕ, _+_, _*_, _≤_, _<_, Ordering·lt}
 use native.Mathlib.Omega.{arith}
 use native.Mathlib.Numerals.{add-one}
 use mathlib.Core.Path.{_≡_, sym, ap, subst, _∙_}
+use mathlib.Core.Logic.{inl, inr}
 use mathlib.Core.Bool.{true, _||_, cond}
 use mathlib.Core.List.{List, [], _∷_, _++_, map}
 use mathlib.Core.Option.{some}
@@ -16,13 +17,14 @@ use Rattle.laws.proofs.Lex.{lt-isLess}
 use Rattle.model.specs.Holdback.{heldBytes}
 use Rattle.laws.specs.Lex.{lexCompare}
 use Rattle.model.specs.Setup.{Setup}
-use Rattle.model.specs.Run.{Node, sentBy, Call, Done, World, act, isAccepted, runFrom, atStart, sends, messageBytes}
-use Rattle.theory.specs.Premises.{goodStart, largestClock, staleUntil, keeps, allowed}
-use Rattle.theory.specs.Demand3.{coveredFrom, covered, isFrom, heardIn, messageKey, earlier, dueHere, coveredFrame, Promised, Demand3}
-use Rattle.theory.proofs.HearLoop.{Settles, followed-sends}
-use Rattle.theory.proofs.World.{sends-accepted, Good, Kept, AllKept, eventKey, followed, followedFrame, dueFollowed, heardAt}
-use Rattle.theory.proofs.Stabilize.{Legals, run-all}
+use Rattle.model.specs.Run.{Node, sentBy, Call, Done, World, doneOf, act, isAccepted, runFrom, atStart, isEvent, messageBytes}
+use Rattle.theory.specs.Premises.{goodStart, largestClock, staleUntil, keeps, allowed, noneStale}
+use Rattle.theory.specs.Demand3.{coveredFrom, covered, isFrom, heardIn, messageKey, earlier, dueHere, coveredFrame, Promised, Demand3, Demand3Fresh}
+use Rattle.theory.proofs.HearLoop.{Settles, covered-sends}
+use Rattle.theory.proofs.World.{sends-event, event-accepted, CallEvent, Good, AllKept, AllKinds, eventKey, heardAt}
+use Rattle.theory.proofs.Stabilize.{Allowed, Legals, run-all}
 use Rattle.theory.proofs.Start.{good-start, largest-clock, allowed-fact}
+use Rattle.theory.proofs.Fresh.{settles-fresh, good-fresh, legal-fresh, none-stale-before, last-sent}
 use Rattle.theory.proofs.Chains.{in-take, below-take, leads-less}
 
 -- the clock from which counts are right
@@ -51,66 +53,86 @@ legals s x (call ∷ calls) w h = (
   legals s x calls (act w call) (and-right (allowed s x w call) (keeps s x (act w call) calls) h),
 )
 
+-- without older frames no call is left out
+legals-fresh :
+    (s : Setup) (x : ℕ) (calls : List Call) (w : World) → keeps s x w calls ≡ true → noneStale (runFrom w calls .past) ≡ true
+    → Legals s 0 0 (settles-fresh s) w calls
+unfolding keeps runFrom Legals
+legals-fresh s x [] w h none-old = tt
+legals-fresh s x (call ∷ calls) w h none-old = (
+  one (allowed-fact s x (rightFrom s x) w call (early s x) (and-left (allowed s x w call) (keeps s x (act w call) calls) h)),
+  legals-fresh s x calls (act w call) (and-right (allowed s x w call) (keeps s x (act w call) calls) h) none-old,
+)
+  where
+    one : Allowed s (rightFrom s x) (coveredFrom s x) (settles s x) w call → Allowed s 0 0 (settles-fresh s) w call
+    one (node, at, inl refused) = (node, at, inl refused)
+    one (node, at, inr legal) = (
+      node,
+      at,
+      inr (legal-fresh s (rightFrom s x) w call node (doneOf node call .clock) legal
+          (last-sent w call node at (legal .called .accepted) (none-stale-before calls (act w call) none-old))),
+    )
+
 -- the promises of all accepted calls are demand 3's
-module _ (s : Setup) (x : ℕ) (past : List Done) (kept : AllKept s (coveredFrom s x) past) where
-  covered-followed : (m : Done) → covered s x m ≡ true → followed (coveredFrom s x) m ≡ true
-  unfolding covered followed
-  covered-followed m h = h
+module _ (s : Setup) (from : ℕ) (nodes : List Node) (past : List Done) (kept : AllKept s from past) (kinds : AllKinds nodes past) where
+  covered-event : (m : Done) → covered from m ≡ true → isEvent m ≡ true
+  covered-event m h = sends-event m (covered-sends from m h)
 
-  covered-sends : (m : Done) → covered s x m ≡ true → sends m ≡ true
-  covered-sends m h = followed-sends (coveredFrom s x) m (covered-followed m h)
-
-  covered-accepted : (m : Done) → covered s x m ≡ true → isAccepted (m .output) ≡ true
-  covered-accepted m h = sends-accepted m (covered-sends m h)
-
-  keep : (j : ℕ) (d : Done) → getElem? past j ≡ some d → covered s x d ≡ true → Kept s (coveredFrom s x) (take j past) d
-  keep j d at h = kept j d at (covered-accepted d h)
+  keep : (j : ℕ) (d : Done) → getElem? past j ≡ some d → covered from d ≡ true → CallEvent s d
+  keep j d at h = kept j d at (event-accepted d (covered-event d h)) .event (covered-event d h)
 
   hears :
       (j : ℕ) (d : Done) → getElem? past j ≡ some d → isAccepted (d .output) ≡ true
-      → (e k : ℕ) (m : Done) → getElem? (d .call .sources) e ≡ some (sentBy k) → getElem? past k ≡ some m → covered s x m ≡ true
+      → (e k : ℕ) (m : Done) → getElem? (d .call .sources) e ≡ some (sentBy k) → getElem? past k ≡ some m → covered from m ≡ true
       → getD (d .output .verdicts) e 0
       ≡ cond (any (heardIn (d .node) k) (take j past) || any (isFrom k) (take e (d .call .sources))) 16 0
   unfolding heardAt
   hears j d at acc e k m o-at m-at h =
       let r = kept j d at acc .sent-before e k o-at in
-      kept j d at acc .hearing e k m o-at (in-take j past k (below-take j past k (r .1)) m-at) (covered-followed m h)
+      kept j d at acc .hearing e k m o-at (in-take j past k (below-take j past k (r .1)) m-at) h
 
   delivers :
       (j : ℕ) (d : Done) → getElem? past j ≡ some d → isAccepted (d .output) ≡ true
-      → select (coveredFrame s x (d .clock)) (heldBytes (s .epsilon) (d .output .delivery))
-      ≡ map messageBytes (sortBy (earlier s) (dueHere s x (take (j + 1) past) (d .node) (d .last) (d .clock)))
-  unfolding coveredFrame followedFrame dueHere dueFollowed covered followed
+      → select (coveredFrame s from (d .clock)) (heldBytes (s .epsilon) (d .output .delivery))
+      ≡ map messageBytes (sortBy (earlier s) (dueHere s from (take (j + 1) past) (d .node) (d .last) (d .clock)))
   delivers j d at acc =
-      subst (λ (l : List Done). select (coveredFrame s x (d .clock)) (heldBytes (s .epsilon) (d .output .delivery)) ≡ map messageBytes (sortBy (earlier s) (dueHere s x l (d .node) (d .last) (d .clock))))
+      subst (λ (l : List Done). select (coveredFrame s from (d .clock)) (heldBytes (s .epsilon) (d .output .delivery)) ≡ map messageBytes (sortBy (earlier s) (dueHere s from l (d .node) (d .last) (d .clock))))
       (sym more) (kept j d at acc .delivering)
     where
       more : take (j + 1) past ≡ take j past ++ (d ∷ [])
       more =
           rw add-one (take-suc past j d (getElem?-lt past j at) ∙ ap (λ (y : Done). take j past ++ (y ∷ [])) (getElem?-getD past j d at))
 
-  comes : (a b : Done) (i j : ℕ) → getElem? past i ≡ some a → getElem? past j ≡ some b → covered s x a ≡ true → covered s x b ≡ true
+  comes : (a b : Done) (i j : ℕ) → getElem? past i ≡ some a → getElem? past j ≡ some b → covered from a ≡ true → covered from b ≡ true
       → lexCompare (eventKey s a) (eventKey s b) ≡ Ordering·lt → earlier s a b ≡ true
   unfolding earlier messageKey eventKey
   comes a b i j p q ha hb l =
-      rw (keep i a p ha .event .message (covered-sends a ha), keep j b q hb .event .message (covered-sends b hb)) (lt-isLess l)
+      rw (keep i a p ha .message (covered-sends from a ha), keep j b q hb .message (covered-sends from b hb)) (lt-isLess l)
 
-  promises : Promised s x past
+  promises : Promised s from past
   promises =
       record {
-        sending = λ j d at h. keep j d at h .event .writer (covered-sends d h);
+        sending = λ j d at h. keep j d at h .writer (covered-sends from d h);
         hearing = hears;
         delivering = delivers;
         causality = λ i j a b l p q ha hb.
-            comes a b i j p q ha hb (leads-less s (coveredFrom s x) past kept i j a b l p q (covered-accepted a ha) (covered-accepted b hb));
+            comes a b i j p q ha hb (leads-less s from nodes past kept kinds i j a b l p q (covered-event a ha) (covered-event b hb));
       }
 
-nothing-kept : (s : Setup) (from : ℕ) → AllKept s from []
-nothing-kept s from j d e = let z : j < 0 = getElem?-lt [] j e in absurd (omega arith)
+-- of a list of calls from a start that is good
+run-promises :
+    (s : Setup) (floor from : ℕ) (right : Settles s floor from) (nodes : List Node) (calls : List Call) → Good s floor from (atStart nodes)
+    → Legals s floor from right (atStart nodes) calls → Promised s from (runFrom (atStart nodes) calls .past)
+unfolding atStart
+run-promises s floor from right nodes calls good legal =
+    let r = run-all s floor from right calls (atStart nodes) good (λ j d e. absurd (let z : j < 0 = getElem?-lt [] j e in omega arith)) legal in
+    promises s from (runFrom (atStart nodes) calls .nodes) (runFrom (atStart nodes) calls .past) (r .1) (r .0 .kinds)
 
 pub demand3 : Demand3
-unfolding atStart
 demand3 s nodes calls start kept =
-    promises s (largestClock nodes) (runFrom (atStart nodes) calls .past)
-    (run-all s (rightFrom s (largestClock nodes)) (coveredFrom s (largestClock nodes)) (settles s (largestClock nodes)) calls (atStart nodes) (starts s nodes start) (nothing-kept s (coveredFrom s (largestClock nodes)))
-    (legals s (largestClock nodes) calls (atStart nodes) kept))
+    run-promises s (rightFrom s (largestClock nodes)) (coveredFrom s (largestClock nodes)) (settles s (largestClock nodes)) nodes calls (starts s nodes start)
+    (legals s (largestClock nodes) calls (atStart nodes) kept)
+
+pub demand3-fresh : Demand3Fresh
+demand3-fresh s nodes calls start fresh kept none-old =
+    run-promises s 0 0 (settles-fresh s) nodes calls (good-fresh s nodes start fresh) (legals-fresh s (largestClock nodes) calls (atStart nodes) kept none-old)

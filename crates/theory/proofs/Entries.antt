@@ -2,7 +2,7 @@
 -- Assumes nothing.
 use Prim.Native.Nat.{ℕ, suc, _%_, _≤_, _<_}
 use native.Mathlib.Omega.{arith}
-use mathlib.Core.Path.{_≡_, refl, sym, ap, ap₂, _∙_}
+use mathlib.Core.Path.{_≡_, refl, sym, ap, _∙_}
 use mathlib.Core.Bool.{Bool, true, false, _||_, or-false}
 use mathlib.Core.List.{List, [], _∷_, _++_}
 use mathlib.Core.Option.{some}
@@ -18,12 +18,13 @@ use Rattle.model.specs.Frame.{decode}
 use Rattle.model.specs.Batch.{batchEntries}
 use Rattle.model.specs.Question.{firstNo}
 use Rattle.model.specs.Judge.{Asking, Heard, hear, hearOne, judgeQuestions, absorbBy, absorbAll}
-use Rattle.model.specs.Tick.{opening, heardOf, heardStamp, openingStamp}
+use Rattle.model.specs.Tick.{openedQueue, heardOf, heardStamp, openingStamp}
 use Rattle.model.specs.Run.{Node, Source, sentBy, stale, Call, Done, inputOf, isAccepted, outputOf, doneOf}
 use Rattle.theory.specs.Demand3.{heardIn, isFrom}
-use Rattle.lemmas.proofs.OneTick.{numbersOf, heard-verdicts, verdict-byte}
-use Rattle.theory.proofs.Event.{accepted-input, setup-at, clock-at, opens-stamp, opens-queue}
-use Rattle.theory.proofs.World.{Due-call, heardAt, restAt}
+use Rattle.lemmas.proofs.Board.{numbersOf, hear-verdicts, board-verdict}
+use Rattle.theory.proofs.Event.{setup-at, clock-at, opens-stamp}
+use Rattle.theory.proofs.Boards.{heardOn, verdicts-here}
+use Rattle.theory.proofs.World.{Due-call, Ticks, heardAt, askingBy, askingAt, leastAt, restAt}
 
 -- general
 or-assoc : (a b c : Bool) → (a || (b || (c || false))) ≡ ((a || b) || c)
@@ -75,13 +76,13 @@ hear-snoc s v asking h [] b = refl
 hear-snoc s v asking h (x ∷ xs) b = hear-snoc s v asking (hearOne s v asking h x) xs b
 
 absorb-snoc :
-    (s : Setup) (v : ℕ) (h : Heard) (t : Timestamp) (xs : List (List ℕ)) (b : List ℕ)
-    → absorbAll s v t (xs ++ (b ∷ [])) (numbersOf s v h (xs ++ (b ∷ [])))
-    ≡ absorbBy (firstNo (judgeQuestions s v (hear s v (judgeQuestions s v) h xs .queue) b)) s v (decode (s .epsilon) b) (absorbAll s v t xs (numbersOf s v h xs))
+    (s : Setup) (v : ℕ) (asking : Asking) (h : Heard) (t : Timestamp) (xs : List (List ℕ)) (b : List ℕ)
+    → absorbAll s v t (xs ++ (b ∷ [])) (numbersOf s v asking h (xs ++ (b ∷ [])))
+    ≡ absorbBy (firstNo (asking (hear s v asking h xs .queue) b)) s v (decode (s .epsilon) b) (absorbAll s v t xs (numbersOf s v asking h xs))
 unfolding hear absorbAll numbersOf
-absorb-snoc s v h t [] b = refl
-absorb-snoc s v h t (x ∷ xs) b =
-    absorb-snoc s v (hearOne s v (judgeQuestions s v) h x) (absorbBy (firstNo (judgeQuestions s v (h .queue) x)) s v (decode (s .epsilon) x) t) xs b
+absorb-snoc s v asking h t [] b = refl
+absorb-snoc s v asking h t (x ∷ xs) b =
+    absorb-snoc s v asking (hearOne s v asking h x) (absorbBy (firstNo (asking (h .queue) x)) s v (decode (s .epsilon) x) t) xs b
 
 -- a node's call for v
 module _ (s : Setup) (v : ℕ) (node : Node) (call : Call) where
@@ -94,66 +95,64 @@ module _ (s : Setup) (v : ℕ) (node : Node) (call : Call) where
 
   -- what hearing has made of the queue before entry e
   unfoldable pub stateAt : ℕ → Heard
-  stateAt e = hear s (v % s .modulus) (judgeQuestions s (v % s .modulus)) startHere (take e entries)
+  stateAt e = hear s (v % s .modulus) (askingAt s v node) startHere (take e entries)
 
   -- and of the stamp
   unfoldable pub stampAt : ℕ → Timestamp
-  stampAt e = absorbAll s (v % s .modulus) (openingStamp s (v % s .modulus) (node .tables)) (take e entries) (numbersOf s (v % s .modulus) startHere (take e entries))
+  stampAt e =
+      absorbAll s (v % s .modulus) (openingStamp s (v % s .modulus) (node .tables)) (take e entries)
+      (numbersOf s (v % s .modulus) (askingAt s v node) startHere (take e entries))
 
-  pub state-suc :
-      (e : ℕ) → e < length entries
-      → stateAt (suc e) ≡ hearOne s (v % s .modulus) (judgeQuestions s (v % s .modulus)) (stateAt e) (getD entries e [])
+  pub state-suc : (e : ℕ) → e < length entries → stateAt (suc e) ≡ hearOne s (v % s .modulus) (askingAt s v node) (stateAt e) (getD entries e [])
   unfolding stateAt
   state-suc e h =
-      ap (hear s (v % s .modulus) (judgeQuestions s (v % s .modulus)) startHere) (take-suc entries e [] h)
-      ∙ hear-snoc s (v % s .modulus) (judgeQuestions s (v % s .modulus)) startHere (take e entries) (getD entries e [])
+      ap (hear s (v % s .modulus) (askingAt s v node) startHere) (take-suc entries e [] h)
+      ∙ hear-snoc s (v % s .modulus) (askingAt s v node) startHere (take e entries) (getD entries e [])
 
   pub stamp-suc :
       (e : ℕ) → e < length entries
       → stampAt (suc e)
-      ≡ absorbBy (firstNo (judgeQuestions s (v % s .modulus) (stateAt e .queue) (getD entries e []))) s (v % s .modulus) (decode (s .epsilon) (getD entries e [])) (stampAt e)
+      ≡ absorbBy (firstNo (askingAt s v node (stateAt e .queue) (getD entries e []))) s (v % s .modulus) (decode (s .epsilon) (getD entries e [])) (stampAt e)
   unfolding stateAt stampAt
   stamp-suc e h =
-      ap (λ (l : List (List ℕ)). absorbAll s (v % s .modulus) (openingStamp s (v % s .modulus) (node .tables)) l (numbersOf s (v % s .modulus) startHere l)) (take-suc entries e [] h)
-      ∙ absorb-snoc s (v % s .modulus) startHere (openingStamp s (v % s .modulus) (node .tables)) (take e entries) (getD entries e [])
+      ap (λ (l : List (List ℕ)). absorbAll s (v % s .modulus) (openingStamp s (v % s .modulus) (node .tables)) l (numbersOf s (v % s .modulus) (askingAt s v node) startHere l)) (take-suc entries e [] h)
+      ∙ absorb-snoc s (v % s .modulus) (askingAt s v node) startHere (openingStamp s (v % s .modulus) (node .tables)) (take e entries) (getD entries e [])
 
-  -- an accepted one
-  module _ (c : Due-call s node call v) where
-    pub state-is :
-        (xs : List (List ℕ))
-        → hear (inputOf node call .setup) (inputOf node call .clock) (judgeQuestions (inputOf node call .setup) (inputOf node call .clock)) (opening (inputOf node call)) xs
-        ≡ hear s (v % s .modulus) (judgeQuestions s (v % s .modulus)) startHere xs
-    state-is xs = rw (opens-queue s node call c, setup-at s node call c, clock-at s node call c) refl
+  -- after the last entry
+  pub state-end : heardOn s v node call ≡ stateAt (length entries)
+  unfolding stateAt
+  state-end = ap (hear s (v % s .modulus) (askingAt s v node) startHere) (sym (take-all (length entries) entries (omega arith)))
+
+  -- the verdict of an entry, by the state before it
+  pub state-verdict :
+      Due-call s node call v → (e : ℕ) (bytes : List ℕ) → getElem? entries e ≡ some bytes
+      → getD (outputOf node call .verdicts) e 0 ≡ firstNo (askingAt s v node (stateAt e .queue) bytes)
+  unfolding stateAt
+  state-verdict c e bytes at =
+      ap (λ (l : List ℕ). getD l e 0) (verdicts-here s node call c)
+      ∙ board-verdict s (v % s .modulus) (leastAt s v node) (askingAt s v node) (node .holdback) entries (call .verdicts) e bytes at
+
+  -- a station's
+  module _ (c : Ticks s node call v) where
+    pub asking-is : askingAt s v node ≡ judgeQuestions s (v % s .modulus)
+    asking-is = ap (λ (b : Bool). askingBy b s (v % s .modulus)) (c .station)
 
     pub heard-all : heardOf (inputOf node call) ≡ hear s (v % s .modulus) (judgeQuestions s (v % s .modulus)) startHere entries
-    unfolding heardOf
-    heard-all = unfold inputOf in (state-is entries)
+    unfolding heardOf openedQueue inputOf
+    heard-all = rw (c .due .setup-is, c .due .clock-is, c .station) refl
 
     pub absorbed-all :
         heardStamp (inputOf node call)
-        ≡ absorbAll s (v % s .modulus) (openingStamp s (v % s .modulus) (node .tables)) entries (numbersOf s (v % s .modulus) startHere entries)
+        ≡ absorbAll s (v % s .modulus) (openingStamp s (v % s .modulus) (node .tables)) entries (numbersOf s (v % s .modulus) (judgeQuestions s (v % s .modulus)) startHere entries)
     unfolding heardStamp
     absorbed-all =
-        rw (heard-verdicts (inputOf node call), opens-stamp s node call c, opens-queue s node call c, setup-at s node call c, clock-at s node call c) (unfold inputOf in refl)
-
-    pub state-end : heardOf (inputOf node call) ≡ stateAt (length entries)
-    unfolding stateAt
-    state-end =
-        heard-all ∙ ap (hear s (v % s .modulus) (judgeQuestions s (v % s .modulus)) startHere) (sym (take-all (length entries) entries (omega arith)))
+        rw (heard-all, hear-verdicts s (v % s .modulus) (judgeQuestions s (v % s .modulus)) startHere entries, opens-stamp s node call (c .due), setup-at s node call (c .due), clock-at s node call (c .due))
+        (unfold inputOf in refl)
 
     pub stamp-end : heardStamp (inputOf node call) ≡ stampAt (length entries)
     unfolding stampAt
     stamp-end =
         absorbed-all
-        ∙ ap (λ (l : List (List ℕ)). absorbAll s (v % s .modulus) (openingStamp s (v % s .modulus) (node .tables)) l (numbersOf s (v % s .modulus) startHere l))
-        (sym (take-all (length entries) entries (omega arith)))
-
-    -- the verdict of an entry, by the state before it
-    pub state-verdict :
-        (e : ℕ) (bytes : List ℕ) → getElem? entries e ≡ some bytes
-        → getD (outputOf node call .verdicts) e 0 ≡ firstNo (judgeQuestions s (v % s .modulus) (stateAt e .queue) bytes)
-    unfolding stateAt outputOf
-    state-verdict e bytes at =
-        verdict-byte (inputOf node call) (accepted-input node call (c .accepted)) e bytes (unfold inputOf in at)
-        ∙ (unfold inputOf in (ap (λ (h : Heard). firstNo (judgeQuestions (call .setup) (call .clock) (h .queue) bytes)) (state-is (take e entries)))
-        ∙ ap₂ (λ (t : Setup) (u : ℕ). firstNo (judgeQuestions t u (stateAt e .queue) bytes)) (setup-at s node call c) (clock-at s node call c))
+        ∙ (ap (λ (asking : Asking). absorbAll s (v % s .modulus) (openingStamp s (v % s .modulus) (node .tables)) entries (numbersOf s (v % s .modulus) asking startHere entries)) (sym asking-is)
+        ∙ ap (λ (l : List (List ℕ)). absorbAll s (v % s .modulus) (openingStamp s (v % s .modulus) (node .tables)) l (numbersOf s (v % s .modulus) (askingAt s v node) startHere l))
+        (sym (take-all (length entries) entries (omega arith))))

@@ -1,37 +1,41 @@
--- One accepted call of a node, by itself: its frame, how it opens, what it leaves.
+-- One accepted call of a station, by itself: its stamp and its frame.
 -- Assumes nothing.
-use Prim.Native.Nat.{ℕ, _+_, _-_, _*_, _%_, _≤_, _<_}
+use Prim.Native.Nat.{ℕ, _+_, _*_, _%_, _≤_, _<_}
 use native.Mathlib.Omega.{arith}
 use native.Mathlib.Nat.{mod-lt}
 use mathlib.Core.Path.{_≡_, refl, sym, ap, ap₂, subst, _∙_}
 use mathlib.Core.Bool.{true}
-use mathlib.Core.List.{List, [], _++_, map, List·Memᴰ}
-use lib.ListN.{length}
+use mathlib.Core.List.{List}
+use lib.ListN.{length, take}
 use borrow.Author.Tests.{eqb-true}
-use Rattle.laws.specs.Lists.{every, select, overlay}
+use Rattle.laws.specs.Lists.{overlay}
 use Rattle.laws.proofs.Numbers.{and-right}
-use Rattle.laws.proofs.Sorted.{Sorted}
 use Rattle.model.specs.Setup.{Setup, width}
 use Rattle.model.specs.Timestamp.{Timestamp, trimmed, widened, countOwn}
-use Rattle.model.specs.Frame.{Frame, encode, decode}
-use Rattle.model.specs.Order.{readingOf, keyNear}
-use Rattle.model.specs.Holdback.{heldBytes, held, passes}
+use Rattle.model.specs.Frame.{encode, decode}
+use Rattle.model.specs.Order.{readingOf}
 use Rattle.model.specs.Codec.{frameOf, writeBy}
-use Rattle.model.specs.Tick.{leastDue, openingStamp, openingQueue, openedQueue, dueBefore, earlyOf, opening, heardOf, heardStamp, newStamp, sentBytes, dueNow, deliveredOf, keptOf, tick}
-use Rattle.model.specs.Run.{Node, Call, Done, inputOf, isAccepted, outputOf, doneOf, nodeAfter, movedClock, sends, messageBytes, messageFrame}
+use Rattle.model.specs.Tick.{Output, openingStamp, heardStamp, newStamp, sentBytes, tick}
+use Rattle.model.specs.Run.{Node, Call, Done, inputOf, isAccepted, outputOf, doneOf, nodeAfter, movedClock, isEvent, sends, messageBytes, messageFrame}
 use Rattle.theory.specs.Demand3.{newTimestamp, written}
 use Rattle.lemmas.proofs.Bounds.{Limits, Sound, FrameOk}
 use Rattle.lemmas.proofs.Questions.{setup-to}
 use Rattle.lemmas.proofs.Counts.{Left, trimmed-widened, trimmed-same}
 use Rattle.lemmas.proofs.RoundTrip.{decode-encode, length-encode}
-use Rattle.lemmas.proofs.Queue.{QueueLeft, bytes-passed, reading-true}
+use Rattle.lemmas.proofs.Queue.{reading-true}
 use Rattle.theory.proofs.Readers.{written-to}
-use Rattle.lemmas.proofs.OneTick.{Accepted, accepted-call, tables-are, sent-is, outgoing-is, new-left, new-sound, own-next, kept-left, kept-held, shelf-sound, delivered-frames, delivered-sorted, delivered-bytes, sent-bytes}
-use Rattle.theory.proofs.World.{eventFrame, earlyAt, restAt, Memory, CallEvent, Due-call}
+use Rattle.lemmas.proofs.OneTick.{Accepted, accepted-call, tables-are, sent-is, outgoing-is, new-left, new-sound, own-next, sent-bytes}
+use Rattle.theory.proofs.World.{eventFrame, Tables, CallEvent, Due-call, Ticks}
 
-pub accepted-input : (node : Node) (call : Call) → isAccepted (outputOf node call) ≡ true → Accepted (inputOf node call)
-unfolding isAccepted outputOf
-accepted-input node call acc = accepted-call (inputOf node call) (eqb-true _ _ acc)
+-- a station's call is a tick
+pub output-tick : (s : Setup) (node : Node) (call : Call) {v : ℕ} → Ticks s node call v → outputOf node call ≡ tick (inputOf node call)
+unfolding outputOf
+output-tick s node call c = rw (c .station) refl
+
+pub accepted-input : (s : Setup) (node : Node) (call : Call) {v : ℕ} → Ticks s node call v → Accepted (inputOf node call)
+unfolding isAccepted
+accepted-input s node call c =
+    accepted-call (inputOf node call) (eqb-true _ _ (subst (λ (o : Output). isAccepted o ≡ true) (output-tick s node call c) (c .due .accepted)))
 
 pub setup-at : (s : Setup) (node : Node) (call : Call) {v : ℕ} → Due-call s node call v → inputOf node call .setup ≡ s
 unfolding inputOf
@@ -50,91 +54,92 @@ unfolding nodeAfter movedClock
 after-clock s node call c = rw (c .accepted) (sym (c .turn))
 
 -- the interface's facts, with the one setup
-pub limits-at : (s : Setup) (node : Node) (call : Call) {v : ℕ} → Due-call s node call v → Limits s
+pub limits-at : (s : Setup) (node : Node) (call : Call) {v : ℕ} → Ticks s node call v → Limits s
 unfolding inputOf
-limits-at s node call c = subst (λ (t : Setup). Limits t) (c .setup-is) (accepted-input node call (c .accepted) .limits)
+limits-at s node call c = subst (λ (t : Setup). Limits t) (c .due .setup-is) (accepted-input s node call c .limits)
 
-pub sound-at : (s : Setup) (node : Node) (call : Call) {v : ℕ} → Due-call s node call v → Sound (s .n) (s .epsilon) (newStamp (inputOf node call))
+pub sound-at : (s : Setup) (node : Node) (call : Call) {v : ℕ} → Ticks s node call v → Sound (s .n) (s .epsilon) (newStamp (inputOf node call))
 sound-at s node call c =
-    subst (λ (t : Setup). Sound (t .n) (t .epsilon) (newStamp (inputOf node call))) (setup-at s node call c)
-    (new-sound (inputOf node call) (accepted-input node call (c .accepted)))
+    subst (λ (t : Setup). Sound (t .n) (t .epsilon) (newStamp (inputOf node call))) (setup-at s node call (c .due))
+    (new-sound (inputOf node call) (accepted-input s node call c))
 
 -- the answer's tables
-pub tables-made : (s : Setup) (node : Node) (call : Call) {v : ℕ} → Due-call s node call v → outputOf node call .answer .tables ≡ widened (newStamp (inputOf node call))
-unfolding outputOf
-tables-made s node call c = tables-are (inputOf node call) (accepted-input node call (c .accepted))
+pub tables-made : (s : Setup) (node : Node) (call : Call) {v : ℕ} → Ticks s node call v → outputOf node call .answer .tables ≡ widened (newStamp (inputOf node call))
+tables-made s node call c =
+    ap (λ (o : Output). o .answer .tables) (output-tick s node call c) ∙ tables-are (inputOf node call) (accepted-input s node call c)
 
-stamp-r : (s : Setup) (node : Node) (call : Call) {v : ℕ} → Due-call s node call v → newStamp (inputOf node call) .r ≡ v % s .modulus
+stamp-r : (s : Setup) (node : Node) (call : Call) {v : ℕ} → Ticks s node call v → newStamp (inputOf node call) .r ≡ v % s .modulus
 unfolding newStamp countOwn
-stamp-r s node call c = clock-at s node call c
+stamp-r s node call c = clock-at s node call (c .due)
 
-tables-stamp : (s : Setup) (node : Node) (call : Call) {v : ℕ} → Due-call s node call v → newTimestamp s (doneOf node call) ≡ widened (newStamp (inputOf node call))
+tables-stamp : (s : Setup) (node : Node) (call : Call) {v : ℕ} → Ticks s node call v → newTimestamp s (doneOf node call) ≡ widened (newStamp (inputOf node call))
 unfolding newTimestamp doneOf widened
 tables-stamp s node call {v} c =
     let a : outputOf node call .answer .tables ≡ widened (newStamp (inputOf node call)) = tables-made s node call c in
     let b : newStamp (inputOf node call) .r ≡ v % s .modulus = stamp-r s node call c in
-    let e : movedClock (outputOf node call) (call .step) (node .clock) ≡ v = done-clock s node call c in
+    let e : movedClock (outputOf node call) (call .step) (node .clock) ≡ v = done-clock s node call (c .due) in
     rw (e, ← b, a) refl
 
-pub event-stamp : (s : Setup) (node : Node) (call : Call) {v : ℕ} → Due-call s node call v → eventFrame s (doneOf node call) .stamp ≡ newStamp (inputOf node call)
+pub event-stamp : (s : Setup) (node : Node) (call : Call) {v : ℕ} → Ticks s node call v → eventFrame s (doneOf node call) .stamp ≡ newStamp (inputOf node call)
 unfolding eventFrame frameOf
 event-stamp s node call c =
     ap (trimmed (s .epsilon)) (tables-stamp s node call c) ∙ trimmed-widened (s .epsilon) (newStamp (inputOf node call)) (limits-at s node call c .epsilon-most) (sound-at s node call c .wide)
 
 -- it is what hearing has come to, with the own event counted
-pub event-own : (s : Setup) (node : Node) (call : Call) {v : ℕ} → Due-call s node call v → eventFrame s (doneOf node call) .stamp ≡ countOwn (s .epsilon) (v % s .modulus) (heardStamp (inputOf node call))
+pub event-own : (s : Setup) (node : Node) (call : Call) {v : ℕ} → Ticks s node call v → eventFrame s (doneOf node call) .stamp ≡ countOwn (s .epsilon) (v % s .modulus) (heardStamp (inputOf node call))
 unfolding newStamp
 event-own s node call c =
-    event-stamp s node call c ∙ ap₂ (λ (t : Setup) (u : ℕ). countOwn (t .epsilon) u (heardStamp (inputOf node call))) (setup-at s node call c) (clock-at s node call c)
+    event-stamp s node call c ∙ ap₂ (λ (t : Setup) (u : ℕ). countOwn (t .epsilon) u (heardStamp (inputOf node call))) (setup-at s node call (c .due)) (clock-at s node call (c .due))
 
 -- the frame, with its stamp named
 event-frame :
-    (s : Setup) (node : Node) (call : Call) {v : ℕ} → Due-call s node call v
+    (s : Setup) (node : Node) (call : Call) {v : ℕ} → Ticks s node call v
     → eventFrame s (doneOf node call) ≡ frameOf (s .epsilon) (node .own) (newStamp (inputOf node call)) (call .payload)
 unfolding frameOf eventFrame doneOf
 event-frame s node call c =
     ap (λ (t : Timestamp). record { station = node .own; stamp = t; payload = call .payload })
     (event-stamp s node call c ∙ sym (trimmed-same (s .epsilon) (newStamp (inputOf node call)) (sound-at s node call c .wide)))
 
-event-sound : (s : Setup) (node : Node) (call : Call) {v : ℕ} → Due-call s node call v → Sound (s .n) (s .epsilon) (eventFrame s (doneOf node call) .stamp)
+event-sound : (s : Setup) (node : Node) (call : Call) {v : ℕ} → Ticks s node call v → Sound (s .n) (s .epsilon) (eventFrame s (doneOf node call) .stamp)
 event-sound s node call c = subst (λ (t : Timestamp). Sound (s .n) (s .epsilon) t) (sym (event-stamp s node call c)) (sound-at s node call c)
 
-sent-frame : (s : Setup) (node : Node) (call : Call) {v : ℕ} → Due-call s node call v → call .send ≡ true → sentBytes (inputOf node call) ≡ encode (eventFrame s (doneOf node call))
+sent-frame : (s : Setup) (node : Node) (call : Call) {v : ℕ} → Ticks s node call v → call .send ≡ true → sentBytes (inputOf node call) ≡ encode (eventFrame s (doneOf node call))
 unfolding sentBytes inputOf
-sent-frame s node call c e = rw (event-frame s node call c, c .setup-is, c .own-is, e) refl
+sent-frame s node call c e = rw (event-frame s node call c, c .due .setup-is, c .due .own-is (c .station), e) refl
 
 sends-send : (node : Node) (call : Call) → sends (doneOf node call) ≡ true → call .send ≡ true
 unfolding sends doneOf
-sends-send node call e = and-right (isAccepted (outputOf node call)) (call .send) e
+sends-send node call e = and-right (isEvent (doneOf node call)) (call .send) e
 
-event-bytes : (s : Setup) (node : Node) (call : Call) {v : ℕ} → Due-call s node call v → sends (doneOf node call) ≡ true → messageBytes (doneOf node call) ≡ encode (eventFrame s (doneOf node call))
-unfolding messageBytes doneOf outputOf sends
+event-bytes : (s : Setup) (node : Node) (call : Call) {v : ℕ} → Ticks s node call v → sends (doneOf node call) ≡ true → messageBytes (doneOf node call) ≡ encode (eventFrame s (doneOf node call))
+unfolding messageBytes doneOf
 event-bytes s node call c e =
-    sent-bytes (inputOf node call) (accepted-input node call (c .accepted))
-    ∙ sent-frame s node call c (sends-send node call e)
+    ap (λ (o : Output). take (o .answer .sent) (o .outgoing)) (output-tick s node call c)
+    ∙ (sent-bytes (inputOf node call) (accepted-input s node call c)
+    ∙ sent-frame s node call c (sends-send node call e))
 
-event-message : (s : Setup) (node : Node) (call : Call) {v : ℕ} → Due-call s node call v → sends (doneOf node call) ≡ true → messageFrame (doneOf node call) ≡ eventFrame s (doneOf node call)
+event-message : (s : Setup) (node : Node) (call : Call) {v : ℕ} → Ticks s node call v → sends (doneOf node call) ≡ true → messageFrame (doneOf node call) ≡ eventFrame s (doneOf node call)
 unfolding messageFrame doneOf
 event-message s node call c e =
-    ap (λ (t : Setup). decode (t .epsilon) (messageBytes (doneOf node call))) (c .setup-is)
+    ap (λ (t : Setup). decode (t .epsilon) (messageBytes (doneOf node call))) (c .due .setup-is)
     ∙ (ap (decode (s .epsilon)) (event-bytes s node call c e) ∙ decode-encode (s .epsilon) (eventFrame s (doneOf node call)) (event-sound s node call c .wide))
 
-payload-short-at : (s : Setup) (node : Node) (call : Call) {v : ℕ} → Due-call s node call v → length (call .payload) ≤ 32
+payload-short-at : (s : Setup) (node : Node) (call : Call) {v : ℕ} → Ticks s node call v → length (call .payload) ≤ 32
 unfolding inputOf
-payload-short-at s node call c = accepted-input node call (c .accepted) .payload-short
+payload-short-at s node call c = accepted-input s node call c .payload-short
 
-outgoing-room-at : (s : Setup) (node : Node) (call : Call) {v : ℕ} → Due-call s node call v → 39 + 2 * s .epsilon ≤ length (call .outgoing)
+outgoing-room-at : (s : Setup) (node : Node) (call : Call) {v : ℕ} → Ticks s node call v → 39 + 2 * s .epsilon ≤ length (call .outgoing)
 unfolding inputOf
 outgoing-room-at s node call c =
-    subst (λ (t : Setup). 39 + 2 * t .epsilon ≤ length (call .outgoing)) (c .setup-is) (accepted-input node call (c .accepted) .outgoing-room)
+    subst (λ (t : Setup). 39 + 2 * t .epsilon ≤ length (call .outgoing)) (c .due .setup-is) (accepted-input s node call c .outgoing-room)
 
-pub own-below-at : (s : Setup) (node : Node) (call : Call) {v : ℕ} → Due-call s node call v → node .own < s .n
+pub own-below-at : (s : Setup) (node : Node) (call : Call) {v : ℕ} → Ticks s node call v → node .own < s .n
 unfolding inputOf
 own-below-at s node call c =
-    subst (λ (o : ℕ). o < s .n) (c .own-is)
-    (subst (λ (t : Setup). call .own < t .n) (c .setup-is) (accepted-input node call (c .accepted) .own-below))
+    subst (λ (o : ℕ). o < s .n) (c .due .own-is (c .station))
+    (subst (λ (t : Setup). call .own < t .n) (c .due .setup-is) (accepted-input s node call c .own-below))
 
-event-ok : (s : Setup) (node : Node) (call : Call) {v : ℕ} → Due-call s node call v → FrameOk s (eventFrame s (doneOf node call))
+event-ok : (s : Setup) (node : Node) (call : Call) {v : ℕ} → Ticks s node call v → FrameOk s (eventFrame s (doneOf node call))
 unfolding eventFrame frameOf trimmed newTimestamp doneOf
 event-ok s node call c =
     let l = limits-at s node call c in
@@ -146,79 +151,27 @@ event-ok s node call c =
       short = payload-short-at s node call c;
     }
 
--- how it opens
+-- how its stamp opens
 pub opens-stamp : (s : Setup) (node : Node) (call : Call) {v : ℕ} → Due-call s node call v → openingStamp (inputOf node call .setup) (inputOf node call .clock) (inputOf node call .tables) ≡ openingStamp s (v % s .modulus) (node .tables)
 unfolding inputOf
 opens-stamp s node call c = rw (c .setup-is, c .clock-is) refl
 
-pub opens-queue : (s : Setup) (node : Node) (call : Call) {v : ℕ} → Due-call s node call v → opening (inputOf node call) ≡ record { queue = restAt s v node; verdicts = [] }
-unfolding openedQueue inputOf
-opens-queue s node call c = rw (c .setup-is, c .clock-is) refl
-
--- what it delivers
-pub delivers-frames : (s : Setup) (node : Node) (call : Call) {v : ℕ} → Due-call s node call v → deliveredOf (inputOf node call) ≡ earlyAt s v node ++ select (dueNow s (v % s .modulus)) (heardOf (inputOf node call) .queue)
-unfolding deliveredOf earlyOf openedQueue inputOf
-delivers-frames s node call c =
-    ap₂ (λ (t : Setup) (u : ℕ). select (dueBefore t u) (openingQueue t u (leastDue t u (node .tables)) (node .holdback)) ++ select (dueNow t u) (heardOf (inputOf node call) .queue))
-    (setup-at s node call c) (clock-at s node call c)
-
-pub delivers-ok : (s : Setup) (node : Node) (call : Call) {v : ℕ} → Due-call s node call v → (f : Frame) → List·Memᴰ f (deliveredOf (inputOf node call)) → FrameOk s f
-delivers-ok s node call c f m =
-    subst (λ (t : Setup). FrameOk t f) (setup-at s node call c) (delivered-frames (inputOf node call) (accepted-input node call (c .accepted)) f m)
-
-pub delivers-sorted : (s : Setup) (node : Node) (call : Call) {v : ℕ} → Due-call s node call v → Sorted (keyNear s (v % s .modulus)) (deliveredOf (inputOf node call))
-delivers-sorted s node call c =
-    subst (λ (u : ℕ). Sorted (keyNear s u) (deliveredOf (inputOf node call))) (clock-at s node call c)
-    (subst (λ (t : Setup). Sorted (keyNear t (inputOf node call .clock)) (deliveredOf (inputOf node call))) (setup-at s node call c)
-    (delivered-sorted (inputOf node call) (accepted-input node call (c .accepted))))
-
-pub delivers-bytes : (s : Setup) (node : Node) (call : Call) {v : ℕ} → Due-call s node call v → heldBytes (s .epsilon) (outputOf node call .delivery) ≡ map encode (deliveredOf (inputOf node call))
-unfolding outputOf
-delivers-bytes s node call c =
-    ap (λ (t : Setup). heldBytes (t .epsilon) (tick (inputOf node call) .delivery)) (sym (setup-at s node call c))
-    ∙ delivered-bytes (inputOf node call) (accepted-input node call (c .accepted))
-
--- what it leaves
-pub leaves-tables : (s : Setup) (node : Node) (call : Call) {v : ℕ} → Due-call s node call v → trimmed (s .epsilon) (nodeAfter node (call .step) (outputOf node call) .tables) ≡ newStamp (inputOf node call)
-unfolding nodeAfter outputOf
+-- the tables that it leaves
+pub leaves-tables : (s : Setup) (node : Node) (call : Call) {v : ℕ} → Ticks s node call v → trimmed (s .epsilon) (nodeAfter node (call .step) (outputOf node call) .tables) ≡ newStamp (inputOf node call)
+unfolding nodeAfter
 leaves-tables s node call c =
-    ap (λ (t : Setup). trimmed (t .epsilon) (tick (inputOf node call) .answer .tables)) (sym (setup-at s node call c))
-    ∙ own-next (inputOf node call) (accepted-input node call (c .accepted))
+    ap (λ (o : Output). trimmed (s .epsilon) (o .answer .tables)) (output-tick s node call c)
+    ∙ (ap (λ (t : Setup). trimmed (t .epsilon) (tick (inputOf node call) .answer .tables)) (sym (setup-at s node call (c .due)))
+    ∙ own-next (inputOf node call) (accepted-input s node call c))
 
-pub leaves-queue : (s : Setup) (node : Node) (call : Call) {v : ℕ} → Due-call s node call v → held (s .epsilon) (nodeAfter node (call .step) (outputOf node call) .holdback) ≡ keptOf (inputOf node call)
-unfolding nodeAfter outputOf
-leaves-queue s node call c =
-    ap (λ (t : Setup). held (t .epsilon) (tick (inputOf node call) .holdback)) (sym (setup-at s node call c))
-    ∙ kept-held (inputOf node call) (accepted-input node call (c .accepted))
-
-leaves-passed : (s : Setup) (node : Node) (call : Call) {v : ℕ} → Due-call s node call v → every (passes s) (heldBytes (s .epsilon) (nodeAfter node (call .step) (outputOf node call) .holdback)) ≡ true
-unfolding nodeAfter outputOf
-leaves-passed s node call c =
-    subst (λ (t : Setup). every (passes t) (heldBytes (t .epsilon) (tick (inputOf node call) .holdback)) ≡ true) (setup-at s node call c)
-    (bytes-passed (inputOf node call .setup) ((inputOf node call .clock + 0) % inputOf node call .setup .modulus) (inputOf node call .setup .modulus + 1 - 0) (tick (inputOf node call) .holdback)
-    (shelf-sound (inputOf node call) 0 (accepted-input node call (c .accepted)) (omega arith)))
-
--- at its own clock
-pub memory-left : (s : Setup) (node : Node) (call : Call) {v : ℕ} → Due-call s node call v → Memory s (nodeAfter node (call .step) (outputOf node call))
-memory-left s node call {v} c =
-    record {
-      tables =
-          rw (leaves-tables s node call c)
-          (subst (λ (t : Setup). Left (t .n) (t .epsilon) (newStamp (inputOf node call))) (setup-at s node call c)
-          (new-left (inputOf node call) (accepted-input node call (c .accepted))));
-      r-is = rw (leaves-tables s node call c, after-clock s node call c) (stamp-r s node call c);
-      passed = leaves-passed s node call c;
-      queue = rw (leaves-queue s node call c, after-clock s node call c) kept;
-    }
-  where
-    kept : QueueLeft s (v % s .modulus) 0 (keptOf (inputOf node call))
-    kept =
-        subst (λ (u : ℕ). QueueLeft s u 0 (keptOf (inputOf node call))) (clock-at s node call c)
-        (subst (λ (t : Setup). QueueLeft t (inputOf node call .clock) 0 (keptOf (inputOf node call))) (setup-at s node call c)
-        (kept-left (inputOf node call) (accepted-input node call (c .accepted))))
+pub tables-left : (s : Setup) (node : Node) (call : Call) {v : ℕ} → Ticks s node call v → Tables s (nodeAfter node (call .step) (outputOf node call))
+tables-left s node call c =
+    rw (leaves-tables s node call c)
+    (subst (λ (t : Setup). Left (t .n) (t .epsilon) (newStamp (inputOf node call))) (setup-at s node call (c .due))
+    (new-left (inputOf node call) (accepted-input s node call c)))
 
 written-is :
-    (s : Setup) (node : Node) (call : Call) {v : ℕ} → Due-call s node call v
+    (s : Setup) (node : Node) (call : Call) {v : ℕ} → Ticks s node call v
     → written s (doneOf node call) ≡ writeBy 0 (eventFrame s (doneOf node call)) (call .outgoing)
 unfolding written eventFrame doneOf width
 written-is s node call c =
@@ -232,24 +185,26 @@ written-is s node call c =
     ok : FrameOk s (eventFrame s (doneOf node call))
     ok = event-ok s node call c
 
-sent-length : (s : Setup) (node : Node) (call : Call) {v : ℕ} → Due-call s node call v → call .send ≡ true → doneOf node call .output .answer .sent ≡ length (encode (eventFrame s (doneOf node call)))
-unfolding outputOf doneOf
-sent-length s node call c e = sent-is (inputOf node call) (accepted-input node call (c .accepted)) ∙ ap length (sent-frame s node call c e)
+sent-length : (s : Setup) (node : Node) (call : Call) {v : ℕ} → Ticks s node call v → call .send ≡ true → doneOf node call .output .answer .sent ≡ length (encode (eventFrame s (doneOf node call)))
+unfolding doneOf
+sent-length s node call c e =
+    ap (λ (o : Output). o .answer .sent) (output-tick s node call c) ∙ (sent-is (inputOf node call) (accepted-input s node call c) ∙ ap length (sent-frame s node call c e))
 
-sent-outgoing : (s : Setup) (node : Node) (call : Call) {v : ℕ} → Due-call s node call v → call .send ≡ true → doneOf node call .output .outgoing ≡ overlay (encode (eventFrame s (doneOf node call))) (call .outgoing)
-unfolding outputOf doneOf inputOf
+sent-outgoing : (s : Setup) (node : Node) (call : Call) {v : ℕ} → Ticks s node call v → call .send ≡ true → doneOf node call .output .outgoing ≡ overlay (encode (eventFrame s (doneOf node call))) (call .outgoing)
+unfolding doneOf inputOf
 sent-outgoing s node call c e =
-    outgoing-is (inputOf node call) (accepted-input node call (c .accepted)) ∙ ap (λ (l : List ℕ). overlay l (call .outgoing)) (sent-frame s node call c e)
+    ap (λ (o : Output). o .outgoing) (output-tick s node call c)
+    ∙ (outgoing-is (inputOf node call) (accepted-input s node call c) ∙ ap (λ (l : List ℕ). overlay l (call .outgoing)) (sent-frame s node call c e))
 
 pub writer-made :
-    (s : Setup) (node : Node) (call : Call) {v : ℕ} → Due-call s node call v → sends (doneOf node call) ≡ true
+    (s : Setup) (node : Node) (call : Call) {v : ℕ} → Ticks s node call v → sends (doneOf node call) ≡ true
     → (written s (doneOf node call) .number ≡ 0) × (doneOf node call .output .answer .sent ≡ written s (doneOf node call) .size)
     × (doneOf node call .output .outgoing ≡ written s (doneOf node call) .buffer)
 writer-made s node call c e =
     let send : call .send ≡ true = sends-send node call e in
     rw (written-is s node call c) (refl, sent-length s node call c send, sent-outgoing s node call c send)
 
-pub event-made : (s : Setup) (node : Node) (call : Call) {v : ℕ} → Due-call s node call v → CallEvent s (doneOf node call)
+pub event-made : (s : Setup) (node : Node) (call : Call) {v : ℕ} → Ticks s node call v → CallEvent s (doneOf node call)
 unfolding eventFrame frameOf trimmed newTimestamp
 event-made s node call c =
     record {

@@ -21,17 +21,17 @@ use Rattle.model.specs.Frame.{Frame, encode, decode}
 use Rattle.model.specs.Order.{readingOf, due}
 use Rattle.model.specs.Holdback.{sameOrigin, notEarly}
 use Rattle.model.specs.Question.{firstNo}
-use Rattle.model.specs.Judge.{Asking, Heard, hearOne, judge, judgeQuestions, placeFor, absorbBy}
+use Rattle.model.specs.Judge.{Asking, Heard, hearOne, judge, judgeQuestions, observerQuestions, placeFor, absorbBy}
 use Rattle.model.specs.Run.{Node, Source, sentBy, stale, Done, sends, messageBytes}
-use Rattle.theory.specs.Demand3.{isFrom}
+use Rattle.theory.specs.Demand3.{covered, isFrom}
 use Rattle.lemmas.proofs.Bounds.{Limits, QueueOk}
 use Rattle.lemmas.proofs.Counts.{count-moved, sound-top, at-most-past-to, absorb-wide}
 use Rattle.lemmas.proofs.RoundTrip.{decode-encode}
-use Rattle.lemmas.proofs.Queue.{early-from, early-to, reading-high, Passed, judged-passed, passed-judged, repeat-judged, queue-take, queue-room}
+use Rattle.lemmas.proofs.Queue.{early-from, early-to, reading-high, Passed, Places, judged-passed, passed-judged, repeat-judged, observed-passed, passed-observed, repeat-observed, queue-take, queue-room}
 use Rattle.lemmas.proofs.OneTick.{Absorbing, absorbing-one}
 use Rattle.theory.proofs.Event.{event-reads}
 use Rattle.theory.proofs.Stamps.{early-bounded, absorb-bounded, absorb-under, under-absorb}
-use Rattle.theory.proofs.World.{eventFrame, reached, Bounded, Under, followed, Explained, AllExplained, explained-more, AllPresent, CallEvent}
+use Rattle.theory.proofs.World.{eventFrame, reached, Bounded, Under, Explained, AllExplained, explained-more, AllPresent, CallEvent}
 
 -- from `from` on a message is heard at the floor or later
 abbrev pub Settles : Setup → ℕ → ℕ → Type 0
@@ -58,11 +58,11 @@ pub record Around (s : Setup) (nodes : List Node) (past : List Done) (v : ℕ) :
       (k l : ℕ) (a b : Done) → getElem? past k ≡ some a → getElem? past l ≡ some b → sends a ≡ true → sends b ≡ true
       → a .own ≡ b .own → a .clock ≡ b .clock → k ≡ l
 
--- a node of the group has not reached v, as is the one that hears: so no count for v or later is full
+-- a station has not reached v, as is the one that hears: so no count for v or later is full
 abbrev pub Unreached : Setup → List Node → ℕ → Type 0
 Unreached s nodes v = (w : ℕ) → v + s .epsilon ≤ w → reached (s .epsilon) nodes w < s .n
 
--- the queue half: the queue is sound, and holds of the followed messages those heard that are not yet due
+-- the queue half: the queue is sound, and holds of the covered messages those heard that are not yet due
 pub record QueueLoop (s : Setup) (from : ℕ) (past : List Done) (v : ℕ) (heard : ℕ → Bool) (queue : List Frame) : Type 0 where
   pub sound : QueueOk s (v % s .modulus) (s .modulus) queue
   pub members : AllExplained s from past heard v queue
@@ -91,17 +91,17 @@ zero-or-suc : (x : ℕ) → (x ≡ 0) ⊎ ((k : ℕ) × (x ≡ suc k))
 zero-or-suc zero = inl refl
 zero-or-suc (suc k) = inr (k, refl)
 
-pub followed-sends : (from : ℕ) (m : Done) → followed from m ≡ true → sends m ≡ true
-unfolding followed
-followed-sends from m e = and-left (sends m) (leb from (m .clock)) e
+pub covered-sends : (from : ℕ) (m : Done) → covered from m ≡ true → sends m ≡ true
+unfolding covered
+covered-sends from m e = and-left (sends m) (leb from (m .clock)) e
 
-pub followed-from : (from : ℕ) (m : Done) → followed from m ≡ true → from ≤ m .clock
-unfolding followed
-followed-from from m e = leb-true from (m .clock) (and-right (sends m) (leb from (m .clock)) e)
+pub covered-from : (from : ℕ) (m : Done) → covered from m ≡ true → from ≤ m .clock
+unfolding covered
+covered-from from m e = leb-true from (m .clock) (and-right (sends m) (leb from (m .clock)) e)
 
-not-followed : (from : ℕ) (m : Done) → sends m ≡ true → followed from m ≡ false → m .clock < from
-unfolding followed
-not-followed from m e f =
+not-covered : (from : ℕ) (m : Done) → sends m ≡ true → covered from m ≡ false → m .clock < from
+unfolding covered
+not-covered from m e f =
     elim (and-false-cases (sends m) (leb from (m .clock)) f) [
       | inl q ↦ absurd (clash e q)
       | inr q ↦ leb-false from (m .clock) q
@@ -133,11 +133,11 @@ module _ (s : Setup) (floor from : ℕ) (settles : Settles s floor from) (nodes 
   arrival-reading k m a = event-reads s v m (around .limits) (a .event) (a .not-ahead) (omega (arith, around .limits .modulus-least, a .not-late))
 
   -- 14
-  pub arrival-close : (k : ℕ) (m : Done) → Arrival s floor nodes past v k m → followed from m ≡ true → m .clock + eventFrame s m .stamp .c < v + s .epsilon
+  pub arrival-close : (k : ℕ) (m : Done) → Arrival s floor nodes past v k m → covered from m ≡ true → m .clock + eventFrame s m .stamp .c < v + s .epsilon
   arrival-close k m a f =
       elim (lt-or-ge (m .clock + eventFrame s m .stamp .c) floor) [
         | inl h ↦
-            let b : floor ≤ v = settles .1 v (m .clock) (followed-from from m f) (a .not-ahead) in
+            let b : floor ≤ v = settles .1 v (m .clock) (covered-from from m f) (a .not-ahead) in
             omega (arith, around .limits .epsilon-pos)
         | inr h ↦
             let c : 1 ≤ reached (s .epsilon) nodes (m .clock + eventFrame s m .stamp .c + s .epsilon) =
@@ -145,10 +145,10 @@ module _ (s : Setup) (floor from : ℕ) (settles : Settles s floor from) (nodes 
             omega (arith, around .none-ahead (m .clock + eventFrame s m .stamp .c + s .epsilon) c)
       ]
 
-  -- 16: a followed message's frame lies in the queue exactly if it was heard
+  -- 16: a covered message's frame lies in the queue exactly if it was heard
   pub arrival-new :
       (heard : ℕ → Bool) (queue : List Frame) → AllExplained s from past heard v queue → (k : ℕ) (m : Done) → Arrival s floor nodes past v k m
-      → followed from m ≡ true → heard k ≡ false → any (sameOrigin (eventFrame s m)) queue ≡ false
+      → covered from m ≡ true → heard k ≡ false → any (sameOrigin (eventFrame s m)) queue ≡ false
   arrival-new heard queue members k m a f no-k =
       any-of-false (sameOrigin (eventFrame s m)) queue (λ g mem. false-of-no (sameOrigin (eventFrame s m) g) (λ same. clashes g same (members g mem)))
     where
@@ -156,11 +156,11 @@ module _ (s : Setup) (floor from : ℕ) (settles : Settles s floor from) (nodes 
       reads g same = rw (← same-reading s (v % s .modulus) (eventFrame s m) g same) (arrival-reading k m a)
 
       clashes : (g : Frame) → sameOrigin (eventFrame s m) g ≡ true → Explained s from past heard v g → ⊥
-      clashes g same (inl h) = omega (arith, reads g same, followed-from from m f)
+      clashes g same (inl h) = omega (arith, reads g same, covered-from from m f)
       clashes g same (inr x) =
           let c : m .clock ≡ x .1 .clock = omega (arith, reads g same, x .6) in
           let o : m .own ≡ x .1 .own = sym (event-station s m) ∙ (same-station (eventFrame s m) g same ∙ (ap (λ (y : Frame). y .station) (x .5) ∙ event-station s (x .1))) in
-          let q : k ≡ x .0 = around .unique k (x .0) m (x .1) (a .at) (x .2) (a .sent) (followed-sends from (x .1) (x .3)) o c in
+          let q : k ≡ x .0 = around .unique k (x .0) m (x .1) (a .at) (x .2) (a .sent) (covered-sends from (x .1) (x .3)) o c in
           clash (ap heard q ∙ x .4) no-k
 
   -- the same as the judge asks
@@ -172,7 +172,7 @@ module _ (s : Setup) (floor from : ℕ) (settles : Settles s floor from) (nodes 
   pub arrival-late : (k : ℕ) (m : Done) → Arrival s floor nodes past v k m → s .modulus ≤ readingOf s (v % s .modulus) (eventFrame s m) + (s .delta + s .epsilon)
   arrival-late k m a = omega (arith, arrival-reading k m a, a .not-late)
 
-  pub arrival-early : (k : ℕ) (m : Done) → Arrival s floor nodes past v k m → followed from m ≡ true → notEarly s (v % s .modulus) (eventFrame s m) ≡ true
+  pub arrival-early : (k : ℕ) (m : Done) → Arrival s floor nodes past v k m → covered from m ≡ true → notEarly s (v % s .modulus) (eventFrame s m) ≡ true
   arrival-early k m a f = early-to s (v % s .modulus) (eventFrame s m) (omega (arith, arrival-reading k m a, arrival-close k m a f))
 
   pub arrival-undue : (k : ℕ) (m : Done) → Arrival s floor nodes past v k m → v ≤ due s (m .clock) (eventFrame s m .stamp .c)
@@ -183,26 +183,31 @@ module _ (s : Setup) (floor from : ℕ) (settles : Settles s floor from) (nodes 
   arrival-decoded k m a =
       ap (decode (s .epsilon)) (a .event .bytes (a .sent)) ∙ decode-encode (s .epsilon) (eventFrame s m) (a .event .frame .sound .wide)
 
-  -- what is asked takes a followed message once, and nothing that would make the queue unsound
+  -- so one that was not heard passes
+  arrival-passes :
+      (heard : ℕ → Bool) (queue : List Frame) → AllExplained s from past heard v queue → (k : ℕ) (m : Done) → Arrival s floor nodes past v k m
+      → covered from m ≡ true → heard k ≡ false → Passed s (v % s .modulus) queue (eventFrame s m)
+  arrival-passes heard queue members k m a f e =
+      record { frame = a .event .frame; late = arrival-late k m a; early = arrival-early k m a f; new = arrival-new heard queue members k m a f e }
+
+  -- what is asked takes a covered message once, and nothing that would make the queue unsound
   pub record TakesOnce (asking : Asking) : Type 0 where
-    pub stays :
-        (queue : List Frame) (bytes : List ℕ) → QueueOk s (v % s .modulus) (s .modulus) queue → firstNo (asking queue bytes) ≡ 0
-        → QueueOk s (v % s .modulus) (s .modulus) (insertAt (placeFor s (v % s .modulus) queue (decode (s .epsilon) bytes)) (decode (s .epsilon) bytes) queue)
+    pub places : Places s (v % s .modulus) asking
     pub verdict :
         (heard : ℕ → Bool) (queue : List Frame) → QueueLoop s from past v heard queue → (k : ℕ) (m : Done) → Arrival s floor nodes past v k m
-        → followed from m ≡ true → firstNo (asking queue (messageBytes m)) ≡ cond (heard k) 16 0
+        → covered from m ≡ true → firstNo (asking queue (messageBytes m)) ≡ cond (heard k) 16 0
 
   -- 10 to 17 are such questions, where 15 can be answered
   module _ (unreached : Unreached s nodes v) where
     -- 15
     pub arrival-room :
-        (k : ℕ) (m : Done) → Arrival s floor nodes past v k m → followed from m ≡ true
+        (k : ℕ) (m : Done) → Arrival s floor nodes past v k m → covered from m ≡ true
         → atMost (s .n - 1) (countsFrom (s .epsilon) (readingOf s (v % s .modulus) (eventFrame s m)) (eventFrame s m .stamp .kn) (s .modulus)) ≡ true
     arrival-room k m a f =
         at-most-past-to (s .n - 1) (s .epsilon) (readingOf s (v % s .modulus) (eventFrame s m)) (eventFrame s m .stamp .kn) (s .modulus) each
       where
         settled : floor ≤ v
-        settled = settles .1 v (m .clock) (followed-from from m f) (a .not-ahead)
+        settled = settles .1 v (m .clock) (covered-from from m f) (a .not-ahead)
 
         each : (x : ℕ) → s .modulus + s .epsilon ≤ x → placedAt (readingOf s (v % s .modulus) (eventFrame s m)) (eventFrame s m .stamp .kn) x ≤ s .n - 1
         each x h =
@@ -216,26 +221,37 @@ module _ (s : Setup) (floor from : ℕ) (settles : Settles s floor from) (nodes 
 
     pub loop-verdict :
         (heard : ℕ → Bool) (queue : List Frame) → QueueLoop s from past v heard queue → (k : ℕ) (m : Done) → Arrival s floor nodes past v k m
-        → followed from m ≡ true → firstNo (judgeQuestions s (v % s .modulus) queue (messageBytes m)) ≡ cond (heard k) 16 0
+        → covered from m ≡ true → firstNo (judgeQuestions s (v % s .modulus) queue (messageBytes m)) ≡ cond (heard k) 16 0
     loop-verdict heard queue loop k m a f = rw (a .event .bytes (a .sent)) (go (heard k) refl)
       where
         go : (b : Bool) → heard k ≡ b → firstNo (judgeQuestions s (v % s .modulus) queue (encode (eventFrame s m))) ≡ cond b 16 0
         go true e =
-            repeat-judged s (v % s .modulus) queue (eventFrame s m) (around .limits) (a .event .frame) (arrival-late k m a) (arrival-early k m a f)
+            repeat-judged s (v % s .modulus) queue (eventFrame s m) (a .event .frame) (arrival-late k m a) (arrival-early k m a f)
             (arrival-room k m a f)
             (any-of-mem (sameOrigin (eventFrame s m)) (loop .present k m (a .at) f e (arrival-undue k m a)) (same-self (eventFrame s m)))
         go false e =
-            passed-judged s (v % s .modulus) queue (eventFrame s m) (around .limits)
-            (record { frame = a .event .frame; late = arrival-late k m a; early = arrival-early k m a f; counts = arrival-room k m a f; new = arrival-new heard queue (loop .members) k m a f e })
+            passed-judged s (v % s .modulus) queue (eventFrame s m) (arrival-passes heard queue (loop .members) k m a f e) (arrival-room k m a f)
             (queue-room s (v % s .modulus) (s .modulus) queue (around .limits) arrival-below (omega arith) (loop .sound))
 
     pub judged-once : TakesOnce (judgeQuestions s (v % s .modulus))
-    judged-once =
-        record {
-          stays = λ queue bytes ok e.
-              queue-take s (v % s .modulus) queue (decode (s .epsilon) bytes) (around .limits) arrival-below ok (judged-passed s (v % s .modulus) queue bytes (around .limits) e);
-          verdict = loop-verdict;
-        }
+    judged-once = record { places = λ queue bytes e. judged-passed s (v % s .modulus) queue bytes (around .limits) e; verdict = loop-verdict }
+
+  -- 02, 2.6: and so are an observer's, wherever the stations are
+  observed-verdict :
+      (heard : ℕ → Bool) (queue : List Frame) → QueueLoop s from past v heard queue → (k : ℕ) (m : Done) → Arrival s floor nodes past v k m
+      → covered from m ≡ true → firstNo (observerQuestions s (v % s .modulus) queue (messageBytes m)) ≡ cond (heard k) 16 0
+  observed-verdict heard queue loop k m a f = rw (a .event .bytes (a .sent)) (go (heard k) refl)
+    where
+      go : (b : Bool) → heard k ≡ b → firstNo (observerQuestions s (v % s .modulus) queue (encode (eventFrame s m))) ≡ cond b 16 0
+      go true e =
+          repeat-observed s (v % s .modulus) queue (eventFrame s m) (a .event .frame) (arrival-late k m a) (arrival-early k m a f)
+          (any-of-mem (sameOrigin (eventFrame s m)) (loop .present k m (a .at) f e (arrival-undue k m a)) (same-self (eventFrame s m)))
+      go false e =
+          passed-observed s (v % s .modulus) queue (eventFrame s m) (arrival-passes heard queue (loop .members) k m a f e)
+          (queue-room s (v % s .modulus) (s .modulus) queue (around .limits) arrival-below (omega arith) (loop .sound))
+
+  pub observed-once : TakesOnce (observerQuestions s (v % s .modulus))
+  observed-once = record { places = λ queue bytes e. observed-passed s (v % s .modulus) queue bytes (around .limits) e; verdict = observed-verdict }
 
   -- the queue half, by whatever is asked
   module _ (asking : Asking) (once : TakesOnce asking) where
@@ -244,7 +260,7 @@ module _ (s : Setup) (floor from : ℕ) (settles : Settles s floor from) (nodes 
         (heard heard′ : ℕ → Bool) (h : Heard) (bytes : List ℕ) (k : ℕ) → QueueLoop s from past v heard (h .queue)
         → firstNo (asking (h .queue) bytes) ≡ suc k
         → ((j : ℕ) → heard j ≡ true → heard′ j ≡ true)
-        → ((j : ℕ) (m : Done) → getElem? past j ≡ some m → followed from m ≡ true → heard′ j ≡ true → heard j ≡ true)
+        → ((j : ℕ) (m : Done) → getElem? past j ≡ some m → covered from m ≡ true → heard′ j ≡ true → heard j ≡ true)
         → QueueLoop s from past v heard′ (hearOne s (v % s .modulus) asking h bytes .queue)
     queue-keep heard heard′ h bytes k loop e more back =
         subst (QueueLoop s from past v heard′) (sym (hear-refused s (v % s .modulus) asking h bytes k e))
@@ -258,13 +274,13 @@ module _ (s : Setup) (floor from : ℕ) (settles : Settles s floor from) (nodes 
         (heard heard′ : ℕ → Bool) (h : Heard) (bytes : List ℕ) (f : Frame) → QueueLoop s from past v heard (h .queue)
         → firstNo (asking (h .queue) bytes) ≡ 0 → decode (s .epsilon) bytes ≡ f
         → ((j : ℕ) → heard j ≡ true → heard′ j ≡ true)
-        → ((j : ℕ) (m : Done) → getElem? past j ≡ some m → followed from m ≡ true → heard′ j ≡ true → (heard j ≡ true) ⊎ (eventFrame s m ≡ f))
+        → ((j : ℕ) (m : Done) → getElem? past j ≡ some m → covered from m ≡ true → heard′ j ≡ true → (heard j ≡ true) ⊎ (eventFrame s m ≡ f))
         → Explained s from past heard′ v f
         → QueueLoop s from past v heard′ (hearOne s (v % s .modulus) asking h bytes .queue)
     queue-new heard heard′ h bytes f loop e d more back new =
         subst (QueueLoop s from past v heard′) (sym queue-is)
         (record {
-          sound = subst (λ (g : Frame). QueueOk s (v % s .modulus) (s .modulus) (insertAt (placeFor s (v % s .modulus) (h .queue) g) g (h .queue))) d (once .stays (h .queue) bytes (loop .sound) e);
+          sound = subst (λ (g : Frame). QueueOk s (v % s .modulus) (s .modulus) (insertAt (placeFor s (v % s .modulus) (h .queue) g) g (h .queue))) d (queue-take s (v % s .modulus) (h .queue) (decode (s .epsilon) bytes) (around .limits) arrival-below (loop .sound) (once .places (h .queue) bytes e));
           members = members;
           present = present;
         })
@@ -299,7 +315,7 @@ module _ (s : Setup) (floor from : ℕ) (settles : Settles s floor from) (nodes 
     unfolding isFrom
     queue-one heard heard′ h bytes stale loop early is =
         elim (zero-or-suc (firstNo (asking (h .queue) bytes))) [
-          | inl e ↦ queue-new heard heard′ h bytes (decode (s .epsilon) bytes) loop e refl more (λ j m at fol hd. inl (back j hd)) (inl unfollowed)
+          | inl e ↦ queue-new heard heard′ h bytes (decode (s .epsilon) bytes) loop e refl more (λ j m at fol hd. inl (back j hd)) (inl uncovered)
           | inr e ↦ queue-keep heard heard′ h bytes (e .0) loop (e .1) more (λ j m at fol hd. back j hd)
         ]
       where
@@ -313,12 +329,12 @@ module _ (s : Setup) (floor from : ℕ) (settles : Settles s floor from) (nodes 
               | inr q ↦ absurd (clash q refl)
             ]
 
-        unfollowed : readingOf s (v % s .modulus) (decode (s .epsilon) bytes) + v < s .modulus + from
-        unfollowed = omega (arith, reading-high s (v % s .modulus) (decode (s .epsilon) bytes) (around .limits), settles .0)
+        uncovered : readingOf s (v % s .modulus) (decode (s .epsilon) bytes) + v < s .modulus + from
+        uncovered = omega (arith, reading-high s (v % s .modulus) (decode (s .epsilon) bytes) (around .limits), settles .0)
     queue-one heard heard′ h bytes (sentBy k) loop entry is =
         subst (λ (b : List ℕ). QueueLoop s from past v heard′ (hearOne s (v % s .modulus) asking h b .queue)) (sym (entry .2))
         (elim (zero-or-suc (firstNo (asking (h .queue) (messageBytes m)))) [
-          | inl e ↦ queue-new heard heard′ h (messageBytes m) (eventFrame s m) loop e (arrival-decoded k m a) more taken (explained (followed from m) refl)
+          | inl e ↦ queue-new heard heard′ h (messageBytes m) (eventFrame s m) loop e (arrival-decoded k m a) more taken (explained (covered from m) refl)
           | inr e ↦ queue-keep heard heard′ h (messageBytes m) (e .0) loop (e .1) more (kept (e .0) (e .1))
         ])
       where
@@ -344,7 +360,7 @@ module _ (s : Setup) (floor from : ℕ) (settles : Settles s floor from) (nodes 
               | inr q ↦ inr (eqb-true j k q)
             ]
 
-        taken : (j : ℕ) (m′ : Done) → getElem? past j ≡ some m′ → followed from m′ ≡ true → heard′ j ≡ true → (heard j ≡ true) ⊎ (eventFrame s m′ ≡ eventFrame s m)
+        taken : (j : ℕ) (m′ : Done) → getElem? past j ≡ some m′ → covered from m′ ≡ true → heard′ j ≡ true → (heard j ≡ true) ⊎ (eventFrame s m′ ≡ eventFrame s m)
         taken j m′ at fol hd =
             elim (back j hd) [
               | inl q ↦ inl q
@@ -352,23 +368,23 @@ module _ (s : Setup) (floor from : ℕ) (settles : Settles s floor from) (nodes 
             ]
 
         kept : (x : ℕ) → firstNo (asking (h .queue) (messageBytes m)) ≡ suc x
-            → (j : ℕ) (m′ : Done) → getElem? past j ≡ some m′ → followed from m′ ≡ true → heard′ j ≡ true → heard j ≡ true
+            → (j : ℕ) (m′ : Done) → getElem? past j ≡ some m′ → covered from m′ ≡ true → heard′ j ≡ true → heard j ≡ true
         kept x e j m′ at fol hd =
             elim (back j hd) [
               | inl q ↦ q
-              | inr q ↦ ap heard q ∙ was (heard k) refl (subst (λ (y : Done). followed from y ≡ true) (same j m′ at q) fol)
+              | inr q ↦ ap heard q ∙ was (heard k) refl (subst (λ (y : Done). covered from y ≡ true) (same j m′ at q) fol)
             ]
           where
-            was : (b : Bool) → heard k ≡ b → followed from m ≡ true → heard k ≡ true
+            was : (b : Bool) → heard k ≡ b → covered from m ≡ true → heard k ≡ true
             was true p f = p
             was false p f =
                 let z : suc x ≡ 0 = sym e ∙ (once .verdict heard (h .queue) loop k m a f ∙ ap (λ (b : Bool). cond b 16 0) p) in
                 let bad : ⊥ = omega arith in
                 absurd bad
 
-        explained : (b : Bool) → followed from m ≡ b → Explained s from past heard′ v (eventFrame s m)
+        explained : (b : Bool) → covered from m ≡ b → Explained s from past heard′ v (eventFrame s m)
         explained true f = inr (k, m, a .at, f, here, refl, arrival-reading k m a)
-        explained false f = inl (omega (arith, arrival-reading k m a, not-followed from m (a .sent) f))
+        explained false f = inl (omega (arith, arrival-reading k m a, not-covered from m (a .sent) f))
 
   -- the stamp half: a taken frame has passed 14
   taken-close :

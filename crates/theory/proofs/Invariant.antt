@@ -2,31 +2,32 @@
 -- Assumes nothing.
 use Prim.Native.Nat.{ℕ, suc, _+_, _%_, _≤_, _<_}
 use native.Mathlib.Omega.{arith}
-use mathlib.Core.Path.{_≡_, refl, sym, ap, ap₂, subst, _∙_}
+use mathlib.Core.Path.{_≡_, refl, sym, ap, subst, _∙_}
 use mathlib.Core.Logic.{inl, inr}
 use mathlib.Core.Bool.{Bool, true, false, _&&_, _||_, not, or-false}
 use mathlib.Core.List.{List, [], _∷_, _++_, List·Memᴰ}
 use mathlib.Core.Option.{some}
 use lib.Dec.{eqb}
-use lib.ListN.{length, getElem?, length-set, length-append}
+use lib.ListN.{length, getElem?, length-append}
 use borrow.Author.Tests.{ne-eqb}
 use Rattle.laws.specs.Lists.{any, select}
 use Rattle.laws.proofs.Numbers.{eq-or-ne, and-right, or-cases, not-of-false}
-use Rattle.laws.proofs.Lists.{any-append, getElem?-lt, getElem?-append, getElem?-snoc-cases, mem-of-select, mem-select}
+use Rattle.laws.proofs.Lists.{countOf, countOf-set-same, any-append, getElem?-lt, getElem?-getD, getElem?-append, getElem?-snoc-cases, mem-of-select, mem-select}
 use Rattle.model.specs.Setup.{Setup}
 use Rattle.model.specs.Timestamp.{trimmed, Timestamp, sum}
 use Rattle.model.specs.Frame.{Frame}
 use Rattle.model.specs.Order.{readingOf, due, dueNear}
 use Rattle.model.specs.Holdback.{held}
-use Rattle.model.specs.Tick.{heardOf, heardStamp, dueNow, keptOf}
-use Rattle.model.specs.Run.{Node, Call, Done, World, inputOf, isAccepted, outputOf, doneOf, nodeAfter, act}
-use Rattle.theory.specs.Demand3.{heardIn, isFrom}
-use Rattle.theory.proofs.Event.{setup-at, clock-at, done-clock, after-clock, event-stamp, event-made, leaves-tables, leaves-queue, memory-left, event-own}
+use Rattle.model.specs.Tick.{heardStamp, dueNow}
+use Rattle.model.specs.Run.{Node, Call, Done, World, inputOf, isAccepted, outputOf, doneOf, nodeAfter, act, isEvent}
+use Rattle.theory.specs.Demand3.{covered, heardIn, isFrom}
+use Rattle.theory.proofs.Event.{done-clock, after-clock, event-stamp, event-made, leaves-tables, tables-left, event-own}
+use Rattle.theory.proofs.Boards.{heardOn, leaves-queue, memory-left}
 use Rattle.theory.proofs.Entries.{from-entry}
-use Rattle.theory.proofs.Reach.{reached-grows, reached-gains}
+use Rattle.theory.proofs.Reach.{isStation, reached-grows, reached-gains}
 use Rattle.theory.proofs.Stamps.{bounded-grows, own-bounded}
-use Rattle.theory.proofs.HearLoop.{some-inj, followed-sends}
-use Rattle.theory.proofs.World.{AllWaiting, LeftAt, eventFrame, reached, Bounded, followed, heardAt, Explained, AllExplained, Maker, Settled, Passed-on, NodeOk, Group, Good, Legal, act-is, nodesAfter, after-at, after-other, after-together}
+use Rattle.theory.proofs.HearLoop.{some-inj, covered-sends}
+use Rattle.theory.proofs.World.{AllWaiting, LeftStamp, LeftAt, eventFrame, reached, Bounded, heardAt, Explained, AllExplained, Maker, Settled, Passed-on, NodeOk, Group, AllKinds, Good, Ticks, Legal, act-is, event-kind, event-of, nodesAfter, after-at, after-other, after-together}
 use Rattle.theory.proofs.Promises.{Ends, waiting-reads}
 
 module _ (s : Setup) (floor from : ℕ) (w : World) (call : Call) (node : Node) (v : ℕ) (good : Good s floor from w) (legal : Legal s floor w call node v) (ends : Ends s floor from w call node v) where
@@ -50,28 +51,38 @@ module _ (s : Setup) (floor from : ℕ) (w : World) (call : Call) (node : Node) 
   unfolding nodeAfter
   own′ = refl
 
-  grows : (u : ℕ) → reached (s .epsilon) (w .nodes) u ≤ reached (s .epsilon) nodes′ u
-  grows u = reached-grows (s .epsilon) (w .nodes) u (call .node) node node′ (legal .at) (omega (arith, clock′, legal .called .turn))
+  kind′ : node′ .listens ≡ node .listens
+  unfolding nodeAfter
+  kind′ = refl
 
-  was : (j : ℕ) (a : Node) → getElem? nodes′ j ≡ some a → (b : Node) × (getElem? (w .nodes) j ≡ some b) × (a .own ≡ b .own)
+  grows : (u : ℕ) → reached (s .epsilon) (w .nodes) u ≤ reached (s .epsilon) nodes′ u
+  grows u = reached-grows (s .epsilon) (w .nodes) u (call .node) node node′ (legal .at) kind′ (omega (arith, clock′, legal .called .turn))
+
+  was : (j : ℕ) (a : Node) → getElem? nodes′ j ≡ some a → (b : Node) × (getElem? (w .nodes) j ≡ some b) × (a .own ≡ b .own) × (a .listens ≡ b .listens)
   was j a at =
       elim (eq-or-ne (call .node) j) [
         | inl q ↦
             let e : a ≡ node′ = some-inj (sym at ∙ (ap (getElem? nodes′) (sym q) ∙ (after-at (w .nodes) call node (legal .at)))) in
-            (node, ap (getElem? (w .nodes)) (sym q) ∙ legal .at, ap (λ (x : Node). x .own) e ∙ own′)
-        | inr q ↦ (a, sym (after-other (w .nodes) call node j q) ∙ at, refl)
+            (node, ap (getElem? (w .nodes)) (sym q) ∙ legal .at, ap (λ (x : Node). x .own) e ∙ own′, ap (λ (x : Node). x .listens) e ∙ kind′)
+        | inr q ↦ (a, sym (after-other (w .nodes) call node j q) ∙ at, refl, refl)
       ]
+
+  -- as many stations as before
+  stations : countOf isStation nodes′ ≡ countOf isStation (w .nodes)
+  stations =
+      countOf-set-same isStation (w .nodes) (call .node) node′ node
+      (rw (getElem?-getD (w .nodes) (call .node) node (legal .at)) (ap not (sym kind′)))
 
   group′ : Group s nodes′
   group′ =
       record {
         limits = λ j a at. let r = was j a at in good .group .limits j (r .0) (r .1);
-        distinct = λ i j a b p q e.
+        distinct = λ i j a b p q x-is y-is e.
             let x = was i a p in
             let y = was j b q in
-            good .group .distinct i j (x .0) (y .0) (x .1) (y .1) (sym (x .2) ∙ (e ∙ y .2));
+            good .group .distinct i j (x .0) (y .0) (x .1) (y .1) (sym (x .3) ∙ x-is) (sym (y .3) ∙ y-is) (sym (x .2) ∙ (e ∙ y .2));
         together = after-together s floor w call node v legal;
-        few = omega (arith, length-set (w .nodes) (call .node) node′, good .group .few);
+        few = omega (arith, stations, good .group .few);
       }
 
   -- which messages have been heard
@@ -106,16 +117,27 @@ module _ (s : Setup) (floor from : ℕ) (w : World) (call : Call) (node : Node) 
   explained-on v j heard f more (inl h) = inl h
   explained-on v j heard f more (inr x) = inr (x .0, x .1, old-at (x .0) (x .1) (x .2), x .3, more (x .0) (x .4), x .5, x .6)
 
-  -- it has reached v, one node more
-  gains : reached (s .epsilon) nodes′ (v + s .epsilon) ≡ suc (reached (s .epsilon) (w .nodes) (v + s .epsilon))
-  gains = reached-gains (s .epsilon) (w .nodes) v (call .node) node node′ (legal .at) (omega (arith, legal .called .turn, legal .called .step-pos)) (omega (arith, clock′))
+  -- the node of an earlier call
+  kinds-before : (j : ℕ) (a : Node) → getElem? (w .nodes) j ≡ some a → (b : Node) × (getElem? nodes′ j ≡ some b) × (b .listens ≡ a .listens)
+  kinds-before j a at =
+      elim (eq-or-ne (call .node) j) [
+        | inl q ↦
+            let e : a ≡ node = some-inj (sym at ∙ (ap (getElem? (w .nodes)) (sym q) ∙ legal .at)) in
+            (node′, ap (getElem? nodes′) (sym q) ∙ after-at (w .nodes) call node (legal .at), kind′ ∙ sym (ap (λ (x : Node). x .listens) e))
+        | inr q ↦ (a, after-other (w .nodes) call node j q ∙ at, refl)
+      ]
 
-  -- the new counts
-  bounded′ : Bounded s floor nodes′ v (eventFrame s (doneOf node call) .stamp .kn)
-  bounded′ =
-      subst (λ (t : Timestamp). Bounded s floor nodes′ v (t .kn)) (sym (event-own s node call (legal .called)))
-      (own-bounded s floor (w .nodes) nodes′ v (v % s .modulus) (heardStamp (inputOf node call)) (ends .stamp .absorbing .opened .wide)
-      (ends .limits .epsilon-pos) grows gains (ends .stamp .bounded))
+  kinds′ : AllKinds nodes′ past′
+  kinds′ k d at =
+      elim (getElem?-snoc-cases (w .past) (doneOf node call) k at) [
+        | inl q ↦
+            let r = good .kinds k d q in
+            let n = kinds-before (d .node) (r .0) (r .1) in
+            (n .0, n .1, n .2 ∙ r .2)
+        | inr q ↦
+            subst (λ (x : Done). (b : Node) × (getElem? nodes′ (x .node) ≡ some b) × (b .listens ≡ x .listens)) (sym (q .1))
+            (node′, unfold doneOf in (after-at (w .nodes) call node (legal .at)), unfold doneOf in kind′)
+      ]
 
   maker′ : (d : Done) → Maker (w .nodes) d → Maker nodes′ d
   maker′ d mk =
@@ -126,10 +148,18 @@ module _ (s : Setup) (floor from : ℕ) (w : World) (call : Call) (node : Node) 
             record {
               node = node′;
               at = ap (getElem? nodes′) (sym q) ∙ (after-at (w .nodes) call node (legal .at));
+              kind-is = kind′ ∙ (sym (ap (λ (x : Node). x .listens) e) ∙ mk .kind-is);
               own-is = own′ ∙ (sym (ap (λ (x : Node). x .own) e) ∙ mk .own-is);
               clock-is = omega (arith, mk .clock-is, clock′, legal .called .turn);
             }
-        | inr q ↦ record { node = mk .node; at = after-other (w .nodes) call node (d .node) q ∙ mk .at; own-is = mk .own-is; clock-is = mk .clock-is }
+        | inr q ↦
+            record {
+              node = mk .node;
+              at = after-other (w .nodes) call node (d .node) q ∙ mk .at;
+              kind-is = mk .kind-is;
+              own-is = mk .own-is;
+              clock-is = mk .clock-is;
+            }
       ]
 
   new-maker : Maker nodes′ (doneOf node call)
@@ -137,51 +167,76 @@ module _ (s : Setup) (floor from : ℕ) (w : World) (call : Call) (node : Node) 
       record {
         node = node′;
         at = unfold doneOf in (after-at (w .nodes) call node (legal .at));
+        kind-is = unfold doneOf in kind′;
         own-is = unfold doneOf in own′;
         clock-is = omega (arith, clock′, done-clock s node call (legal .called));
       }
 
-  new-settled : Settled s floor nodes′ (doneOf node call)
-  new-settled =
-      record {
-        event = event-made s node call (legal .called);
-        maker = new-maker;
-        bounded = subst (λ (v : ℕ). Bounded s floor nodes′ v (eventFrame s (doneOf node call) .stamp .kn)) (sym (done-clock s node call (legal .called))) bounded′;
-      }
+  -- a station's call
+  module _ (station : node .listens ≡ false) where
+    ticks : Ticks s node call v
+    ticks = record { due = legal .called; station = station }
 
-  calls′ : (k : ℕ) (d : Done) → getElem? past′ k ≡ some d → isAccepted (d .output) ≡ true → Settled s floor nodes′ d
-  calls′ k d at acc =
+    -- it has reached v, one station more
+    gains : reached (s .epsilon) nodes′ (v + s .epsilon) ≡ suc (reached (s .epsilon) (w .nodes) (v + s .epsilon))
+    gains =
+        reached-gains (s .epsilon) (w .nodes) v (call .node) node node′ (legal .at) (kind′ ∙ station)
+        (omega (arith, legal .called .turn, legal .called .step-pos)) (omega (arith, clock′))
+
+    -- the new counts
+    bounded′ : Bounded s floor nodes′ v (eventFrame s (doneOf node call) .stamp .kn)
+    bounded′ =
+        subst (λ (t : Timestamp). Bounded s floor nodes′ v (t .kn)) (sym (event-own s node call ticks))
+        (own-bounded s floor (w .nodes) nodes′ v (v % s .modulus) (heardStamp (inputOf node call)) (ends .stamp station .absorbing .opened .wide)
+        (ends .limits .epsilon-pos) grows gains (ends .stamp station .bounded))
+
+    new-settled : Settled s floor nodes′ (doneOf node call)
+    new-settled =
+        record {
+          event = event-made s node call ticks;
+          maker = new-maker;
+          bounded = subst (λ (v : ℕ). Bounded s floor nodes′ v (eventFrame s (doneOf node call) .stamp .kn)) (sym (done-clock s node call (legal .called))) bounded′;
+        }
+
+    -- no call of this station was for this clock before
+    first-at : (k : ℕ) (a : Done) → getElem? (w .past) k ≡ some a → isEvent a ≡ true → a .own ≡ node .own → a .clock ≡ v → ⊥
+    first-at k a at made o c =
+        let mk = good .calls k a at made .maker in
+        let e : a .node ≡ call .node =
+        good .group .distinct (a .node) (call .node) (mk .node) node (mk .at) (legal .at) (mk .kind-is ∙ event-kind a made) station (mk .own-is ∙ o) in
+        let q : mk .node ≡ node = some-inj (sym (mk .at) ∙ (ap (getElem? (w .nodes)) e ∙ legal .at)) in
+        let h : mk .node .clock ≡ node .clock = ap (λ (x : Node). x .clock) q in
+        omega (arith, mk .clock-is, legal .called .turn)
+
+  -- where the last call is an event, its node is a station
+  last-kind : (d : Done) → d ≡ doneOf node call → isEvent d ≡ true → node .listens ≡ false
+  unfolding doneOf
+  last-kind d e made = sym (ap (λ (x : Done). x .listens) e) ∙ event-kind d made
+
+  calls′ : (k : ℕ) (d : Done) → getElem? past′ k ≡ some d → isEvent d ≡ true → Settled s floor nodes′ d
+  calls′ k d at made =
       elim (getElem?-snoc-cases (w .past) (doneOf node call) k at) [
         | inl q ↦
-            let st = good .calls k d q acc in
+            let st = good .calls k d q made in
             record {
               event = st .event;
               maker = maker′ d (st .maker);
               bounded = bounded-grows s floor (w .nodes) nodes′ (d .clock) (eventFrame s d .stamp .kn) grows (st .bounded);
             }
-        | inr q ↦ subst (Settled s floor nodes′) (sym (q .1)) new-settled
+        | inr q ↦ subst (Settled s floor nodes′) (sym (q .1)) (new-settled (last-kind d (q .1) made))
       ]
 
-  -- no call of this station was for this clock before
-  first-at : (k : ℕ) (a : Done) → getElem? (w .past) k ≡ some a → isAccepted (a .output) ≡ true → a .own ≡ node .own → a .clock ≡ v → ⊥
-  first-at k a at acc o c =
-      let mk = good .calls k a at acc .maker in
-      let e : a .node ≡ call .node = good .group .distinct (a .node) (call .node) (mk .node) node (mk .at) (legal .at) (mk .own-is ∙ o) in
-      let q : mk .node ≡ node = some-inj (sym (mk .at) ∙ (ap (getElem? (w .nodes)) e ∙ legal .at)) in
-      let h : mk .node .clock ≡ node .clock = ap (λ (x : Node). x .clock) q in
-      omega (arith, mk .clock-is, legal .called .turn)
-
-  unique′ : (k l : ℕ) (a b : Done) → getElem? past′ k ≡ some a → getElem? past′ l ≡ some b → isAccepted (a .output) ≡ true → isAccepted (b .output) ≡ true → a .own ≡ b .own → a .clock ≡ b .clock → k ≡ l
+  unique′ : (k l : ℕ) (a b : Done) → getElem? past′ k ≡ some a → getElem? past′ l ≡ some b → isEvent a ≡ true → isEvent b ≡ true → a .own ≡ b .own → a .clock ≡ b .clock → k ≡ l
   unique′ k l a b p q x y o c =
       elim (getElem?-snoc-cases (w .past) (doneOf node call) k p) [
         | inl p′ ↦ elim (getElem?-snoc-cases (w .past) (doneOf node call) l q) [
           | inl q′ ↦ good .unique k l a b p′ q′ x y o c
           | inr q′ ↦
-              absurd (first-at k a p′ x (o ∙ (ap (λ (d : Done). d .own) (q′ .1) ∙ unfold doneOf in refl)) (c ∙ (ap (λ (d : Done). d .clock) (q′ .1) ∙ done-clock s node call (legal .called))))
+              absurd (first-at (last-kind b (q′ .1) y) k a p′ x (o ∙ (ap (λ (d : Done). d .own) (q′ .1) ∙ unfold doneOf in refl)) (c ∙ (ap (λ (d : Done). d .clock) (q′ .1) ∙ done-clock s node call (legal .called))))
         ]
         | inr p′ ↦ elim (getElem?-snoc-cases (w .past) (doneOf node call) l q) [
           | inl q′ ↦
-              absurd (first-at l b q′ y (sym o ∙ (ap (λ (d : Done). d .own) (p′ .1) ∙ unfold doneOf in refl)) (sym c ∙ (ap (λ (d : Done). d .clock) (p′ .1) ∙ done-clock s node call (legal .called))))
+              absurd (first-at (last-kind a (p′ .1) x) l b q′ y (sym o ∙ (ap (λ (d : Done). d .own) (p′ .1) ∙ unfold doneOf in refl)) (sym c ∙ (ap (λ (d : Done). d .clock) (p′ .1) ∙ done-clock s node call (legal .called))))
           | inr q′ ↦ p′ .0 ∙ sym (q′ .0)
         ]
       ]
@@ -201,38 +256,37 @@ module _ (s : Setup) (floor from : ℕ) (w : World) (call : Call) (node : Node) 
   other-ok j a ne (inr l) =
       inr (record {
         memory = l .memory;
-        bounded = bounded-grows s floor (w .nodes) nodes′ (a .clock) (trimmed (s .epsilon) (a .tables) .kn) grows (l .bounded);
         members = λ f mem. explained-on (a .clock) j (heardAt (w .past) j) f (λ k h. heard-other j k ne ∙ h) (l .members f mem);
         waiting = λ k m at fol hd un. l .waiting k m (known-at j k m at hd) fol (sym (heard-other j k ne) ∙ hd) un;
-        passed-on = λ k d at acc same.
-            elim (getElem?-snoc-cases (w .past) (doneOf node call) k at) [
-              | inl q ↦ l .passed-on k d q acc same
-              | inr q ↦ absurd (ne (unfold doneOf in (sym (ap (λ (x : Done). x .node) (q .1)) ∙ same)))
-            ];
+        stamp = λ station.
+            let t = l .stamp station in
+            record {
+              tables = t .tables;
+              bounded = bounded-grows s floor (w .nodes) nodes′ (a .clock) (trimmed (s .epsilon) (a .tables) .kn) grows (t .bounded);
+              passed-on = λ k d at made same.
+                  elim (getElem?-snoc-cases (w .past) (doneOf node call) k at) [
+                    | inl q ↦ t .passed-on k d q made same
+                    | inr q ↦ absurd (ne (unfold doneOf in (sym (ap (λ (x : Done). x .node) (q .1)) ∙ same)))
+                  ];
+            };
       })
 
   -- what the call leaves at its node, at its clock
-  tables-here : trimmed (s .epsilon) (node′ .tables) ≡ eventFrame s (doneOf node call) .stamp
-  tables-here = leaves-tables s node call (legal .called) ∙ sym (event-stamp s node call (legal .called))
-
-  queue-here : held (s .epsilon) (node′ .holdback) ≡ select (λ f. not (dueNow s (v % s .modulus) f)) (heardOf (inputOf node call) .queue)
-  unfolding keptOf
-  queue-here =
-      leaves-queue s node call (legal .called)
-      ∙ ap₂ (λ (t : Setup) (u : ℕ). select (λ f. not (dueNow t u f)) (heardOf (inputOf node call) .queue)) (setup-at s node call (legal .called)) (clock-at s node call (legal .called))
+  queue-here : held (s .epsilon) (node′ .holdback) ≡ select (λ f. not (dueNow s (v % s .modulus) f)) (heardOn s v node call .queue)
+  queue-here = leaves-queue s node call (legal .called)
 
   members′ : AllExplained s from past′ (heardAt past′ (call .node)) v (held (s .epsilon) (node′ .holdback))
   members′ f mem =
-      let r = mem-of-select (λ g. not (dueNow s (v % s .modulus) g)) (heardOf (inputOf node call) .queue) (subst (λ (q : List Frame). List·Memᴰ f q) queue-here mem) in
+      let r = mem-of-select (λ g. not (dueNow s (v % s .modulus) g)) (heardOn s v node call .queue) (subst (λ (q : List Frame). List·Memᴰ f q) queue-here mem) in
       explained-on v (call .node) (heardAt past′ (call .node)) f (λ k h. h) (ends .queue .members f (r .0))
 
-  -- a followed message that is due later is not delivered
-  not-due : (k : ℕ) (m : Done) → getElem? (w .past) k ≡ some m → followed from m ≡ true → v < due s (m .clock) (eventFrame s m .stamp .c)
+  -- a covered message that is due later is not delivered
+  not-due : (k : ℕ) (m : Done) → getElem? (w .past) k ≡ some m → covered from m ≡ true → v < due s (m .clock) (eventFrame s m .stamp .c)
       → dueNow s (v % s .modulus) (eventFrame s m) ≡ false
   unfolding dueNow dueNear due sum
   not-due k m at fol un =
       ne-eqb (readingOf s (v % s .modulus) (eventFrame s m) + eventFrame s m .stamp .c + s .delta + s .epsilon) (s .modulus)
-      (λ e. omega (arith, un, waiting-reads s floor from w call node v good legal k m at (followed-sends from m fol) (omega (arith, un, legal .called .turn, legal .called .step-pos))))
+      (λ e. omega (arith, un, waiting-reads s floor from w call node v good legal k m at (covered-sends from m fol) (omega (arith, un, legal .called .turn, legal .called .step-pos))))
 
   waiting′ : AllWaiting s from past′ (heardAt past′ (call .node)) v (held (s .epsilon) (node′ .holdback))
   waiting′ k m at fol hd un =
@@ -240,31 +294,43 @@ module _ (s : Setup) (floor from : ℕ) (w : World) (call : Call) (node : Node) 
       subst (λ (q : List Frame). List·Memᴰ (eventFrame s m) q) (sym queue-here)
       (mem-select (λ g. not (dueNow s (v % s .modulus) g)) (ends .queue .present k m old fol hd (omega arith)) (not-of-false (not-due k m old fol un)))
 
-  passes-on : (k : ℕ) (d : Done) → getElem? past′ k ≡ some d → isAccepted (d .output) ≡ true → d .node ≡ call .node → Passed-on s d v (eventFrame s (doneOf node call) .stamp)
-  passes-on k d at acc same =
-      record {
-        last = doneOf node call;
-        sound = event-made s node call (legal .called) .frame .sound;
-        comes =
-            elim (getElem?-snoc-cases (w .past) (doneOf node call) k at) [
-              | inl q ↦ inr (ends .kept .later k d q acc (unfold doneOf in same))
-              | inr q ↦ inl (q .1)
-            ];
-        under = rw (done-clock s node call (legal .called)) (record { sums = omega arith; counts = λ u h. omega arith });
-      }
+  -- a station's stamp
+  module _ (station : node .listens ≡ false) where
+    tables-here : trimmed (s .epsilon) (node′ .tables) ≡ eventFrame s (doneOf node call) .stamp
+    tables-here = leaves-tables s node call (ticks station) ∙ sym (event-stamp s node call (ticks station))
+
+    passes-on : (k : ℕ) (d : Done) → getElem? past′ k ≡ some d → isEvent d ≡ true → d .node ≡ call .node → Passed-on s d v (eventFrame s (doneOf node call) .stamp)
+    passes-on k d at made same =
+        record {
+          last = doneOf node call;
+          sound = event-made s node call (ticks station) .frame .sound;
+          comes =
+              elim (getElem?-snoc-cases (w .past) (doneOf node call) k at) [
+                | inl q ↦ inr (ends .kept .later (event-of (doneOf node call) (unfold doneOf in (legal .called .accepted)) (unfold doneOf in station)) k d q made (unfold doneOf in same))
+                | inr q ↦ inl (q .1)
+              ];
+          under = rw (done-clock s node call (legal .called)) (record { sums = omega arith; counts = λ u h. omega arith });
+        }
+
+    stamp-ok : LeftStamp s floor world′ (call .node) node′
+    stamp-ok =
+        record {
+          tables = tables-left s node call (ticks station);
+          bounded =
+              subst (λ (x : ℕ). Bounded s floor nodes′ x (trimmed (s .epsilon) (node′ .tables) .kn)) (sym clock′)
+              (subst (λ (t : Timestamp). Bounded s floor nodes′ v (t .kn)) (sym tables-here) (bounded′ station));
+          passed-on = λ k d at made same.
+              subst (λ (x : ℕ). Passed-on s d x (trimmed (s .epsilon) (node′ .tables))) (sym clock′)
+              (subst (λ (t : Timestamp). Passed-on s d v t) (sym tables-here) (passes-on k d at made same));
+        }
 
   here-ok : LeftAt s floor from world′ (call .node) node′
   here-ok =
       record {
         memory = memory-left s node call (legal .called);
-        bounded =
-            subst (λ (x : ℕ). Bounded s floor nodes′ x (trimmed (s .epsilon) (node′ .tables) .kn)) (sym clock′)
-            (subst (λ (t : Timestamp). Bounded s floor nodes′ v (t .kn)) (sym tables-here) bounded′);
         members = subst (λ (x : ℕ). AllExplained s from past′ (heardAt past′ (call .node)) x (held (s .epsilon) (node′ .holdback))) (sym clock′) members′;
         waiting = subst (λ (x : ℕ). AllWaiting s from past′ (heardAt past′ (call .node)) x (held (s .epsilon) (node′ .holdback))) (sym clock′) waiting′;
-        passed-on = λ k d at acc same.
-            subst (λ (x : ℕ). Passed-on s d x (trimmed (s .epsilon) (node′ .tables))) (sym clock′)
-            (subst (λ (t : Timestamp). Passed-on s d v t) (sym tables-here) (passes-on k d at acc same));
+        stamp = λ station. stamp-ok (sym kind′ ∙ station);
       }
 
   pub step-good : Good s floor from (act w call)
@@ -274,6 +340,7 @@ module _ (s : Setup) (floor from : ℕ) (w : World) (call : Call) (node : Node) 
         node = node-ok;
         calls = calls′;
         unique = unique′;
+        kinds = kinds′;
         heard-before = λ i k h. omega (arith, heard-known i k h, length-append (w .past) (doneOf node call ∷ []));
       })
     where

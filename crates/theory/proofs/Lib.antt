@@ -6,6 +6,7 @@ pub mod World
 pub mod Reach
 pub mod Stamps
 pub mod Event
+pub mod Boards
 pub mod HearLoop
 pub mod Delivery
 pub mod Opening
@@ -16,6 +17,7 @@ pub mod Invariant
 pub mod Stabilize
 pub mod Chains
 pub mod Start
+pub mod Fresh
 pub mod PublishedEvent
 pub mod PublishedQueue
 pub mod PublishedHear

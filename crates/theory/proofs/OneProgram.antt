@@ -14,7 +14,7 @@ use Rattle.laws.proofs.Numbers.{eq-or-ne, clash, or-cases, false-of-not}
 use Rattle.laws.proofs.Lists.{select-ext, every-mem, getElem?-mem}
 use Rattle.model.specs.Setup.{Setup}
 use Rattle.model.specs.Published.{Message, Process, deliverable, deliverableBy, inOrder, buffered, deliveredAt, advanced}
-use Rattle.model.specs.Run.{Call, Done, isAccepted, runFrom, atStart}
+use Rattle.model.specs.Run.{Call, Done, isEvent, runFrom, atStart}
 use Rattle.theory.specs.Premises.{stepsOfOne}
 use Rattle.theory.specs.Demand2.{messagesHeard, Published, Outcome, outcomeOf, publishOn, publish, publishAll, publishedStart, SameAs, Matched, OneProgram, Demand2Ones}
 use Rattle.theory.proofs.PublishedQueue.{messageDue}
@@ -70,12 +70,12 @@ outcome-alike s sent p v call undue =
     }
 
 -- one call
-publish-alike : (s : Setup) (u : Published) (d : Done) → (isAccepted (d .output) ≡ true → NoneOverdue s u d) → publish deliverable s u d ≡ publish deliverableBy s u d
+publish-alike : (s : Setup) (u : Published) (d : Done) → (isEvent d ≡ true → NoneOverdue s u d) → publish deliverable s u d ≡ publish deliverableBy s u d
 unfolding publish outcomeOf
-publish-alike s u d undue = go (isAccepted (d .output)) (getElem? (u .processes) (d .node)) refl refl
+publish-alike s u d undue = go (isEvent d) (getElem? (u .processes) (d .node)) refl refl
   where
     go :
-        (b : Bool) (o : Option Process) → isAccepted (d .output) ≡ b → getElem? (u .processes) (d .node) ≡ o
+        (b : Bool) (o : Option Process) → isEvent d ≡ b → getElem? (u .processes) (d .node) ≡ o
         → publishOn deliverable s u d b o ≡ publishOn deliverableBy s u d b o
     go b none e q = refl
     go false (some p) e q = refl
@@ -95,11 +95,11 @@ publish-all-alike s (d ∷ past) u each (suc j) =
     ap (λ (x : Published). publishAll deliverable s x (take j past)) (each 0 d refl)
     ∙ publish-all-alike s past (publish deliverableBy s u d) (λ k e at. each (suc k) e at) j
 
-step-one : (past : List Done) → stepsOfOne past ≡ true → (j : ℕ) (d : Done) → getElem? past j ≡ some d → isAccepted (d .output) ≡ true → d .call .step ≡ 1
+step-one : (past : List Done) → stepsOfOne past ≡ true → (j : ℕ) (d : Done) → getElem? past j ≡ some d → isEvent d ≡ true → d .call .step ≡ 1
 unfolding stepsOfOne
 step-one past ones j d at acc =
-    elim (or-cases (not (isAccepted (d .output))) (eqb (d .call .step) 1) (every-mem (λ e. not (isAccepted (e .output)) || eqb (e .call .step) 1) ones (getElem?-mem past j at))) [
-      | inl q ↦ absurd (clash acc (false-of-not (isAccepted (d .output)) q))
+    elim (or-cases (not (isEvent d)) (eqb (d .call .step) 1) (every-mem (λ e. not (isEvent e) || eqb (e .call .step) 1) ones (getElem?-mem past j at))) [
+      | inl q ↦ absurd (clash acc (false-of-not (isEvent d) q))
       | inr q ↦ eqb-true (d .call .step) 1 q
     ]
 

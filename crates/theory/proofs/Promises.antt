@@ -3,9 +3,9 @@
 use Prim.Native.Nat.{ℕ, zero, suc, _+_, _-_, _%_, _≤_, _<_, Ordering·lt}
 use native.Mathlib.Omega.{arith}
 use native.Mathlib.Nat.{zero-add, add-zero, suc-add}
-use mathlib.Core.Path.{_≡_, sym, ap, subst, _∙_}
+use mathlib.Core.Path.{_≡_, refl, sym, ap, subst, _∙_}
 use mathlib.Core.Logic.{_⊎_, inl, inr}
-use mathlib.Core.Bool.{true, false, _||_, not, cond, or-false}
+use mathlib.Core.Bool.{Bool, true, false, _||_, not, cond, or-false}
 use mathlib.Core.List.{List, [], _∷_, _++_, map, List·Memᴰ, List·Memᴰ·append-cases, Memᴰ·append-left, Memᴰ·append-right}
 use mathlib.Core.Option.{Option, some}
 use lib.ListN.{length, take, getD, getElem?}
@@ -15,37 +15,38 @@ use Rattle.laws.specs.Lists.{any, select, sortBy, placedAt}
 use Rattle.laws.specs.Lex.{lexCompare}
 use Rattle.laws.proofs.Numbers.{eq-or-ne, lt-or-ge, or-left, or-cases, not-of-false}
 use Rattle.laws.proofs.Lists.{getElem?-in, getElem?-lt, getElem?-getD, mem-select, mem-of-select}
-use Rattle.laws.proofs.Sorted.{Sorted}
 use Rattle.laws.proofs.Lex.{lex-trans}
 use Rattle.model.specs.Setup.{Setup, width}
 use Rattle.model.specs.Timestamp.{Timestamp, sum}
-use Rattle.model.specs.Frame.{Frame, encode}
-use Rattle.model.specs.Order.{readingOf, key, keyNear, due, dueNear}
+use Rattle.model.specs.Frame.{Frame, decode}
+use Rattle.model.specs.Order.{readingOf, key, due, dueNear}
 use Rattle.model.specs.Holdback.{heldBytes}
 use Rattle.model.specs.Batch.{batchEntries}
-use Rattle.model.specs.Judge.{Heard, hear, judgeQuestions, absorbAll}
-use Rattle.model.specs.Tick.{leastDue, heardOf, heardStamp, dueBefore, dueNow, openingStamp}
-use Rattle.model.specs.Run.{Node, Source, sentBy, stale, Call, Done, World, inputOf, isAccepted, outputOf, doneOf, nodeAfter, act, sends, messageBytes}
+use Rattle.model.specs.Question.{firstNo}
+use Rattle.model.specs.Judge.{Asking, Heard, hear, judgeQuestions, absorbBy, absorbAll}
+use Rattle.model.specs.Tick.{heardStamp, dueBefore, dueNow, openingStamp}
+use Rattle.model.specs.Run.{Node, Source, sentBy, stale, Call, Done, World, inputOf, outputOf, doneOf, nodeAfter, act, isEvent, sends, messageBytes}
 use Rattle.theory.specs.Premises.{clockAt}
-use Rattle.theory.specs.Demand3.{isFrom, earlier}
+use Rattle.theory.specs.Demand3.{covered, isFrom, earlier, dueHere, coveredFrame}
 use Rattle.lemmas.proofs.Bounds.{Limits, Sound, QueueOk}
 use Rattle.lemmas.proofs.Queue.{opening-queue, queue-rest}
 use Rattle.theory.proofs.Cause.{cause-first}
 use Rattle.lemmas.proofs.OneTick.{opening-stamp}
-use Rattle.theory.proofs.Event.{done-clock, after-clock, event-made, event-own, event-reads, delivers-frames, delivers-ok, delivers-sorted, delivers-bytes}
+use Rattle.theory.proofs.Event.{done-clock, after-clock, event-made, event-own, event-reads}
+use Rattle.theory.proofs.Boards.{heardOn, deliveredOn, delivers-ok, delivers-sorted, delivers-bytes}
 use Rattle.theory.proofs.Reach.{reached-some, reached-not-all}
 use Rattle.theory.proofs.Stamps.{own-under, own-strict}
-use Rattle.theory.proofs.HearLoop.{Settles, Arrival, Entry, Around, Unreached, QueueLoop, StampLoop, loop-verdict, judged-once, queue-one, stamp-takes, stamp-one, arrival-undue, followed-sends, some-inj}
+use Rattle.theory.proofs.HearLoop.{Settles, Arrival, Entry, Around, Unreached, QueueLoop, StampLoop, TakesOnce, judged-once, observed-once, queue-one, stamp-takes, stamp-one, arrival-undue, covered-sends, some-inj}
 use Rattle.theory.proofs.Delivery.{Delivers, delivery}
-use Rattle.theory.proofs.World.{eventFrame, openedAt, earlyAt, eventKey, Under, followed, heardAt, explained-more, Settled, Passed-on, Good, Legal, SentEntry, Kept, dueFollowed, followedFrame, act-is, sends-accepted, nodesAfter, after-at, after-other, after-together, Opens}
-use Rattle.theory.proofs.Opening.{node-opens}
-use Rattle.theory.proofs.Entries.{heardTo, stateAt, stampAt, state-suc, stamp-suc, state-end, stamp-end, heard-suc, state-verdict, from-entry, heard-end}
+use Rattle.theory.proofs.World.{eventFrame, askingBy, askingAt, leastAt, openedAt, earlyAt, eventKey, Under, heardAt, explained-more, Settled, Passed-on, Good, Ticks, Legal, SentEntry, Kept, act-is, sends-event, event-kind, nodesAfter, after-at, after-other, after-together, OpensQueue, OpensStamp}
+use Rattle.theory.proofs.Opening.{node-opens, node-opens-stamp}
+use Rattle.theory.proofs.Entries.{heardTo, stateAt, stampAt, state-suc, stamp-suc, state-end, asking-is, stamp-end, heard-suc, state-verdict, from-entry, heard-end}
 
--- what an accepted call for v has come to: the two halves after its last entry, and its promises
+-- what an accepted call for v has come to: the two halves after its last entry, the stamp of a station, and its promises
 pub record Ends (s : Setup) (floor from : ℕ) (w : World) (call : Call) (node : Node) (v : ℕ) : Type 0 where
   pub limits : Limits s
-  pub queue : QueueLoop s from (w .past) v (heardAt (w .past ++ (doneOf node call ∷ [])) (call .node)) (heardOf (inputOf node call) .queue)
-  pub stamp : StampLoop s floor (w .nodes) v (openingStamp s (v % s .modulus) (node .tables)) (heardStamp (inputOf node call))
+  pub queue : QueueLoop s from (w .past) v (heardAt (w .past ++ (doneOf node call ∷ [])) (call .node)) (heardOn s v node call .queue)
+  pub stamp : node .listens ≡ false → StampLoop s floor (w .nodes) v (openingStamp s (v % s .modulus) (node .tables)) (heardStamp (inputOf node call))
   pub kept : Kept s from (w .past) (doneOf node call)
 
 -- a message that is due past the clock before the call reads at its true clock
@@ -55,7 +56,7 @@ pub waiting-reads :
     → readingOf s (v % s .modulus) (eventFrame s m) + v ≡ s .modulus + m .clock
 unfolding due sum
 waiting-reads s floor from w call node v good legal k m at sent un =
-    let st = good .calls k m at (sends-accepted m sent) in
+    let st = good .calls k m at (sends-event m sent) in
     let limits = good .group .limits (call .node) node (legal .at) in
     event-reads s v m limits (st .event)
     (omega (arith, st .maker .clock-is, legal .called .turn, legal .called .step-pos, good .group .together (m .node) (call .node) (st .maker .node) node (st .maker .at) (legal .at)))
@@ -71,11 +72,11 @@ module _ (s : Setup) (floor from : ℕ) (settles : Settles s floor from) (w : Wo
             let r = reached-some (s .epsilon) (w .nodes) u h in
             omega (arith, r .3, legal .called .turn, legal .called .step-pos, good .group .together (r .0) (call .node) (r .1) node (r .2) (legal .at));
         unique = λ k l a b p q x y.
-            good .unique k l a b p q (sends-accepted a x) (sends-accepted b y);
+            good .unique k l a b p q (sends-event a x) (sends-event b y);
       }
 
-  pub unreached : Unreached s (w .nodes) v
-  unreached u h = omega (arith, reached-not-all (s .epsilon) (w .nodes) u (call .node) node (legal .at) (omega (arith, legal .called .turn, legal .called .step-pos)), good .group .few)
+  pub unreached : node .listens ≡ false → Unreached s (w .nodes) v
+  unreached station u h = omega (arith, reached-not-all (s .epsilon) (w .nodes) u (call .node) node (legal .at) station (omega (arith, legal .called .turn, legal .called .step-pos)), good .group .few)
 
   pub entry-at :
       (e : ℕ) (bytes : List ℕ) (o : Source) → getElem? (batchEntries (call .batch)) e ≡ some bytes → getElem? (call .sources) e ≡ some o
@@ -90,7 +91,7 @@ module _ (s : Setup) (floor from : ℕ) (settles : Settles s floor from) (w : Wo
       m = entry .message
 
       settled : Settled s floor (w .nodes) m
-      settled = good .calls k m (entry .at) (sends-accepted m (entry .sent))
+      settled = good .calls k m (entry .at) (sends-event m (entry .sent))
 
       near-by : clockAt (getElem? (nodesAfter (w .nodes) call node) (m .node)) ≤ m .clock + s .delta
       near-by = subst (λ (u : World). clockAt (getElem? (u .nodes) (m .node)) ≤ m .clock + s .delta) (act-is w call node (legal .at)) (entry .near-by)
@@ -132,44 +133,41 @@ module _ (s : Setup) (floor from : ℕ) (settles : Settles s floor from) (w : Wo
       entry-at e (getD (batchEntries (call .batch)) e []) (getD (call .sources) e stale) (getElem?-in (batchEntries (call .batch)) e [] h)
       (getElem?-in (call .sources) e stale (omega (arith, legal .lengths)))
 
+  -- it takes a covered message once, as an observer or as a station
+  takes-once : TakesOnce s floor from settles (w .nodes) (w .past) v around (askingAt s v node)
+  takes-once = go (node .listens) refl
+    where
+      go : (b : Bool) → node .listens ≡ b → TakesOnce s floor from settles (w .nodes) (w .past) v around (askingBy b s (v % s .modulus))
+      go true e = observed-once s floor from settles (w .nodes) (w .past) v around
+      go false e = judged-once s floor from settles (w .nodes) (w .past) v around (unreached e)
+
   queue-next : (e : ℕ) → e < length (batchEntries (call .batch)) → QueueAt e → QueueAt (suc e)
   queue-next e h loop =
       subst (λ (x : Heard). QueueLoop s from (w .past) v (heardTo (w .past) call (suc e)) (x .queue)) (sym (state-suc s v node call e h))
-      (queue-one s floor from settles (w .nodes) (w .past) v around (judgeQuestions s (v % s .modulus))
-      (judged-once s floor from settles (w .nodes) (w .past) v around unreached) (heardTo (w .past) call e) (heardTo (w .past) call (suc e)) (stateAt s v node call e)
+      (queue-one s floor from settles (w .nodes) (w .past) v around (askingAt s v node) takes-once (heardTo (w .past) call e) (heardTo (w .past) call (suc e)) (stateAt s v node call e)
       (getD (batchEntries (call .batch)) e []) (getD (call .sources) e stale) loop (entry-here e h) (heard-suc (w .past) call e (omega (arith, legal .lengths))))
 
-  stamp-next : (opening : Timestamp) (e : ℕ) → e < length (batchEntries (call .batch)) → StampAt opening e → StampAt opening (suc e)
-  stamp-next opening e h loop =
-      subst (StampLoop s floor (w .nodes) v opening) (sym (stamp-suc s v node call e h))
-      (stamp-one s floor from settles (w .nodes) (w .past) v around (stateAt s v node call e .queue) opening (stampAt s v node call e)
-      (getD (batchEntries (call .batch)) e []) (getD (call .sources) e stale) loop (entry-here e h))
-
-  stamp-on : (opening : Timestamp) (e n : ℕ) → n + e ≤ length (batchEntries (call .batch)) → StampAt opening e → StampAt opening (n + e)
-  stamp-on opening e zero h loop = rw zero-add loop
-  stamp-on opening e (suc n) h loop = rw suc-add (stamp-next opening (n + e) (omega arith) (stamp-on opening e n (omega arith) loop))
-
   -- what it starts from
-  starts : Opens s floor from w (call .node) (node .clock) v (openingStamp s (v % s .modulus) (node .tables)) (openedAt s v node)
+  starts : OpensQueue s from w (call .node) (node .clock) v (openedAt s v node)
   starts =
       node-opens s floor from w (call .node) node v (call .step) (around .limits) (settles .0) (good .node (call .node) node (legal .at))
       (legal .called .turn) (legal .called .step-pos) (legal .called .step-few)
 
-  opened-sound : QueueOk s (v % s .modulus) (leastDue s (v % s .modulus) (node .tables)) (openedAt s v node)
-  opened-sound = opening-queue s (v % s .modulus) (leastDue s (v % s .modulus) (node .tables)) (node .holdback) (around .limits)
+  opened-sound : QueueOk s (v % s .modulus) (leastAt s v node) (openedAt s v node)
+  opened-sound = opening-queue s (v % s .modulus) (leastAt s v node) (node .holdback) (around .limits)
 
-  -- a followed message's due clock, as the node reads it
+  -- a covered message's due clock, as the node reads it
   due-reads :
-      (k : ℕ) (m : Done) → getElem? (w .past) k ≡ some m → followed from m ≡ true → node .clock < due s (m .clock) (eventFrame s m .stamp .c)
+      (k : ℕ) (m : Done) → getElem? (w .past) k ≡ some m → covered from m ≡ true → node .clock < due s (m .clock) (eventFrame s m .stamp .c)
       → dueNear s (v % s .modulus) (eventFrame s m) + v ≡ s .modulus + due s (m .clock) (eventFrame s m .stamp .c)
   unfolding dueNear due sum
-  due-reads k m at fol un = omega (arith, waiting-reads s floor from w call node v good legal k m at (followed-sends from m fol) un)
+  due-reads k m at fol un = omega (arith, waiting-reads s floor from w call node v good legal k m at (covered-sends from m fol) un)
 
   queue-start : QueueAt 0
   unfolding stateAt hear any dueBefore
   queue-start =
       record {
-        sound = queue-rest s (v % s .modulus) (leastDue s (v % s .modulus) (node .tables)) (openedAt s v node) opened-sound;
+        sound = queue-rest s (v % s .modulus) (leastAt s v node) (openedAt s v node) opened-sound;
         members = λ f mem.
             explained-more s from (w .past) (heardAt (w .past) (call .node)) (heardTo (w .past) call 0) v f (λ j h. or-left false h)
             (starts .members f (mem-of-select (λ g. not (dueBefore s (v % s .modulus) g)) (openedAt s v node) mem .0));
@@ -180,21 +178,9 @@ module _ (s : Setup) (floor from : ℕ) (settles : Settles s floor from) (w : Wo
             (not-of-false (le-ltb (dueNear s (v % s .modulus) (eventFrame s m)) (s .modulus) (omega (arith, due-reads k m at fol un′, un))));
       }
 
-  stamp-start : StampAt (openingStamp s (v % s .modulus) (node .tables)) 0
-  unfolding stampAt absorbAll
-  stamp-start =
-      record {
-        absorbing = opening-stamp s (v % s .modulus) (node .tables) (around .limits);
-        bounded = starts .bounded;
-        wider = λ R f u. u;
-      }
-
   pub queue-at : (e : ℕ) → e ≤ length (batchEntries (call .batch)) → QueueAt e
   queue-at zero h = queue-start
   queue-at (suc e) h = queue-next e (omega arith) (queue-at e (omega arith))
-
-  pub stamp-at : (e : ℕ) → e ≤ length (batchEntries (call .batch)) → StampAt (openingStamp s (v % s .modulus) (node .tables)) e
-  stamp-at e h = rw (add-zero e) at (stamp-on (openingStamp s (v % s .modulus) (node .tables)) 0 e (omega arith) stamp-start)
 
   abbrev many : ℕ
   many = length (batchEntries (call .batch))
@@ -204,9 +190,9 @@ module _ (s : Setup) (floor from : ℕ) (settles : Settles s floor from) (w : Wo
 
   -- after the last entry
   queue-end :
-      QueueLoop s from (w .past) v (heardAt (w .past ++ (doneOf node call ∷ [])) (call .node)) (heardOf (inputOf node call) .queue)
+      QueueLoop s from (w .past) v (heardAt (w .past ++ (doneOf node call ∷ [])) (call .node)) (heardOn s v node call .queue)
   queue-end =
-      subst (λ (h : Heard). QueueLoop s from (w .past) v (heardAt (w .past ++ (doneOf node call ∷ [])) (call .node)) (h .queue)) (sym (state-end s v node call (legal .called)))
+      subst (λ (h : Heard). QueueLoop s from (w .past) v (heardAt (w .past ++ (doneOf node call ∷ [])) (call .node)) (h .queue)) (sym (state-end s v node call))
       (record {
         sound = all .sound;
         members = λ f mem. explained-more s from (w .past) (heardTo (w .past) call many) (heardAt (w .past ++ (doneOf node call ∷ [])) (call .node)) v f (λ j h. sym (heard-all j) ∙ h) (all .members f mem);
@@ -215,30 +201,6 @@ module _ (s : Setup) (floor from : ℕ) (settles : Settles s floor from) (w : Wo
     where
       all : QueueAt many
       all = queue-at many (omega arith)
-
-  stamps-end : (opening : Timestamp) → StampAt opening many → StampLoop s floor (w .nodes) v opening (heardStamp (inputOf node call))
-  stamps-end opening loop = subst (StampLoop s floor (w .nodes) v opening) (sym (stamp-end s v node call (legal .called))) loop
-
-  stamp-all : StampLoop s floor (w .nodes) v (openingStamp s (v % s .modulus) (node .tables)) (heardStamp (inputOf node call))
-  stamp-all = stamps-end (openingStamp s (v % s .modulus) (node .tables)) (stamp-at many (omega arith))
-
-  causes :
-      (R : ℕ) (f : Frame) → Sound (s .n) (s .epsilon) (f .stamp) → Under R (f .stamp) v (heardStamp (inputOf node call))
-      → lexCompare (key s R f) (eventKey s (doneOf node call)) ≡ Ordering·lt
-  unfolding eventKey
-  causes R f sound under =
-      subst (λ (u : ℕ). lexCompare (key s R f) (key s u (eventFrame s (doneOf node call))) ≡ Ordering·lt) (sym (done-clock s node call (legal .called)))
-      (cause-first s R v f (eventFrame s (doneOf node call)) sound (event-made s node call (legal .called) .frame .sound) (more .sums) (more .counts)
-      (subst (λ (t : Timestamp). placedAt R (f .stamp .kn) (v + s .epsilon) < placedAt v (t .kn) (v + s .epsilon)) (sym (event-own s node call (legal .called)))
-      (own-strict (s .epsilon) v (v % s .modulus) R (f .stamp) (heardStamp (inputOf node call)) wide (around .limits .epsilon-pos) under)))
-    where
-      wide : length (heardStamp (inputOf node call) .kn) ≡ width (s .epsilon)
-      wide = stamp-all .absorbing .opened .wide
-
-      more : Under R (f .stamp) v (eventFrame s (doneOf node call) .stamp)
-      more =
-          subst (λ (t : Timestamp). Under R (f .stamp) v t) (sym (event-own s node call (legal .called)))
-          (own-under (s .epsilon) v (v % s .modulus) R (f .stamp) (heardStamp (inputOf node call)) wide (around .limits .epsilon-pos) under)
 
   -- an entry from an earlier call
   entry-of :
@@ -277,23 +239,23 @@ module _ (s : Setup) (floor from : ℕ) (settles : Settles s floor from) (w : Wo
       ]
 
   hears :
-      (e k : ℕ) (m : Done) → getElem? (call .sources) e ≡ some (sentBy k) → getElem? (w .past) k ≡ some m → followed from m ≡ true
+      (e k : ℕ) (m : Done) → getElem? (call .sources) e ≡ some (sentBy k) → getElem? (w .past) k ≡ some m → covered from m ≡ true
       → getD (outputOf node call .verdicts) e 0 ≡ cond (heardAt (w .past) (call .node) k || any (isFrom k) (take e (call .sources))) 16 0
   hears e k m o-at at fol =
       let r = arrival-of e k m o-at at in
       state-verdict s v node call (legal .called) e (messageBytes m) (r .1)
-      ∙ loop-verdict s floor from settles (w .nodes) (w .past) v around unreached (heardTo (w .past) call e) (stateAt s v node call e .queue)
+      ∙ takes-once .verdict (heardTo (w .past) call e) (stateAt s v node call e .queue)
       (queue-at e (omega (arith, getElem?-lt (batchEntries (call .batch)) e (r .1)))) k m (r .0) fol
 
-  -- what of the followed messages heard here has come due since the clock before this call
+  -- what of the covered messages heard here has come due since the clock before this call
   came-due :
       Delivers s from (w .past) (heardAt (w .past ++ (doneOf node call ∷ [])) (call .node)) (node .clock) v
-      (earlyAt s v node ++ select (dueNow s (v % s .modulus)) (heardOf (inputOf node call) .queue))
+      (deliveredOn s v node call)
   unfolding dueNow dueBefore
   came-due =
       record {
-        ok = λ f m. delivers-ok s node call (legal .called) f (subst (λ (l : List Frame). List·Memᴰ f l) (sym (delivers-frames s node call (legal .called))) m);
-        sorted = subst (Sorted (keyNear s (v % s .modulus))) (delivers-frames s node call (legal .called)) (delivers-sorted s node call (legal .called));
+        ok = delivers-ok s node call (legal .called);
+        sorted = delivers-sorted s node call (legal .called);
         members = λ f m.
             elim (split f m) [
               | inl q ↦
@@ -314,7 +276,7 @@ module _ (s : Setup) (floor from : ℕ) (settles : Settles s floor from) (w : Wo
         all = λ k m at fol hd lo hi.
             elim (lt-or-ge (due s (m .clock) (eventFrame s m .stamp .c)) v) [
               | inl q ↦
-                  Memᴰ·append-left (select (dueNow s (v % s .modulus)) (heardOf (inputOf node call) .queue))
+                  Memᴰ·append-left (select (dueNow s (v % s .modulus)) (heardOn s v node call .queue))
                   (mem-select (dueBefore s (v % s .modulus)) (starts .waiting k m at fol (heard-before k m at q hd) lo)
                   (lt-ltb (dueNear s (v % s .modulus) (eventFrame s m)) (s .modulus) (omega (arith, due-reads k m at fol lo))))
               | inr q ↦
@@ -325,92 +287,167 @@ module _ (s : Setup) (floor from : ℕ) (settles : Settles s floor from) (w : Wo
       }
     where
       split :
-          (f : Frame) → List·Memᴰ f (earlyAt s v node ++ select (dueNow s (v % s .modulus)) (heardOf (inputOf node call) .queue))
+          (f : Frame) → List·Memᴰ f (deliveredOn s v node call)
           → (List·Memᴰ f (openedAt s v node) × (dueBefore s (v % s .modulus) f ≡ true))
-          ⊎ (List·Memᴰ f (heardOf (inputOf node call) .queue) × (dueNow s (v % s .modulus) f ≡ true))
+          ⊎ (List·Memᴰ f (heardOn s v node call .queue) × (dueNow s (v % s .modulus) f ≡ true))
       split f m =
           elim (List·Memᴰ·append-cases (earlyAt s v node) m) [
             | inl q ↦ inl (mem-of-select (dueBefore s (v % s .modulus)) (openedAt s v node) q)
-            | inr q ↦ inr (mem-of-select (dueNow s (v % s .modulus)) (heardOf (inputOf node call) .queue) q)
+            | inr q ↦ inr (mem-of-select (dueNow s (v % s .modulus)) (heardOn s v node call .queue) q)
           ]
 
   delivers-here :
-      select (followedFrame s from v) (heldBytes (s .epsilon) (outputOf node call .delivery))
-      ≡ map messageBytes (sortBy (earlier s) (dueFollowed s from (w .past ++ (doneOf node call ∷ [])) (call .node) (node .clock) v))
+      select (coveredFrame s from v) (heldBytes (s .epsilon) (outputOf node call .delivery))
+      ≡ map messageBytes (sortBy (earlier s) (dueHere s from (w .past ++ (doneOf node call ∷ [])) (call .node) (node .clock) v))
   delivers-here =
-      ap (select (followedFrame s from v)) (delivers-bytes s node call (legal .called) ∙ ap (map encode) (delivers-frames s node call (legal .called)))
+      ap (select (coveredFrame s from v)) (delivers-bytes s node call (legal .called))
       ∙ delivery s from (node .clock) v (call .node) (w .past) (doneOf node call)
-      (earlyAt s v node ++ select (dueNow s (v % s .modulus)) (heardOf (inputOf node call) .queue)) (around .limits)
-      (omega (arith, legal .called .turn, legal .called .step-few)) (λ k m at acc. good .calls k m at acc .event) (good .unique)
+      (deliveredOn s v node call) (around .limits)
+      (omega (arith, legal .called .turn, legal .called .step-few)) (λ k m at made. good .calls k m at made .event) (good .unique)
       (done-clock s node call (legal .called)) came-due
 
   delivers :
-      select (followedFrame s from (doneOf node call .clock)) (heldBytes (s .epsilon) (doneOf node call .output .delivery))
-      ≡ map messageBytes (sortBy (earlier s) (dueFollowed s from (w .past ++ (doneOf node call ∷ [])) (doneOf node call .node) (doneOf node call .last) (doneOf node call .clock)))
+      select (coveredFrame s from (doneOf node call .clock)) (heldBytes (s .epsilon) (doneOf node call .output .delivery))
+      ≡ map messageBytes (sortBy (earlier s) (dueHere s from (w .past ++ (doneOf node call ∷ [])) (doneOf node call .node) (doneOf node call .last) (doneOf node call .clock)))
   delivers =
-      subst (λ (u : ℕ). select (followedFrame s from u) (heldBytes (s .epsilon) (doneOf node call .output .delivery))
-      ≡ map messageBytes (sortBy (earlier s) (dueFollowed s from (w .past ++ (doneOf node call ∷ [])) (doneOf node call .node) (doneOf node call .last) u)))
+      subst (λ (u : ℕ). select (coveredFrame s from u) (heldBytes (s .epsilon) (doneOf node call .output .delivery))
+      ≡ map messageBytes (sortBy (earlier s) (dueHere s from (w .past ++ (doneOf node call ∷ [])) (doneOf node call .node) (doneOf node call .last) u)))
       (sym (done-clock s node call (legal .called))) (unfold doneOf in delivers-here)
 
-  comes-later :
-      (k : ℕ) (a : Done) → getElem? (w .past) k ≡ some a → isAccepted (a .output) ≡ true → a .node ≡ call .node
-      → lexCompare (eventKey s a) (eventKey s (doneOf node call)) ≡ Ordering·lt
-  unfolding eventKey
-  comes-later k a at acc same =
-      elim (before .comes) [
-        | inl q ↦ subst (λ (x : Done). lexCompare (eventKey s x) (eventKey s (doneOf node call)) ≡ Ordering·lt) (sym q) least
-        | inr q ↦ lex-trans (eventKey s a) (eventKey s (before .last)) (eventKey s (doneOf node call)) q least
-      ]
-    where
-      before : Passed-on s a v (openingStamp s (v % s .modulus) (node .tables))
-      before = starts .passed-on k a at acc same
+  -- the stamp half, of a station
+  module _ (station : node .listens ≡ false) where
+    ticks : Ticks s node call v
+    ticks = record { due = legal .called; station = station }
 
-      least : lexCompare (eventKey s (before .last)) (eventKey s (doneOf node call)) ≡ Ordering·lt
-      least =
-          causes (before .last .clock) (eventFrame s (before .last)) (before .sound)
-          (stamp-all .wider (before .last .clock) (eventFrame s (before .last) .stamp) (before .under))
+    starts-stamp : OpensStamp s floor w (call .node) v (openingStamp s (v % s .modulus) (node .tables))
+    starts-stamp =
+        node-opens-stamp s floor from w (call .node) node v (call .step) (around .limits) (good .node (call .node) node (legal .at)) station
+        (legal .called .turn) (legal .called .step-pos) (legal .called .step-few)
 
-  takes-first :
-      (e k : ℕ) (m : Done) → getElem? (call .sources) e ≡ some (sentBy k) → getElem? (w .past) k ≡ some m → getD (outputOf node call .verdicts) e 0 ≡ 0
-      → lexCompare (eventKey s m) (eventKey s (doneOf node call)) ≡ Ordering·lt
-  unfolding eventKey
-  takes-first e k m o-at at zero-at =
-      causes (m .clock) (eventFrame s m) (r .0 .event .frame .sound) (stamps-end (stampAt s v node call (suc e)) rest .wider (m .clock) (eventFrame s m .stamp) taken)
-    where
-      r : Arrival s floor (w .nodes) (w .past) v k m × (getElem? (batchEntries (call .batch)) e ≡ some (messageBytes m))
-      r = arrival-of e k m o-at at
+    stamp-next : (opening : Timestamp) (e : ℕ) → e < length (batchEntries (call .batch)) → StampAt opening e → StampAt opening (suc e)
+    stamp-next opening e h loop =
+        subst (StampLoop s floor (w .nodes) v opening) (sym (stamp-suc s v node call e h))
+        (subst
+        (λ (asking : Asking). StampLoop s floor (w .nodes) v opening
+        (absorbBy (firstNo (asking (stateAt s v node call e .queue) (getD (batchEntries (call .batch)) e []))) s (v % s .modulus) (decode (s .epsilon) (getD (batchEntries (call .batch)) e [])) (stampAt s v node call e)))
+        (sym (asking-is s v node call ticks))
+        (stamp-one s floor from settles (w .nodes) (w .past) v around (stateAt s v node call e .queue) opening (stampAt s v node call e)
+        (getD (batchEntries (call .batch)) e []) (getD (call .sources) e stale) loop (entry-here e h)))
 
-      inside : e < many
-      inside = getElem?-lt (batchEntries (call .batch)) e (r .1)
+    stamp-on : (opening : Timestamp) (e n : ℕ) → n + e ≤ length (batchEntries (call .batch)) → StampAt opening e → StampAt opening (n + e)
+    stamp-on opening e zero h loop = rw zero-add loop
+    stamp-on opening e (suc n) h loop = rw suc-add (stamp-next opening (n + e) (omega arith) (stamp-on opening e n (omega arith) loop))
 
-      taken : Under (m .clock) (eventFrame s m .stamp) v (stampAt s v node call (suc e))
-      taken =
-          subst (λ (t : Timestamp). Under (m .clock) (eventFrame s m .stamp) v t)
-          (sym (rw (getElem?-getD (batchEntries (call .batch)) e [] (r .1)) at (stamp-suc s v node call e inside)))
-          (stamp-takes s floor from settles (w .nodes) (w .past) v around (stateAt s v node call e .queue) (openingStamp s (v % s .modulus) (node .tables)) (stampAt s v node call e)
-          (stamp-at e (omega (arith, inside))) k m (r .0) (sym (state-verdict s v node call (legal .called) e (messageBytes m) (r .1)) ∙ zero-at))
+    stamp-start : StampAt (openingStamp s (v % s .modulus) (node .tables)) 0
+    unfolding stampAt absorbAll
+    stamp-start =
+        record {
+          absorbing = opening-stamp s (v % s .modulus) (node .tables) (around .limits);
+          bounded = starts-stamp .bounded;
+          wider = λ R f u. u;
+        }
 
-      opens : StampAt (stampAt s v node call (suc e)) (suc e)
-      opens =
-          let l = stamp-at (suc e) inside in
-          record { absorbing = l .absorbing; bounded = l .bounded; wider = λ R f u. u }
+    pub stamp-at : (e : ℕ) → e ≤ length (batchEntries (call .batch)) → StampAt (openingStamp s (v % s .modulus) (node .tables)) e
+    stamp-at e h = rw (add-zero e) at (stamp-on (openingStamp s (v % s .modulus) (node .tables)) 0 e (omega arith) stamp-start)
 
-      rest : StampAt (stampAt s v node call (suc e)) many
-      rest =
-          let q : many - suc e + suc e ≡ many = omega (arith, inside) in
-          subst (StampAt (stampAt s v node call (suc e))) q (stamp-on (stampAt s v node call (suc e)) (suc e) (many - suc e) (omega (arith, inside)) opens)
+    stamps-end : (opening : Timestamp) → StampAt opening many → StampLoop s floor (w .nodes) v opening (heardStamp (inputOf node call))
+    stamps-end opening loop = subst (StampLoop s floor (w .nodes) v opening) (sym (stamp-end s v node call ticks)) loop
+
+    stamp-all : StampLoop s floor (w .nodes) v (openingStamp s (v % s .modulus) (node .tables)) (heardStamp (inputOf node call))
+    stamp-all = stamps-end (openingStamp s (v % s .modulus) (node .tables)) (stamp-at many (omega arith))
+
+    causes :
+        (R : ℕ) (f : Frame) → Sound (s .n) (s .epsilon) (f .stamp) → Under R (f .stamp) v (heardStamp (inputOf node call))
+        → lexCompare (key s R f) (eventKey s (doneOf node call)) ≡ Ordering·lt
+    unfolding eventKey
+    causes R f sound under =
+        subst (λ (u : ℕ). lexCompare (key s R f) (key s u (eventFrame s (doneOf node call))) ≡ Ordering·lt) (sym (done-clock s node call (legal .called)))
+        (cause-first s R v f (eventFrame s (doneOf node call)) sound (event-made s node call ticks .frame .sound) (more .sums) (more .counts)
+        (subst (λ (t : Timestamp). placedAt R (f .stamp .kn) (v + s .epsilon) < placedAt v (t .kn) (v + s .epsilon)) (sym (event-own s node call ticks))
+        (own-strict (s .epsilon) v (v % s .modulus) R (f .stamp) (heardStamp (inputOf node call)) wide (around .limits .epsilon-pos) under)))
+      where
+        wide : length (heardStamp (inputOf node call) .kn) ≡ width (s .epsilon)
+        wide = stamp-all .absorbing .opened .wide
+
+        more : Under R (f .stamp) v (eventFrame s (doneOf node call) .stamp)
+        more =
+            subst (λ (t : Timestamp). Under R (f .stamp) v t) (sym (event-own s node call ticks))
+            (own-under (s .epsilon) v (v % s .modulus) R (f .stamp) (heardStamp (inputOf node call)) wide (around .limits .epsilon-pos) under)
+
+    comes-later :
+        (k : ℕ) (a : Done) → getElem? (w .past) k ≡ some a → isEvent a ≡ true → a .node ≡ call .node
+        → lexCompare (eventKey s a) (eventKey s (doneOf node call)) ≡ Ordering·lt
+    unfolding eventKey
+    comes-later k a at acc same =
+        elim (before .comes) [
+          | inl q ↦ subst (λ (x : Done). lexCompare (eventKey s x) (eventKey s (doneOf node call)) ≡ Ordering·lt) (sym q) least
+          | inr q ↦ lex-trans (eventKey s a) (eventKey s (before .last)) (eventKey s (doneOf node call)) q least
+        ]
+      where
+        before : Passed-on s a v (openingStamp s (v % s .modulus) (node .tables))
+        before = starts-stamp .passed-on k a at acc same
+
+        least : lexCompare (eventKey s (before .last)) (eventKey s (doneOf node call)) ≡ Ordering·lt
+        least =
+            causes (before .last .clock) (eventFrame s (before .last)) (before .sound)
+            (stamp-all .wider (before .last .clock) (eventFrame s (before .last) .stamp) (before .under))
+
+    takes-first :
+        (e k : ℕ) (m : Done) → getElem? (call .sources) e ≡ some (sentBy k) → getElem? (w .past) k ≡ some m → getD (outputOf node call .verdicts) e 0 ≡ 0
+        → lexCompare (eventKey s m) (eventKey s (doneOf node call)) ≡ Ordering·lt
+    unfolding eventKey
+    takes-first e k m o-at at zero-at =
+        causes (m .clock) (eventFrame s m) (r .0 .event .frame .sound) (stamps-end (stampAt s v node call (suc e)) rest .wider (m .clock) (eventFrame s m .stamp) taken)
+      where
+        r : Arrival s floor (w .nodes) (w .past) v k m × (getElem? (batchEntries (call .batch)) e ≡ some (messageBytes m))
+        r = arrival-of e k m o-at at
+
+        inside : e < many
+        inside = getElem?-lt (batchEntries (call .batch)) e (r .1)
+
+        verdict : firstNo (judgeQuestions s (v % s .modulus) (stateAt s v node call e .queue) (messageBytes m)) ≡ 0
+        verdict =
+            subst (λ (asking : Asking). firstNo (asking (stateAt s v node call e .queue) (messageBytes m)) ≡ 0) (asking-is s v node call ticks)
+            (sym (state-verdict s v node call (legal .called) e (messageBytes m) (r .1)) ∙ zero-at)
+
+        next :
+            stampAt s v node call (suc e)
+            ≡ absorbBy (firstNo (judgeQuestions s (v % s .modulus) (stateAt s v node call e .queue) (messageBytes m))) s (v % s .modulus) (decode (s .epsilon) (messageBytes m)) (stampAt s v node call e)
+        next =
+            rw (getElem?-getD (batchEntries (call .batch)) e [] (r .1)) at (stamp-suc s v node call e inside)
+            ∙ ap (λ (asking : Asking). absorbBy (firstNo (asking (stateAt s v node call e .queue) (messageBytes m))) s (v % s .modulus) (decode (s .epsilon) (messageBytes m)) (stampAt s v node call e))
+            (asking-is s v node call ticks)
+
+        taken : Under (m .clock) (eventFrame s m .stamp) v (stampAt s v node call (suc e))
+        taken =
+            subst (λ (t : Timestamp). Under (m .clock) (eventFrame s m .stamp) v t) (sym next)
+            (stamp-takes s floor from settles (w .nodes) (w .past) v around (stateAt s v node call e .queue) (openingStamp s (v % s .modulus) (node .tables)) (stampAt s v node call e)
+            (stamp-at e (omega (arith, inside))) k m (r .0) verdict)
+
+        opens : StampAt (stampAt s v node call (suc e)) (suc e)
+        opens =
+            let l = stamp-at (suc e) inside in
+            record { absorbing = l .absorbing; bounded = l .bounded; wider = λ R f u. u }
+
+        rest : StampAt (stampAt s v node call (suc e)) many
+        rest =
+            let q : many - suc e + suc e ≡ many = omega (arith, inside) in
+            subst (StampAt (stampAt s v node call (suc e))) q (stamp-on (stampAt s v node call (suc e)) (suc e) (many - suc e) (omega (arith, inside)) opens)
 
   step-kept : Kept s from (w .past) (doneOf node call)
   step-kept =
       record {
-        event = event-made s node call (legal .called);
+        event = λ made. event-made s node call (ticks (here made));
         setup-is = unfold doneOf in (legal .called .setup-is);
         hearing = unfold doneOf in hears;
         delivering = delivers;
-        later = unfold doneOf in comes-later;
-        takes = unfold doneOf in takes-first;
+        later = λ made. unfold doneOf in (comes-later (here made));
+        takes = λ made. unfold doneOf in (takes-first (here made));
         sent-before = unfold doneOf in sent-first;
       }
+    where
+      here : isEvent (doneOf node call) ≡ true → node .listens ≡ false
+      here made = unfold doneOf in (event-kind (doneOf node call) made)
 
   pub ends : Ends s floor from w call node v
   ends = record { limits = around .limits; queue = queue-end; stamp = stamp-all; kept = step-kept }

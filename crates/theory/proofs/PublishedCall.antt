@@ -5,14 +5,14 @@ use native.Mathlib.Omega.{arith}
 use native.Mathlib.Nat.{zero-add}
 use mathlib.Core.Path.{_≡_, refl, sym, ap, ap₂, subst, _∙_}
 use mathlib.Core.Logic.{_⊎_, inl, inr}
-use mathlib.Core.Bool.{Bool, true, _||_, not, cond, or-false}
+use mathlib.Core.Bool.{Bool, true, false, _||_, not, cond, or-false}
 use mathlib.Core.List.{List, [], _∷_, _++_, map}
 use mathlib.Core.List.{List·Memᴰ, List·Memᴰ·append-cases, Memᴰ·append-left, Memᴰ·append-right}
 use mathlib.Core.Option.{Option, some}
 use lib.Dec.{leb, ltb}
 use lib.ListN.{length, getElem?, length-map}
 use borrow.Author.Tests.{leb-false, eq-eqb}
-use Rattle.laws.specs.Lists.{any, select, apart, overlay, chained}
+use Rattle.laws.specs.Lists.{any, select, apart, overlay}
 use Rattle.laws.proofs.Numbers.{clash, true-or-false, or-left, or-right, or-cases, false-of-no, false-of-not}
 use Rattle.laws.proofs.Lists.{getElem?-lt, getElem?-append, getElem?-snoc-cases, mem-of-map, mem-of-select}
 use Rattle.laws.proofs.Sorted.{lessBy, Sorted, sorted-of-chained, sorted-select, apart-append, apart-select}
@@ -23,25 +23,28 @@ use Rattle.model.specs.Order.{keyNear, compareFrames, before}
 use Rattle.model.specs.Codec.{frameOf}
 use Rattle.model.specs.Batch.{batchEntries}
 use Rattle.model.specs.Holdback.{encodeFrames, encodeHoldback}
-use Rattle.model.specs.Judge.{Heard, hear, absorbAll}
-use Rattle.model.specs.Tick.{Output, holdbackSize, openingStamp, repairOf, heardOf, newStamp, sentBytes, dueBefore, dueNow, deliveredOf, keptOf, takenCount, acceptance}
+use Rattle.model.specs.Judge.{Asking, Heard, hear, judgeQuestions, absorbAll}
+use Rattle.model.specs.Tick.{Output, holdbackSize, openingStamp, openedQueue, earlyOf, repairOf, heardOf, newStamp, sentBytes, dueBefore, dueNow, deliveredOf, takenCount, acceptance}
 use Rattle.model.specs.Published.{Event, Message, Process, known, rank, sameMessage, newOnes, nextEvent, eventOf, deliverableBy, inOrder, buffered, deliveredAt, advanced, messageOf}
 use Rattle.model.specs.Run.{Node, Call, Done, World, inputOf, outputOf, doneOf, nodeAfter}
 use Rattle.theory.specs.Demand2.{reduced, reducedFrame, messagesHeard, verdictsOn, outcomeOf, SameAs}
 use Rattle.theory.specs.Demand3.{isFrom, heardIn}
 use Rattle.lemmas.proofs.Counts.{trimmed-same}
 use Rattle.lemmas.proofs.Bounds.{Limits, Sound}
-use Rattle.lemmas.proofs.OneTick.{numbersOf, hearing-end, tables-are, holdback-is, delivery-is, outgoing-is, sent-is, verdicts-are}
-use Rattle.theory.proofs.World.{openedAt, restAt, Memory, NodeOk, eventFrame, heardAt, Good, Legal}
-use Rattle.theory.proofs.Event.{accepted-input, setup-at, clock-at, done-clock, after-clock, sound-at, delivers-frames, delivers-sorted, leaves-tables, leaves-queue}
+use Rattle.lemmas.proofs.Board.{numbersOf, board-heard}
+use Rattle.lemmas.proofs.OneTick.{tables-are, outgoing-is, sent-is, verdicts-are}
+use Rattle.theory.proofs.World.{askingAt, leastAt, openedAt, restAt, Memory, Tables, LeftAt, NodeOk, eventFrame, heardAt, Good, Ticks, Legal}
+use Rattle.theory.proofs.Event.{output-tick, accepted-input, setup-at, clock-at, done-clock, after-clock, sound-at, leaves-tables}
+use Rattle.theory.proofs.Boards.{heardOn, deliveredOn, keptOn, board-at, delivery-here, holdback-here, delivers-sorted, leaves-queue}
 use Rattle.theory.proofs.Event as event
 use Rattle.theory.proofs.Opening.{opens-tables, opens-shelf, opens-calm}
-use Rattle.theory.proofs.Entries.{heardTo, startHere, stateAt, heard-all, absorbed-all}
+use Rattle.theory.proofs.Entries.{heardTo, startHere, stateAt, asking-is, heard-all, absorbed-all}
+use Rattle.theory.proofs.Fresh.{settles-fresh}
 use Rattle.theory.proofs.Promises.{around, unreached, entry-at, queue-at}
 use Rattle.theory.proofs.PublishedEvent.{ReadsTrue, absorbEvents, event-stamp, event-wide, Knows, knows-refl, knows-trans, next-knows, next-more}
 use Rattle.theory.proofs.PublishedQueue.{messageDue, before-same, SameMembers, members-select, delivered-members, kept-members, order-same, rank-before}
 use Rattle.theory.proofs.PublishedHear.{SeenIs, News, same-self, news-stamp, news-queue, news-taken, news-from, news-all, news-sent, news-apart, news-verdicts}
-use Rattle.theory.proofs.PublishedRun.{SentAs, RankedSent, Waits, Twin, heard-snoc, grown-at, settles-fresh, waits-reads, waits-next, told, one-rank, copied-ok, news-of}
+use Rattle.theory.proofs.PublishedRun.{SentAs, RankedSent, Waits, Twin, heard-snoc, grown-at, waits-reads, waits-next, told, one-rank, copied-ok, news-of}
 
 -- the messages heard in a call, and the new ones among them
 abbrev pub heardHere : List (Option Message) → Call → List Message
@@ -60,26 +63,35 @@ seen-same sent heard heard′ seen same is =
 
 module _ (s : Setup) (w : World) (sent : List (Option Message)) (call : Call) (node : Node) (v : ℕ) (p : Process)
     (good : Good s 0 0 w) (legal : Legal s 0 w call node v) (sent-as : SentAs s (w .past) sent) (ranked : RankedSent s (w .past) sent)
-    (twin : Twin s (w .past) sent (call .node) node p) where
+    (twin : Twin s (w .past) sent (call .node) node p) (station : node .listens ≡ false) where
+  ticks : Ticks s node call v
+  ticks = record { due = legal .called; station = station }
+
   limits : Limits s
   limits = good .group .limits (call .node) node (legal .at)
 
   -- no node is as it was before its first call
-  memory : Memory s node
-  memory = go (good .node (call .node) node (legal .at))
+  left-here : LeftAt s 0 0 w (call .node) node
+  left-here = go (good .node (call .node) node (legal .at))
     where
-      go : NodeOk s 0 0 w (call .node) node → Memory s node
+      go : NodeOk s 0 0 w (call .node) node → LeftAt s 0 0 w (call .node) node
       go (inl old) = absurd (omega (arith, old .early, limits .epsilon-pos))
-      go (inr left) = left .memory
+      go (inr left) = left
+
+  memory : Memory s node
+  memory = left-here .memory
+
+  tables-sound : node .listens ≡ false → Tables s node
+  tables-sound x = left-here .stamp x .tables
 
   -- the node and its process at v
   open-stamp : openingStamp s (v % s .modulus) (node .tables) ≡ step (call .step) (v % s .modulus) (reduced (s .modulus) (p .last))
   open-stamp =
-      opens-tables s node v (call .step) limits memory (legal .called .turn) (legal .called .step-pos) (legal .called .step-few)
+      opens-tables s node v (call .step) limits memory (legal .called .turn) (legal .called .step-pos) (legal .called .step-few) (tables-sound station)
       ∙ ap (step (call .step) (v % s .modulus)) (twin .stamp)
 
   open-queue : SameMembers (s .modulus) (openedAt s v node) (p .buffer)
-  open-queue = rw (opens-shelf s node v (call .step) limits memory (legal .called .turn) (legal .called .step-pos) (legal .called .step-few)) (twin .queue)
+  open-queue = rw (opens-shelf s node v (call .step) limits memory (legal .called .turn) (legal .called .step-pos) (legal .called .step-few) tables-sound) (twin .queue)
 
   open-waits : (m : Message) → List·Memᴰ m (p .buffer) → Waits s v m
   open-waits m t =
@@ -96,7 +108,7 @@ module _ (s : Setup) (w : World) (sent : List (Option Message)) (call : Call) (n
   news-here : News s v sent (heardTo (w .past) call 0) (startHere s v node call) (batchEntries (call .batch)) (call .sources) (newHere sent call p)
   unfolding stateAt hear
   news-here =
-      news-of s w sent good sent-as v (around s 0 0 (settles-fresh s) w call node v good legal) (unreached s 0 0 (settles-fresh s) w call node v good legal)
+      news-of s w sent good sent-as v (around s 0 0 (settles-fresh s) w call node v good legal) (unreached s 0 0 (settles-fresh s) w call node v good legal station)
       (batchEntries (call .batch)) (call .sources) (heardTo (w .past) call 0) (startHere s v node call) (p .received)
       (queue-at s 0 0 (settles-fresh s) w call node v good legal 0 (omega arith))
       (seen-same sent (heardAt (w .past) (call .node)) (heardTo (w .past) call 0) (p .received) heard-start (twin .received)) (legal .lengths)
@@ -164,9 +176,9 @@ module _ (s : Setup) (w : World) (sent : List (Option Message)) (call : Call) (n
   pub stamp-is : newStamp (inputOf node call) ≡ reduced (s .modulus) (eventOf (s .epsilon) v p (heardHere sent call))
   unfolding newStamp eventOf
   stamp-is =
-      ap (countOwn (inputOf node call .setup .epsilon) (inputOf node call .clock)) (absorbed-all s v node call (legal .called))
+      ap (countOwn (inputOf node call .setup .epsilon) (inputOf node call .clock)) (absorbed-all s v node call ticks)
       ∙ (ap₂ (λ (t : Setup) (u : ℕ). countOwn (t .epsilon) u
-      (absorbAll s (v % s .modulus) (openingStamp s (v % s .modulus) (node .tables)) (batchEntries (call .batch)) (numbersOf s (v % s .modulus) (startHere s v node call) (batchEntries (call .batch)))))
+      (absorbAll s (v % s .modulus) (openingStamp s (v % s .modulus) (node .tables)) (batchEntries (call .batch)) (numbersOf s (v % s .modulus) (judgeQuestions s (v % s .modulus)) (startHere s v node call) (batchEntries (call .batch)))))
       (setup-at s node call (legal .called)) (clock-at s node call (legal .called))
       ∙ (ap (countOwn (s .epsilon) (v % s .modulus)) (news-stamp s v sent (openingStamp s (v % s .modulus) (node .tables)) news-here)
       ∙ (ap (λ (t : Timestamp). countOwn (s .epsilon) (v % s .modulus) (absorbEvents (s .epsilon) (s .modulus) (v % s .modulus) t new-events)) open-stamp
@@ -188,46 +200,36 @@ module _ (s : Setup) (w : World) (sent : List (Option Message)) (call : Call) (n
       members-select (s .modulus) (λ f. not (dueBefore s (v % s .modulus) f)) (λ m. not (ltb (messageDue s m) v)) (openedAt s v node) (p .buffer) open-queue
       (λ m t. ap not (before-same s v m (all-reads m (Memᴰ·append-left (newHere sent call p) t))))
 
-  queue-is : SameMembers (s .modulus) (heardOf (inputOf node call) .queue) (select (λ m. not (ltb (messageDue s m) v)) (p .buffer) ++ newHere sent call p)
+  queue-is : SameMembers (s .modulus) (heardOn s v node call .queue) (select (λ m. not (ltb (messageDue s m) v)) (p .buffer) ++ newHere sent call p)
   queue-is =
-      subst (λ (h : Heard). SameMembers (s .modulus) (h .queue) (select (λ m. not (ltb (messageDue s m) v)) (p .buffer) ++ newHere sent call p)) (sym (heard-all s v node call (legal .called)))
-      (news-queue s v sent (select (λ m. not (ltb (messageDue s m) v)) (p .buffer)) news-here rest-queue)
+      subst
+      (λ (asking : Asking). SameMembers (s .modulus) (hear s (v % s .modulus) asking (startHere s v node call) (batchEntries (call .batch)) .queue)
+      (select (λ m. not (ltb (messageDue s m) v)) (p .buffer) ++ newHere sent call p))
+      (sym (asking-is s v node call ticks)) (news-queue s v sent (select (λ m. not (ltb (messageDue s m) v)) (p .buffer)) news-here rest-queue)
 
-  queue-sorted : Sorted (keyNear s (v % s .modulus)) (heardOf (inputOf node call) .queue)
+  queue-sorted : Sorted (keyNear s (v % s .modulus)) (heardOn s v node call .queue)
   unfolding before compareFrames
   queue-sorted =
-      sorted-of-chained (keyNear s (v % s .modulus)) (heardOf (inputOf node call) .queue)
-      (subst (λ (u : ℕ). chained (before s u) (heardOf (inputOf node call) .queue) ≡ true) (clock-at s node call (legal .called))
-      (subst (λ (t : Setup). chained (before t (inputOf node call .clock)) (heardOf (inputOf node call) .queue) ≡ true) (setup-at s node call (legal .called))
-      (hearing-end (inputOf node call) (accepted-input node call (legal .called .accepted)) .ordered)))
+      sorted-of-chained (keyNear s (v % s .modulus)) (heardOn s v node call .queue)
+      (board-heard s (v % s .modulus) (leastAt s v node) (askingAt s v node) (node .holdback) (batchEntries (call .batch)) (board-at s node call (legal .called)) .ordered)
 
   pub delivered-is :
-      deliveredOf (inputOf node call) ≡ map (reducedFrame (s .modulus)) (deliveredAt deliverableBy (s .epsilon) (s .delta) v p (heardHere sent call))
+      deliveredOn s v node call ≡ map (reducedFrame (s .modulus)) (deliveredAt deliverableBy (s .epsilon) (s .delta) v p (heardHere sent call))
   unfolding deliveredAt buffered
   delivered-is =
-      order-same s v all all-reads all-single all-ranked (deliverableBy (s .epsilon) (s .delta) v) (deliveredOf (inputOf node call)) (delivers-sorted s node call (legal .called))
-      (subst (λ (l : List Frame). SameMembers (s .modulus) l (select (deliverableBy (s .epsilon) (s .delta) v) all)) (sym (delivers-frames s node call (legal .called)))
-      (delivered-members s v (openedAt s v node) (heardOf (inputOf node call) .queue) (p .buffer) (newHere sent call p) all-reads new-undue open-queue queue-is))
+      order-same s v all all-reads all-single all-ranked (deliverableBy (s .epsilon) (s .delta) v) (deliveredOn s v node call) (delivers-sorted s node call (legal .called))
+      (delivered-members s v (openedAt s v node) (heardOn s v node call .queue) (p .buffer) (newHere sent call p) all-reads new-undue open-queue queue-is)
 
-  -- what is kept is selected from the queue by the one setup and clock
-  kept-chosen : keptOf (inputOf node call) ≡ select (λ f. not (dueNow s (v % s .modulus) f)) (heardOf (inputOf node call) .queue)
-  unfolding keptOf
-  kept-chosen =
-      ap₂ (λ (t : Setup) (u : ℕ). select (λ f. not (dueNow t u f)) (heardOf (inputOf node call) .queue)) (setup-at s node call (legal .called)) (clock-at s node call (legal .called))
-
-  kept-is :
-      SameMembers (s .modulus) (keptOf (inputOf node call)) (select (λ m. not (deliverableBy (s .epsilon) (s .delta) v m)) all)
-  kept-is =
-      subst (λ (l : List Frame). SameMembers (s .modulus) l (select (λ m. not (deliverableBy (s .epsilon) (s .delta) v m)) all)) (sym kept-chosen)
-      (kept-members s v (openedAt s v node) (heardOf (inputOf node call) .queue) (p .buffer) (newHere sent call p) all-reads new-undue open-queue queue-is)
+  kept-is : SameMembers (s .modulus) (keptOn s v node call) (select (λ m. not (deliverableBy (s .epsilon) (s .delta) v m)) all)
+  kept-is = kept-members s v (openedAt s v node) (heardOn s v node call .queue) (p .buffer) (newHere sent call p) all-reads new-undue open-queue queue-is
 
   pub kept-are :
-      keptOf (inputOf node call)
+      keptOn s v node call
       ≡ map (reducedFrame (s .modulus)) (inOrder (s .epsilon) (advanced deliverableBy (s .epsilon) (s .delta) v p (heardHere sent call) .buffer))
   unfolding advanced buffered
   kept-are =
-      order-same s v all all-reads all-single all-ranked (λ m. not (deliverableBy (s .epsilon) (s .delta) v m)) (keptOf (inputOf node call))
-      (rw kept-chosen (sorted-select (keyNear s (v % s .modulus)) (λ f. not (dueNow s (v % s .modulus) f)) (heardOf (inputOf node call) .queue) queue-sorted)) kept-is
+      order-same s v all all-reads all-single all-ranked (λ m. not (deliverableBy (s .epsilon) (s .delta) v m)) (keptOn s v node call)
+      (sorted-select (keyNear s (v % s .modulus)) (λ f. not (dueNow s (v % s .modulus) f)) (heardOn s v node call .queue) queue-sorted) kept-is
 
   -- the message is the frame
   pub frame-is :
@@ -235,7 +237,7 @@ module _ (s : Setup) (w : World) (sent : List (Option Message)) (call : Call) (n
   unfolding reducedFrame messageOf eventFrame frameOf doneOf
   frame-is =
       let stamps : reduced (s .modulus) (eventOf (s .epsilon) v p (heardHere sent call)) ≡ eventFrame s (doneOf node call) .stamp =
-      sym stamp-is ∙ sym (event.event-stamp s node call (legal .called)) in
+      sym stamp-is ∙ sym (event.event-stamp s node call ticks) in
       λ i. record { station = twin .number i; stamp = stamps i; payload = call .payload }
 
   -- what is sent
@@ -245,7 +247,7 @@ module _ (s : Setup) (w : World) (sent : List (Option Message)) (call : Call) (n
   unfolding reducedFrame messageOf frameOf
   sent-frame =
       let stamps : trimmed (s .epsilon) (newStamp (inputOf node call)) ≡ reduced (s .modulus) (eventOf (s .epsilon) v p (heardHere sent call)) =
-      trimmed-same (s .epsilon) (newStamp (inputOf node call)) (sound-at s node call (legal .called) .wide) ∙ stamp-is in
+      trimmed-same (s .epsilon) (newStamp (inputOf node call)) (sound-at s node call ticks .wide) ∙ stamp-is in
       λ i. record { station = sym (twin .number) i; stamp = stamps i; payload = call .payload }
 
   sent-are :
@@ -253,45 +255,48 @@ module _ (s : Setup) (w : World) (sent : List (Option Message)) (call : Call) (n
       ≡ cond (call .send) (encode (reducedFrame (s .modulus) (messageOf (s .epsilon) v p (heardHere sent call) (call .payload)))) []
   unfolding sentBytes inputOf
   sent-are =
-      ap₂ (λ (t : Setup) (o : ℕ). cond (call .send) (encode (frameOf (t .epsilon) o (newStamp (inputOf node call)) (call .payload))) []) (legal .called .setup-is) (legal .called .own-is)
+      ap₂ (λ (t : Setup) (o : ℕ). cond (call .send) (encode (frameOf (t .epsilon) o (newStamp (inputOf node call)) (call .payload))) []) (legal .called .setup-is) (legal .called .own-is station)
       ∙ ap (λ (f : Frame). cond (call .send) (encode f) []) sent-frame
 
   no-repair : repairOf (inputOf node call .setup) (inputOf node call .clock) (inputOf node call .tables) (inputOf node call .holdback) ≡ 0
   unfolding inputOf
-  no-repair = rw (legal .called .setup-is, legal .called .clock-is) (opens-calm s node v (call .step) limits memory (legal .called .turn) (legal .called .step-pos) (legal .called .step-few))
+  no-repair = rw (legal .called .setup-is, legal .called .clock-is) (opens-calm s node v (call .step) limits memory (legal .called .turn) (legal .called .step-pos) (legal .called .step-few) tables-sound station)
 
   taken-are : takenCount (heardOf (inputOf node call) .verdicts) ≡ length (newHere sent call p)
   unfolding takenCount select
   taken-are =
-      ap (λ (h : Heard). takenCount (h .verdicts)) (heard-all s v node call (legal .called))
+      ap (λ (h : Heard). takenCount (h .verdicts)) (heard-all s v node call ticks)
       ∙ (news-taken s v sent news-here ∙ zero-add (length (newHere sent call p)))
 
   verdicts-heard : heardOf (inputOf node call) .verdicts ≡ verdictsOn (p .received) (heardHere sent call)
   verdicts-heard =
-      ap (λ (h : Heard). h .verdicts) (heard-all s v node call (legal .called))
+      ap (λ (h : Heard). h .verdicts) (heard-all s v node call ticks)
       ∙ news-verdicts s v sent (p .received) (told s w sent good sent-as) news-here
       (seen-same sent (heardAt (w .past) (call .node)) (heardTo (w .past) call 0) (p .received) heard-start (twin .received))
 
+  delivered-length : length (deliveredOf (inputOf node call)) ≡ length (deliveredOn s v node call)
+  unfolding deliveredOf earlyOf heardOf openedQueue inputOf
+  delivered-length = rw (legal .called .setup-is, legal .called .clock-is, station) refl
+
   pub same-as : SameAs s (outcomeOf deliverableBy s sent p (doneOf node call .clock) call) (doneOf node call)
-  unfolding outcomeOf doneOf outputOf acceptance inputOf
+  unfolding outcomeOf doneOf acceptance inputOf
   same-as =
       let i = inputOf node call in
-      let a = accepted-input node call (legal .called .accepted) in
+      let a = accepted-input s node call ticks in
+      let out = output-tick s node call ticks in
       subst (λ (n : ℕ). SameAs s (outcomeOf deliverableBy s sent p n call) (doneOf node call)) (sym (done-clock s node call (legal .called)))
       (record {
-        tables = tables-are i a ∙ ap widened stamp-is;
-        repair = ap (λ (o : Output). o .answer .repair) (a .accepted) ∙ no-repair;
-        taken = ap (λ (o : Output). o .answer .taken) (a .accepted) ∙ taken-are;
-        verdicts = verdicts-are i a ∙ ap (λ (l : List ℕ). overlay l (call .verdicts)) verdicts-heard;
-        holdback =
-            holdback-is i a
-            ∙ ap₂ (λ (t : Setup) (l : List Frame). encodeHoldback (holdbackSize t) l) (setup-at s node call (legal .called)) kept-are;
-        outgoing = outgoing-is i a ∙ ap (λ (l : List ℕ). overlay l (call .outgoing)) sent-are;
-        sent = sent-is i a ∙ ap length sent-are;
-        delivery = delivery-is i a ∙ ap (λ (l : List Frame). overlay (encodeFrames l) (call .delivery)) delivered-is;
+        tables = ap (λ (o : Output). o .answer .tables) out ∙ (tables-are i a ∙ ap widened stamp-is);
+        repair = ap (λ (o : Output). o .answer .repair) (out ∙ a .accepted) ∙ no-repair;
+        taken = ap (λ (o : Output). o .answer .taken) (out ∙ a .accepted) ∙ taken-are;
+        verdicts = ap (λ (o : Output). o .verdicts) out ∙ (verdicts-are i a ∙ ap (λ (l : List ℕ). overlay l (call .verdicts)) verdicts-heard);
+        holdback = holdback-here s node call (legal .called) ∙ ap (encodeHoldback (holdbackSize s)) kept-are;
+        outgoing = ap (λ (o : Output). o .outgoing) out ∙ (outgoing-is i a ∙ ap (λ (l : List ℕ). overlay l (call .outgoing)) sent-are);
+        sent = ap (λ (o : Output). o .answer .sent) out ∙ (sent-is i a ∙ ap length sent-are);
+        delivery = delivery-here s node call (legal .called) ∙ ap (λ (l : List Frame). overlay (encodeFrames l) (call .delivery)) delivered-is;
         delivered =
-            ap (λ (o : Output). o .answer .delivered) (a .accepted)
-            ∙ (ap length delivered-is ∙ length-map (deliveredAt deliverableBy (s .epsilon) (s .delta) v p (heardHere sent call)) (reducedFrame (s .modulus)));
+            ap (λ (o : Output). o .answer .delivered) (out ∙ a .accepted)
+            ∙ (delivered-length ∙ (ap length delivered-is ∙ length-map (deliveredAt deliverableBy (s .epsilon) (s .delta) v p (heardHere sent call)) (reducedFrame (s .modulus))));
       })
 
   -- the new event
@@ -325,7 +330,7 @@ module _ (s : Setup) (w : World) (sent : List (Option Message)) (call : Call) (n
   ranked-last k m m′ d e at d-at here =
       rank-before (s .n) (s .epsilon) (s .modulus) m m′ (copied-ok s w sent good sent-as k m at .sound)
       (subst (λ (x : Event). Sound (s .n) (s .epsilon) (reduced (s .modulus) x)) (sym e)
-      (subst (λ (t : Timestamp). Sound (s .n) (s .epsilon) t) stamp-is (sound-at s node call (legal .called))))
+      (subst (λ (t : Timestamp). Sound (s .n) (s .epsilon) t) stamp-is (sound-at s node call ticks)))
       (subst (λ (x : Event). Knows (m .event) x) (sym e) (new-knows-sent k m d at d-at here))
       (subst (λ (x : Event). known (m .event) (x .r + s .epsilon) < known x (x .r + s .epsilon)) (sym e) more)
     where
@@ -396,7 +401,7 @@ module _ (s : Setup) (w : World) (sent : List (Option Message)) (call : Call) (n
         number = unfold nodeAfter in (twin .number);
         clock-is = new-clock ∙ sym (after-clock s node call (legal .called));
         wide = unfold eventOf in (event-wide (s .epsilon) v (p .last ∷ map (λ (m : Message). m .event) (newHere sent call p)));
-        stamp = leaves-tables s node call (legal .called) ∙ stamp-is;
+        stamp = leaves-tables s node call ticks ∙ stamp-is;
         queue =
             subst (λ (l : List Frame). SameMembers (s .modulus) l (select (λ m. not (deliverableBy (s .epsilon) (s .delta) v m)) all))
             (sym (leaves-queue s node call (legal .called))) kept-is;

@@ -29,7 +29,8 @@ use Rattle.theory.specs.Demand2.{reduced, reducedFrame, messagesHeard, v
 use Rattle.theory.specs.Demand3.{isFrom}
 use Rattle.lemmas.proofs.Bounds.{FrameOk}
 use Rattle.lemmas.proofs.RoundTrip.{decode-encode}
-use Rattle.lemmas.proofs.OneTick.{numbersOf, hear-one-verdict, taken-more}
+use Rattle.lemmas.proofs.Board.{numbersOf, hear-one-verdict}
+use Rattle.lemmas.proofs.OneTick.{taken-more}
 use Rattle.theory.proofs.HearLoop.{some-inj, hear-taken, hear-refused}
 use Rattle.theory.proofs.PublishedEvent.{absorbEvents}
 use Rattle.theory.proofs.PublishedQueue.{SameMembers}
@@ -121,7 +122,7 @@ module _ (s : Setup) (v : ℕ) (sent : List (Option Message)) where
   pub news-stamp :
       {heard : ℕ → Bool} {h : Heard} {entries : List (List ℕ)} {sources : List Source} {fresh : List Message}
       (t : Timestamp) → News s v sent heard h entries sources fresh
-      → absorbAll s (v % s .modulus) t entries (numbersOf s (v % s .modulus) h entries)
+      → absorbAll s (v % s .modulus) t entries (numbersOf s (v % s .modulus) (judgeQuestions s (v % s .modulus)) h entries)
       ≡ absorbEvents (s .epsilon) (s .modulus) (v % s .modulus) t (map (λ (m : Message). m .event) fresh)
   unfolding absorbAll numbersOf absorbEvents
   news-stamp t none-left = refl
@@ -159,11 +160,11 @@ module _ (s : Setup) (v : ℕ) (sent : List (Option Message)) where
   news-taken {h} none-left = sym (add-zero (takenCount (h .verdicts)))
   news-taken (again {h} {bytes} {fresh} k m a old e rest) =
       let one : takenCount (hearOne s (v % s .modulus) (judgeQuestions s (v % s .modulus)) h bytes .verdicts) ≡ takenCount (h .verdicts) =
-      ap takenCount (hear-one-verdict s (v % s .modulus) h bytes ∙ ap (λ (n : ℕ). h .verdicts ++ (n ∷ [])) e) ∙ taken-no (h .verdicts) in
+      ap takenCount (hear-one-verdict s (v % s .modulus) (judgeQuestions s (v % s .modulus)) h bytes ∙ ap (λ (n : ℕ). h .verdicts ++ (n ∷ [])) e) ∙ taken-no (h .verdicts) in
       news-taken rest ∙ ap (λ (n : ℕ). n + length fresh) one
   news-taken (new {h} {bytes} {entries} {fresh} k m a old e rest) =
       let one : takenCount (hearOne s (v % s .modulus) (judgeQuestions s (v % s .modulus)) h bytes .verdicts) ≡ takenCount (h .verdicts) + 1 =
-      ap takenCount (hear-one-verdict s (v % s .modulus) h bytes ∙ ap (λ (n : ℕ). h .verdicts ++ (n ∷ [])) e) ∙ taken-more (h .verdicts) in
+      ap takenCount (hear-one-verdict s (v % s .modulus) (judgeQuestions s (v % s .modulus)) h bytes ∙ ap (λ (n : ℕ). h .verdicts ++ (n ∷ [])) e) ∙ taken-more (h .verdicts) in
       let more : takenCount (hear s (v % s .modulus) (judgeQuestions s (v % s .modulus)) (hearOne s (v % s .modulus) (judgeQuestions s (v % s .modulus)) h bytes) entries .verdicts) ≡ takenCount (hearOne s (v % s .modulus) (judgeQuestions s (v % s .modulus)) h bytes .verdicts) + length fresh = news-taken rest in
       omega arith
 
@@ -316,13 +317,13 @@ news-verdicts s v sent {heard} {h} seen told (again {bytes} {sources} k m a old 
     news-verdicts s v sent seen told rest (seen-again sent heard seen k old is)
     ∙ one-more (h .verdicts) 16 (verdictsOn seen (messagesHeard sent sources)) (hearOne s (v % s .modulus) (judgeQuestions s (v % s .modulus)) h bytes .verdicts)
     (verdictsOn seen (messagesHeard sent (sentBy k ∷ sources)))
-    (hear-one-verdict s (v % s .modulus) h bytes ∙ ap (λ (n : ℕ). h .verdicts ++ (n ∷ [])) e)
+    (hear-one-verdict s (v % s .modulus) (judgeQuestions s (v % s .modulus)) h bytes ∙ ap (λ (n : ℕ). h .verdicts ++ (n ∷ [])) e)
     (ap (verdictsOn seen) (heard-cons sent k m sources (a .at))
     ∙ verdicts-again seen m (messagesHeard sent sources) (seen-any sent heard seen told is k m (a .at) ∙ old))
 news-verdicts s v sent {heard} {h} seen told (new {bytes} {sources} k m a old e rest) is =
     news-verdicts s v sent (m ∷ seen) told rest (seen-new sent heard seen k m (a .at) is)
     ∙ one-more (h .verdicts) 0 (verdictsOn (m ∷ seen) (messagesHeard sent sources)) (hearOne s (v % s .modulus) (judgeQuestions s (v % s .modulus)) h bytes .verdicts)
     (verdictsOn seen (messagesHeard sent (sentBy k ∷ sources)))
-    (hear-one-verdict s (v % s .modulus) h bytes ∙ ap (λ (n : ℕ). h .verdicts ++ (n ∷ [])) e)
+    (hear-one-verdict s (v % s .modulus) (judgeQuestions s (v % s .modulus)) h bytes ∙ ap (λ (n : ℕ). h .verdicts ++ (n ∷ [])) e)
     (ap (verdictsOn seen) (heard-cons sent k m sources (a .at))
     ∙ verdicts-new seen m (messagesHeard sent sources) (seen-any sent heard seen told is k m (a .at) ∙ old))

@@ -25,11 +25,12 @@ use Rattle.model.specs.Holdback.{held}
 use Rattle.model.specs.Published.{Message, Process, rank, sameMessage, newOnes}
 use Rattle.model.specs.Run.{Node, Source, sentBy, stale, Done, World, sends, messageBytes}
 use Rattle.theory.specs.Demand2.{reduced, reducedFrame, messagesHeard, Published}
-use Rattle.theory.specs.Demand3.{isFrom, heardIn}
+use Rattle.theory.specs.Demand3.{covered, isFrom, heardIn}
 use Rattle.lemmas.proofs.Bounds.{Limits, FrameOk}
 use Rattle.lemmas.proofs.Reading.{near-true}
-use Rattle.theory.proofs.World.{sends-accepted, eventFrame, heardAt, followed, Good}
-use Rattle.theory.proofs.HearLoop.{Settles, Arrival, Entry, Around, Unreached, QueueLoop, some-inj, loop-verdict, judged-once, queue-one}
+use Rattle.theory.proofs.World.{sends-event, event-kind, eventFrame, heardAt, Good}
+use Rattle.theory.proofs.Fresh.{settles-fresh}
+use Rattle.theory.proofs.HearLoop.{Arrival, Entry, Around, Unreached, QueueLoop, some-inj, loop-verdict, judged-once, queue-one}
 use Rattle.theory.proofs.PublishedEvent.{ReadsTrue, Knows}
 use Rattle.theory.proofs.PublishedQueue.{messageDue, SameMembers, rank-sender}
 use Rattle.theory.proofs.PublishedHear.{Incoming, Told, SeenIs, also, News, none-left, again, new, seen-any, seen-again, seen-new, heard-cons, new-ones-again, new-ones-new}
@@ -61,7 +62,7 @@ pub record Waits (s : Setup) (v : ℕ) (m : Message) : Type 0 where
   pub not-ahead : m .event .r < v + s .epsilon
   pub not-long-due : v < messageDue s m + s .epsilon
 
--- a node and its process
+-- a station and its process
 pub record Twin (s : Setup) (past : List Done) (sent : List (Option Message)) (i : ℕ) (node : Node) (p : Process) : Type 0 where
   pub number : p .number ≡ node .own
   pub clock-is : p .last .r ≡ node .clock
@@ -77,17 +78,14 @@ pub record Twin (s : Setup) (past : List Done) (sent : List (Option Message)) (i
       (k : ℕ) (m : Message) (d : Done) → getElem? sent k ≡ some (some m) → getElem? past k ≡ some d → d .node ≡ i
       → Knows (m .event) (p .last)
 
--- all nodes and all processes
+-- all stations and their processes
 pub record Paired (s : Setup) (w : World) (u : Published) : Type 0 where
   pub good : Good s 0 0 w
   pub sent-as : SentAs s (w .past) (u .sent)
   pub ranked : RankedSent s (w .past) (u .sent)
   pub twins :
-      (i : ℕ) (node : Node) → getElem? (w .nodes) i ≡ some node
+      (i : ℕ) (node : Node) → getElem? (w .nodes) i ≡ some node → node .listens ≡ false
       → (p : Process) × (getElem? (u .processes) i ≡ some p) × Twin s (w .past) (u .sent) i node p
-
-pub settles-fresh : (s : Setup) → Settles s 0 0
-settles-fresh s = (omega arith, λ v R h k. omega arith)
 
 pub waits-reads : (s : Setup) (v : ℕ) (m : Message) → Limits s → Waits s v m → ReadsTrue (s .epsilon) (s .modulus) v (m .event .r)
 unfolding messageDue
@@ -115,7 +113,7 @@ module _ (s : Setup) (w : World) (sent : List (Option Message)) (good : Good s 0
       let (d, d-at, d-sends, c) = sent-as .only k m at in
       let (d′, d′-at, d′-sends, c′) = sent-as .only l m′ at′ in
       let (senders, clocks) = same-parts m m′ same in
-      good .unique k l d d′ d-at d′-at (sends-accepted d d-sends) (sends-accepted d′ d′-sends)
+      good .unique k l d d′ d-at d′-at (sends-event d d-sends) (sends-event d′ d′-sends)
       (sym (copied-sender s m d c) ∙ (senders ∙ copied-sender s m′ d′ c′)) (sym (c .clock-is) ∙ (clocks ∙ c′ .clock-is))
 
   -- messages of one rank are one message
@@ -125,10 +123,11 @@ module _ (s : Setup) (w : World) (sent : List (Option Message)) (good : Good s 0
   one-rank ranked k l m m′ at at′ e =
       let (d, d-at, d-sends, c) = sent-as .only k m at in
       let (d′, d′-at, d′-sends, c′) = sent-as .only l m′ at′ in
-      let maker = good .calls k d d-at (sends-accepted d d-sends) .maker in
-      let maker′ = good .calls l d′ d′-at (sends-accepted d′ d′-sends) .maker in
+      let maker = good .calls k d d-at (sends-event d d-sends) .maker in
+      let maker′ = good .calls l d′ d′-at (sends-event d′ d′-sends) .maker in
       let one-node : d .node ≡ d′ .node =
       good .group .distinct (d .node) (d′ .node) (maker .node) (maker′ .node) (maker .at) (maker′ .at)
+      (maker .kind-is ∙ event-kind d (sends-event d d-sends)) (maker′ .kind-is ∙ event-kind d′ (sends-event d′ d′-sends))
       (maker .own-is ∙ (sym (copied-sender s m d c) ∙ (rank-sender (s .epsilon) m m′ e ∙ (copied-sender s m′ d′ c′ ∙ sym (maker′ .own-is))))) in
       elim (eq-or-ne k l) [
         | inl q ↦ some-inj (some-inj (sym at ∙ (ap (getElem? sent) q ∙ at′)))
@@ -142,7 +141,7 @@ module _ (s : Setup) (w : World) (sent : List (Option Message)) (good : Good s 0
   pub copied-ok : (k : ℕ) (m : Message) → getElem? sent k ≡ some (some m) → FrameOk s (reducedFrame (s .modulus) m)
   copied-ok k m at =
       let (d, d-at, d-sends, c) = sent-as .only k m at in
-      subst (λ (f : Frame). FrameOk s f) (sym (c .frame)) (good .calls k d d-at (sends-accepted d d-sends) .event .frame)
+      subst (λ (f : Frame). FrameOk s f) (sym (c .frame)) (good .calls k d d-at (sends-event d d-sends) .event .frame)
 
   -- what is new in a batch, by the verdicts
   module _ (v : ℕ) (around-here : Around s (w .nodes) (w .past) v) (unreached-here : Unreached s (w .nodes) v) where
@@ -162,7 +161,7 @@ module _ (s : Setup) (w : World) (sent : List (Option Message)) (good : Good s 0
         (k : ℕ) (d : Done) (bytes : List ℕ) (heard : ℕ → Bool) (h : Heard) → Arrival s 0 (w .nodes) (w .past) v k d → bytes ≡ messageBytes d
         → QueueLoop s 0 (w .past) v heard (h .queue)
         → firstNo (judgeQuestions s (v % s .modulus) (h .queue) bytes) ≡ cond (heard k) 16 0
-    unfolding followed
+    unfolding covered
     verdict-of k d bytes heard h a e loop =
         ap (λ (b : List ℕ). firstNo (judgeQuestions s (v % s .modulus) (h .queue) b)) e
         ∙ loop-verdict s 0 0 (settles-fresh s) (w .nodes) (w .past) v around-here unreached-here heard (h .queue) loop k d a (and-intro (a .sent) (le-leb 0 (d .clock) (omega arith)))

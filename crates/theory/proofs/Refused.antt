@@ -4,7 +4,7 @@ use Prim.Native.Nat.{ℕ, zero, suc}
 use native.Mathlib.Omega.{arith}
 use mathlib.Core.Path.{_≡_, refl, sym, ap, subst, _∙_}
 use mathlib.Core.Logic.{inl, inr}
-use mathlib.Core.Bool.{true, false, or-false}
+use mathlib.Core.Bool.{Bool, true, false, cond, or-false}
 use mathlib.Core.List.{List, [], _∷_, _++_}
 use mathlib.Core.Option.{some}
 use lib.Dec.{eqb·suc-zero}
@@ -17,19 +17,32 @@ use Rattle.model.specs.Setup.{Setup}
 use Rattle.model.specs.Frame.{Frame}
 use Rattle.model.specs.Question.{firstNo}
 use Rattle.model.specs.Tick.{callQuestions, refusal, acceptance, tickBy, tick}
-use Rattle.model.specs.Run.{Node, Call, Done, World, inputOf, isAccepted, outputOf, doneOf, nodeAfter, movedClock, act}
+use Rattle.model.specs.Observer.{listenQuestions, notListened, listened, listenBy, listen}
+use Rattle.model.specs.Run.{Node, Call, Done, World, inputOf, listeningOf, listenedOutput, isAccepted, outputOf, doneOf, nodeAfter, movedClock, act, isEvent}
 use Rattle.theory.specs.Demand3.{heardIn}
-use Rattle.theory.proofs.HearLoop.{followed-sends}
-use Rattle.theory.proofs.World.{NodeOk, heardAt, Explained, Good, act-is, sends-accepted, nodesAfter}
+use Rattle.theory.proofs.HearLoop.{covered-sends}
+use Rattle.theory.proofs.World.{NodeOk, heardAt, Explained, Good, act-is, sends-event, event-accepted, nodesAfter}
 
 -- a refused call leaves its node
 pub refused-node : (node : Node) (call : Call) → isAccepted (outputOf node call) ≡ false → nodeAfter node (call .step) (outputOf node call) ≡ node
-unfolding nodeAfter movedClock outputOf tick isAccepted refusal acceptance inputOf
-refused-node node call h = go (firstNo (callQuestions (inputOf node call))) h
+unfolding nodeAfter movedClock outputOf tick listen isAccepted refusal acceptance inputOf notListened listened listeningOf listenedOutput
+refused-node node call h = go (node .listens) h
   where
-    go : (k : ℕ) → isAccepted (tickBy k (inputOf node call)) ≡ false → nodeAfter node (call .step) (tickBy k (inputOf node call)) ≡ node
-    go zero e = absurd (clash refl e)
-    go (suc k) e = rw (eqb·suc-zero k) refl
+    ticked : (k : ℕ) → isAccepted (tickBy k (inputOf node call)) ≡ false → nodeAfter node (call .step) (tickBy k (inputOf node call)) ≡ node
+    ticked zero e = absurd (clash refl e)
+    ticked (suc k) e = rw (eqb·suc-zero k) refl
+
+    heeded :
+        (k : ℕ) → isAccepted (listenedOutput node call (listenBy k (listeningOf node call))) ≡ false
+        → nodeAfter node (call .step) (listenedOutput node call (listenBy k (listeningOf node call))) ≡ node
+    heeded zero e = absurd (clash refl e)
+    heeded (suc k) e = rw (eqb·suc-zero k) refl
+
+    go :
+        (b : Bool) → isAccepted (cond b (listenedOutput node call (listen (listeningOf node call))) (tick (inputOf node call))) ≡ false
+        → nodeAfter node (call .step) (cond b (listenedOutput node call (listen (listeningOf node call))) (tick (inputOf node call))) ≡ node
+    go true e = heeded (firstNo (listenQuestions (listeningOf node call))) e
+    go false e = ticked (firstNo (callQuestions (inputOf node call))) e
 
 refused-heard : (past : List Done) (d : Done) (i k : ℕ) → isAccepted (d .output) ≡ false → heardAt (past ++ (d ∷ [])) i k ≡ heardAt past i k
 unfolding heardAt any heardIn
@@ -39,21 +52,27 @@ refused-heard past d i k refused =
 -- and adds nothing to what is known
 good-more :
     (s : Setup) (floor from : ℕ) (w : World) (d : Done) → Good s floor from w → isAccepted (d .output) ≡ false
+    → (node : Node) × (getElem? (w .nodes) (d .node) ≡ some node) × (node .listens ≡ d .listens)
     → Good s floor from (record { nodes = w .nodes; past = w .past ++ (d ∷ []) })
-good-more s floor from w d good refused =
+good-more s floor from w d good refused maker =
     record {
       group = good .group;
       node = λ i a at. node-more i a (good .node i a at);
       calls = λ k e at acc. good .calls k e (old k e at acc) acc;
       unique = λ k l a b p q x y o c. good .unique k l a b (old k a p x) (old l b q y) x y o c;
+      kinds = λ k e at.
+          elim (getElem?-snoc-cases (w .past) d k at) [
+            | inl q ↦ good .kinds k e q
+            | inr q ↦ subst (λ (x : Done). (node : Node) × (getElem? (w .nodes) (x .node) ≡ some node) × (node .listens ≡ x .listens)) (sym (q .1)) maker
+          ];
       heard-before = λ i k h. omega (arith, good .heard-before i k (sym (heard-same i k) ∙ h), length-append (w .past) (d ∷ []));
     }
   where
-    old : (k : ℕ) (m : Done) → getElem? (w .past ++ (d ∷ [])) k ≡ some m → isAccepted (m .output) ≡ true → getElem? (w .past) k ≡ some m
+    old : (k : ℕ) (m : Done) → getElem? (w .past ++ (d ∷ [])) k ≡ some m → isEvent m ≡ true → getElem? (w .past) k ≡ some m
     old k m at acc =
         elim (getElem?-snoc-cases (w .past) d k at) [
           | inl q ↦ q
-          | inr q ↦ absurd (clash (ap (λ (x : Done). isAccepted (x .output)) (sym (q .1)) ∙ acc) refused)
+          | inr q ↦ absurd (clash (ap (λ (x : Done). isAccepted (x .output)) (sym (q .1)) ∙ event-accepted m acc) refused)
         ]
 
     heard-same : (i k : ℕ) → heardAt (w .past ++ (d ∷ [])) i k ≡ heardAt (w .past) i k
@@ -74,10 +93,11 @@ good-more s floor from w d good refused =
     node-more i a (inr l) =
         inr (record {
           memory = l .memory;
-          bounded = l .bounded;
           members = λ f mem. explained i (a .clock) f (l .members f mem);
-          waiting = λ k m at fol hd un. l .waiting k m (old k m at (sends-accepted m (followed-sends from m fol))) fol (sym (heard-same i k) ∙ hd) un;
-          passed-on = λ k e at acc same. l .passed-on k e (old k e at acc) acc same;
+          waiting = λ k m at fol hd un. l .waiting k m (old k m at (sends-event m (covered-sends from m fol))) fol (sym (heard-same i k) ∙ hd) un;
+          stamp = λ station.
+              let t = l .stamp station in
+              record { tables = t .tables; bounded = t .bounded; passed-on = λ k e at acc same. t .passed-on k e (old k e at acc) acc same };
         })
 
 -- a refused call
@@ -87,7 +107,7 @@ pub refused-good :
 refused-good s floor from w call node good at refused =
     subst (Good s floor from) (sym (act-is w call node at))
     (subst (λ (l : List Node). Good s floor from (record { nodes = l; past = w .past ++ (doneOf node call ∷ []) })) (sym same-nodes)
-    (good-more s floor from w (doneOf node call) good (unfold doneOf in refused)))
+    (good-more s floor from w (doneOf node call) good (unfold doneOf in refused) (node, (unfold doneOf in at), (unfold doneOf in refl))))
   where
     same-nodes : nodesAfter (w .nodes) call node ≡ w .nodes
     same-nodes =

@@ -58,9 +58,9 @@ module _ (s : Setup) (floor from : ℕ) (settles : Settles s floor from) where
   Legals w [] = Unit
   Legals w (call ∷ calls) = Allowed w call × Legals (act w call) calls
 
-  pub run-all : (calls : List Call) (w : World) → Good s floor from w → AllKept s from (w .past) → Legals w calls → AllKept s from (runFrom w calls .past)
+  pub run-all : (calls : List Call) (w : World) → Good s floor from w → AllKept s from (w .past) → Legals w calls → Good s floor from (runFrom w calls) × AllKept s from (runFrom w calls .past)
   unfolding runFrom Legals
-  run-all [] w good kept legals = kept
+  run-all [] w good kept legals = (good, kept)
   run-all (call ∷ calls) w good kept legals =
       let r = step-all w call good kept (legals .0) in
       run-all calls (act w call) (r .0) (r .1) (legals .1)

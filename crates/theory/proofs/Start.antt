@@ -5,22 +5,23 @@ use native.Mathlib.Omega.{arith}
 use mathlib.Core.Path.{_≡_, refl, sym, ap, subst, _∙_}
 use mathlib.Core.Logic.{_⊎_, inl, inr}
 use mathlib.Core.Bool.{Bool, true, false, _&&_, _||_, not}
-use mathlib.Core.List.{List, [], _∷_}
+use mathlib.Core.List.{List, [], _∷_, List·Memᴰ}
 use mathlib.Core.Option.{Option, none, some}
-use lib.Dec.{leb, eqb}
+use lib.Dec.{leb, ltb, eqb}
 use lib.ListN.{length, getD, getElem?}
-use borrow.Author.Tests.{leb-true, eqb-true, eq-eqb}
-use Rattle.laws.specs.Lists.{within, every, any, sameList}
-use Rattle.laws.proofs.Numbers.{eq-or-ne, lt-or-gt, clash, and-left, and-right}
-use Rattle.laws.proofs.Lists.{every-mem, getElem?-mem, getElem?-lt, getElem?-getD, mem-getElem?, largest-map-mem, sameList-true}
-use Rattle.laws.proofs.Sorted.{pairwise-of-apart, apart-index, pigeonhole}
-use Rattle.model.specs.Setup.{Setup}
+use borrow.Author.Tests.{leb-true, ltb-true, eqb-true, eq-eqb}
+use Rattle.laws.specs.Lists.{within, every, any, select, sameList}
+use Rattle.laws.proofs.Numbers.{eq-or-ne, lt-or-gt, clash, and-intro, and-left, and-right, or-cases, false-of-not, not-of-false}
+use Rattle.laws.proofs.Lists.{countOf, every-mem, mem-of-select, getElem?-mem, getElem?-lt, getElem?-getD, largest-map-mem, sameList-true}
+use Rattle.laws.proofs.Sorted.{pairwise-ext, pairwise-of-apart, apart-index, apart-select, pigeonhole}
+use Rattle.model.specs.Setup.{Setup, inLimits, isMember}
 use Rattle.model.specs.Batch.{batchEntries}
 use Rattle.model.specs.Tick.{holdbackSize}
 use Rattle.model.specs.Run.{Node, Source, sentBy, stale, Call, Done, World, isAccepted, outputOf, doneOf, movedClock, act, atStart, sends, messageBytes}
 use Rattle.theory.specs.Premises.{sameSetup, together, distinct, validFor, exactHoldback, goodStart, largestClock, staleUntil, heardInTime, entryAllowed, entriesAllowed, oneSetup, trueClock, stepAllowed, hearsAllowed, acceptedWell, allowedFor, allowed}
-use Rattle.lemmas.proofs.Questions.{setup-from}
+use Rattle.lemmas.proofs.Questions.{limits-from}
 use Rattle.lemmas.proofs.Bounds.{Limits}
+use Rattle.theory.proofs.Reach.{isStation}
 use Rattle.theory.proofs.World.{heardAt, Group, Good, SentEntry, EntryOk, Legal}
 
 -- the nodes, by the tests
@@ -30,30 +31,50 @@ together-fact epsilon nodes h i j a b p q =
     leb-true (a .clock) (b .clock + epsilon)
     (every-mem (λ y. leb (a .clock) (y .clock + epsilon)) (every-mem (λ x. every (λ y. leb (x .clock) (y .clock + epsilon)) nodes) h (getElem?-mem nodes i p)) (getElem?-mem nodes j q))
 
-distinct-fact : (nodes : List Node) → distinct nodes ≡ true → (i j : ℕ) (a b : Node) → getElem? nodes i ≡ some a → getElem? nodes j ≡ some b → a .own ≡ b .own → i ≡ j
+abbrev sameStation : Node → Node → Bool
+sameStation a b = not (a .listens) && (not (b .listens) && eqb (a .own) (b .own))
+
+distinct-fact :
+    (nodes : List Node) → distinct nodes ≡ true → (i j : ℕ) (a b : Node) → getElem? nodes i ≡ some a → getElem? nodes j ≡ some b
+    → a .listens ≡ false → b .listens ≡ false → a .own ≡ b .own → i ≡ j
 unfolding distinct
-distinct-fact nodes h i j a b p q o =
+distinct-fact nodes h i j a b p q x y o =
     elim (eq-or-ne i j) [
       | inl e ↦ e
       | inr ne ↦ elim (lt-or-gt i j ne) [
-        | inl k ↦ absurd (apart-here i j a b k p q o)
-        | inr k ↦ absurd (apart-here j i b a k q p (sym o))
+        | inl k ↦ absurd (apart-here i j a b k p q x y o)
+        | inr k ↦ absurd (apart-here j i b a k q p y x (sym o))
       ]
     ]
   where
-    apart-here : (i j : ℕ) (a b : Node) → i < j → getElem? nodes i ≡ some a → getElem? nodes j ≡ some b → a .own ≡ b .own → ⊥
-    apart-here i j a b k p q o =
-        let e : eqb (getD nodes i a .own) (getD nodes j a .own) ≡ false = apart-index (λ (x y : Node). eqb (x .own) (y .own)) nodes a h i j k (getElem?-lt nodes j q) in
-        clash (eq-eqb (getD nodes i a .own) (getD nodes j a .own) (ap (λ (x : Node). x .own) (getElem?-getD nodes i a p) ∙ (o ∙ sym (ap (λ (x : Node). x .own) (getElem?-getD nodes j a q))))) e
+    apart-here : (i j : ℕ) (a b : Node) → i < j → getElem? nodes i ≡ some a → getElem? nodes j ≡ some b → a .listens ≡ false → b .listens ≡ false → a .own ≡ b .own → ⊥
+    apart-here i j a b k p q x y o =
+        let e : sameStation (getD nodes i a) (getD nodes j a) ≡ false = apart-index sameStation nodes a h i j k (getElem?-lt nodes j q) in
+        let same : sameStation a b ≡ true = and-intro (not-of-false x) (and-intro (not-of-false y) (eq-eqb (a .own) (b .own) o)) in
+        clash same (rw (getElem?-getD nodes i a p, getElem?-getD nodes j a q) at e)
+
+-- no more stations than n
+stations-few :
+    (s : Setup) (nodes : List Node) → distinct nodes ≡ true → ((node : Node) → List·Memᴰ node nodes → node .listens ≡ false → node .own < s .n)
+    → countOf isStation nodes ≤ s .n
+unfolding distinct countOf
+stations-few s nodes h below =
+    pigeonhole (λ (node : Node). node .own) (s .n) (select isStation nodes)
+    (λ node m. let r = mem-of-select isStation nodes m in below node (r .0) (false-of-not (node .listens) (r .1)))
+    (sym (pairwise-ext (λ x y. not (sameStation x y)) (λ x y. not (eqb (x .own) (y .own))) (select isStation nodes) alike)
+    ∙ pairwise-of-apart sameStation (select isStation nodes) (apart-select sameStation isStation nodes h))
+  where
+    alike : (x y : Node) → List·Memᴰ x (select isStation nodes) → List·Memᴰ y (select isStation nodes) → not (sameStation x y) ≡ not (eqb (x .own) (y .own))
+    alike x y m k = rw (mem-of-select isStation nodes m .1, mem-of-select isStation nodes k .1) refl
 
 pub group-start : (s : Setup) (nodes : List Node) → goodStart s nodes ≡ true → Group s nodes
-unfolding goodStart validFor exactHoldback
+unfolding goodStart validFor exactHoldback isMember
 group-start s nodes h =
     record {
-      limits = λ i node at. valid i node at .0;
+      limits = λ i node at. valid node (getElem?-mem nodes i at) .0;
       distinct = distinct-fact nodes apart-nodes;
       together = together-fact (s .epsilon) nodes (and-left (together (s .epsilon) nodes) lengths rest);
-      few = pigeonhole (λ (node : Node). node .own) (s .n) nodes (λ node mem. let r = mem-getElem? mem in valid (r .0) node (r .1) .1) (pairwise-of-apart (λ (x y : Node). eqb (x .own) (y .own)) nodes (unfold distinct in apart-nodes));
+      few = stations-few s nodes apart-nodes (λ node mem station. valid node mem .1 station);
     }
   where
     lengths : Bool
@@ -68,10 +89,16 @@ group-start s nodes h =
     rest : (together (s .epsilon) nodes && lengths) ≡ true
     rest = and-right (distinct nodes) (together (s .epsilon) nodes && lengths) tests
 
-    valid : (i : ℕ) (node : Node) → getElem? nodes i ≡ some node → Limits s × (node .own < s .n)
-    valid i node at =
-        setup-from s (node .own)
-        (every-mem (validFor s) (and-left (every (validFor s) nodes) (distinct nodes && (together (s .epsilon) nodes && lengths)) h) (getElem?-mem nodes i at))
+    valid : (node : Node) → List·Memᴰ node nodes → Limits s × (node .listens ≡ false → node .own < s .n)
+    valid node mem =
+        let test : (inLimits s && (node .listens || ltb (node .own) (s .n))) ≡ true =
+        every-mem (validFor s) (and-left (every (validFor s) nodes) (distinct nodes && (together (s .epsilon) nodes && lengths)) h) mem in (
+          limits-from s (and-left (inLimits s) (node .listens || ltb (node .own) (s .n)) test),
+          λ station. elim (or-cases (node .listens) (ltb (node .own) (s .n)) (and-right (inLimits s) (node .listens || ltb (node .own) (s .n)) test)) [
+            | inl q ↦ absurd (clash q station)
+            | inr q ↦ ltb-true (node .own) (s .n) q
+          ],
+        )
 
 -- a start at which no node has passed the bounds
 pub good-start :
@@ -85,6 +112,7 @@ good-start s floor from nodes h early =
       node = λ i node at. inl (record { early = early i node at; unheard = λ k. refl; uncalled = λ k d at′. absurd (nothing k d at′) });
       calls = λ k d at. absurd (nothing k d at);
       unique = λ k l a b p. absurd (nothing k a p);
+      kinds = λ k d at. absurd (nothing k d at);
       heard-before = λ i k e. absurd (clash e refl);
     }
   where
@@ -176,7 +204,7 @@ legal-fact s x floor w call node early at acc h =
     C = eqb (call .clock) (doneOf node call .clock % s .modulus)
 
     S : Bool
-    S = sameSetup (call .setup) s && eqb (call .own) (doneOf node call .own)
+    S = sameSetup (call .setup) s && (doneOf node call .listens || eqb (call .own) (doneOf node call .own))
 
     K : Bool
     K = leb 1 (call .step) && leb (call .step) (s .epsilon)
@@ -200,10 +228,14 @@ legal-fact s x floor w call node early at acc h =
     one = and-left S (C && (K && (together (s .epsilon) (act w call .nodes) && E))) h
 
     setup-fact : call .setup ≡ s
-    setup-fact = same-setup (call .setup) s (and-left (sameSetup (call .setup) s) (eqb (call .own) (doneOf node call .own)) one)
+    setup-fact = same-setup (call .setup) s (and-left (sameSetup (call .setup) s) (doneOf node call .listens || eqb (call .own) (doneOf node call .own)) one)
 
-    own-fact : call .own ≡ node .own
-    own-fact = eqb-true (call .own) (node .own) (unfold doneOf in (and-right (sameSetup (call .setup) s) (eqb (call .own) (doneOf node call .own)) one))
+    own-fact : node .listens ≡ false → call .own ≡ node .own
+    own-fact station =
+        elim (or-cases (doneOf node call .listens) (eqb (call .own) (doneOf node call .own)) (and-right (sameSetup (call .setup) s) (doneOf node call .listens || eqb (call .own) (doneOf node call .own)) one)) [
+          | inl q ↦ let listens : node .listens ≡ true = unfold doneOf in q in absurd (clash listens station)
+          | inr q ↦ eqb-true (call .own) (node .own) (unfold doneOf in q)
+        ]
 
     clock-fact : call .clock ≡ doneOf node call .clock % s .modulus
     clock-fact = eqb-true (call .clock) (doneOf node call .clock % s .modulus) (and-left C (K && (together (s .epsilon) (act w call .nodes) && E)) h1)

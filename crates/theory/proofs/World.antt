@@ -1,4 +1,5 @@
--- What holds of all nodes and calls while a list of calls is run: from the clock `floor` on counts are right, and from the clock `from` on messages are followed.
+-- What holds of all nodes and calls while a list of calls is run: from the clock `floor` on counts are right, and from the clock `from` on messages are covered.
+-- Nodes are stations and observers; stamps, and calls that are events, are stations' alone.
 -- Demand 3 has floor X + δ + 2ε and from X + δ + 3ε; from fresh nodes both are 0.
 -- Assumes nothing.
 use Prim.Native.Nat.{ℕ, _+_, _%_, _≤_, _<_, Ordering·lt}
@@ -9,21 +10,22 @@ use mathlib.Core.Logic.{_⊎_, inl, inr}
 use mathlib.Core.Option.{Option, some}
 use lib.Dec.{leb}
 use lib.ListN.{length, take, getD, set, getElem?}
-use Rattle.laws.specs.Lists.{every, any, select, selectFrom, sortBy, placedAt}
+use Rattle.laws.specs.Lists.{every, any, select, sortBy, placedAt}
 use Rattle.laws.specs.Lex.{lexCompare}
-use Rattle.laws.proofs.Numbers.{and-left}
+use Rattle.laws.proofs.Numbers.{and-intro, and-left, and-right, false-of-not, not-of-false}
 use Rattle.laws.proofs.Lists.{countOf, getElem?-lt, getElem?-set-same, getElem?-set-other}
 use Rattle.model.specs.Setup.{Setup}
-use Rattle.model.specs.Timestamp.{Timestamp, trimmed}
-use Rattle.model.specs.Frame.{Frame, encode, decode}
+use Rattle.model.specs.Timestamp.{Timestamp, clockStep, soundClock, trimmed}
+use Rattle.model.specs.Frame.{Frame, encode}
 use Rattle.model.specs.Order.{readingOf, key, due, dueNear}
 use Rattle.model.specs.Batch.{batchEntries}
 use Rattle.model.specs.Holdback.{heldBytes, held, passes}
 use Rattle.model.specs.Codec.{frameOf}
-use Rattle.model.specs.Tick.{leastDue, openingQueue, dueBefore}
-use Rattle.model.specs.Run.{Node, Source, sentBy, stale, Call, Done, World, isAccepted, outputOf, doneOf, nodeAfter, act, actOn, sends, messageBytes, messageFrame}
+use Rattle.model.specs.Judge.{Asking, judgeQuestions, observerQuestions}
+use Rattle.model.specs.Tick.{leastAfter, leastDue, openingQueue, dueBefore}
+use Rattle.model.specs.Run.{Node, Source, sentBy, stale, Call, Done, World, isAccepted, outputOf, doneOf, nodeAfter, act, actOn, isEvent, sends, messageBytes, messageFrame}
 use Rattle.theory.specs.Premises.{clockAt}
-use Rattle.theory.specs.Demand3.{isFrom, heardIn, dueIn, earlier, newTimestamp, written}
+use Rattle.theory.specs.Demand3.{covered, isFrom, heardIn, earlier, dueHere, coveredFrame, newTimestamp, written}
 use Rattle.lemmas.proofs.Bounds.{Limits, Sound, FrameOk}
 use Rattle.lemmas.proofs.Counts.{Left}
 use Rattle.lemmas.proofs.Queue.{QueueLeft}
@@ -35,9 +37,9 @@ eventFrame s d = frameOf (s .epsilon) (d .own) (newTimestamp s d) (d .call .payl
 unfoldable pub eventKey : Setup → Done → List ℕ
 eventKey s d = key s (d .clock) (eventFrame s d)
 
--- how many nodes have reached the clock named w
+-- how many stations have reached the clock named w: an observer "is not counted in n"
 unfoldable pub reached : ℕ → List Node → ℕ → ℕ
-reached epsilon nodes w = countOf (λ node. leb w (node .clock + epsilon)) nodes
+reached epsilon nodes w = countOf (λ node. not (node .listens) && leb w (node .clock + epsilon)) nodes
 
 -- the counts of a timestamp at R are right from the floor on: nobody is counted who has not reached that clock
 abbrev pub Bounded : Setup → ℕ → List Node → ℕ → List ℕ → Type 0
@@ -49,19 +51,15 @@ pub record Under (R : ℕ) (f : Timestamp) (v : ℕ) (t : Timestamp) : Type 0 wh
   pub sums : R + f .c ≤ v + t .c
   pub counts : (w : ℕ) → v < w → placedAt R (f .kn) w ≤ placedAt v (t .kn) w
 
--- a message that is followed
-unfoldable pub followed : ℕ → Done → Bool
-followed from m = sends m && leb from (m .clock)
-
 -- the message of call k has been heard at a node
 unfoldable pub heardAt : List Done → ℕ → ℕ → Bool
 heardAt past node k = any (heardIn node k) past
 
--- a frame in the queue of a node, at v: of a message that is not followed, or of one that is followed and was heard
+-- a frame in the queue of a node, at v: of a message that is not covered, or of one that is covered and was heard
 abbrev pub Explained : Setup → ℕ → List Done → (ℕ → Bool) → ℕ → Frame → Type 0
 Explained s from past heard v f =
     (readingOf s (v % s .modulus) f + v < s .modulus + from)
-    ⊎ ((k : ℕ) × (m : Done) × (getElem? past k ≡ some m) × (followed from m ≡ true) × (heard k ≡ true) × (f ≡ eventFrame s m)
+    ⊎ ((k : ℕ) × (m : Done) × (getElem? past k ≡ some m) × (covered from m ≡ true) × (heard k ≡ true) × (f ≡ eventFrame s m)
     × (readingOf s (v % s .modulus) f + v ≡ s .modulus + m .clock))
 
 abbrev pub AllExplained : Setup → ℕ → List Done → (ℕ → Bool) → ℕ → List Frame → Type 0
@@ -73,19 +71,19 @@ pub explained-more :
 explained-more s from past heard heard′ v f more (inl h) = inl h
 explained-more s from past heard heard′ v f more (inr x) = inr (x .0, x .1, x .2, x .3, more (x .0) (x .4), x .5, x .6)
 
--- each followed message that was heard and is not yet due before v lies in the queue
+-- each covered message that was heard and is not yet due before v lies in the queue
 abbrev pub AllPresent : Setup → ℕ → List Done → (ℕ → Bool) → ℕ → List Frame → Type 0
 AllPresent s from past heard v queue =
-    (k : ℕ) (m : Done) → getElem? past k ≡ some m → followed from m ≡ true → heard k ≡ true
+    (k : ℕ) (m : Done) → getElem? past k ≡ some m → covered from m ≡ true → heard k ≡ true
     → v ≤ due s (m .clock) (eventFrame s m .stamp .c) → List·Memᴰ (eventFrame s m) queue
 
 -- and each that is due after v: such lie there once those due by v are delivered
 abbrev pub AllWaiting : Setup → ℕ → List Done → (ℕ → Bool) → ℕ → List Frame → Type 0
 AllWaiting s from past heard v queue =
-    (k : ℕ) (m : Done) → getElem? past k ≡ some m → followed from m ≡ true → heard k ≡ true
+    (k : ℕ) (m : Done) → getElem? past k ≡ some m → covered from m ≡ true → heard k ≡ true
     → v < due s (m .clock) (eventFrame s m .stamp .c) → List·Memᴰ (eventFrame s m) queue
 
--- an accepted call, by itself
+-- an accepted call of a station, by itself
 pub record CallEvent (s : Setup) (d : Done) : Type 0 where
   pub frame : FrameOk s (eventFrame s d)
   pub r-is : eventFrame s d .stamp .r ≡ d .clock % s .modulus
@@ -99,10 +97,11 @@ pub record CallEvent (s : Setup) (d : Done) : Type 0 where
 pub record Maker (nodes : List Node) (d : Done) : Type 0 where
   pub node : Node
   pub at : getElem? nodes (d .node) ≡ some node
+  pub kind-is : node .listens ≡ d .listens
   pub own-is : node .own ≡ d .own
   pub clock-is : d .clock ≤ node .clock
 
--- an accepted call among all
+-- an accepted call of a station, among all
 pub record Settled (s : Setup) (floor : ℕ) (nodes : List Node) (d : Done) : Type 0 where
   pub event : CallEvent s d
   pub maker : Maker nodes d
@@ -118,13 +117,30 @@ pub record Passed-on (s : Setup) (d : Done) (v : ℕ) (t : Timestamp) : Type 0 w
 -- the nodes alone
 pub record Group (s : Setup) (nodes : List Node) : Type 0 where
   pub limits : (i : ℕ) (node : Node) → getElem? nodes i ≡ some node → Limits s
-  pub distinct : (i j : ℕ) (a b : Node) → getElem? nodes i ≡ some a → getElem? nodes j ≡ some b → a .own ≡ b .own → i ≡ j
+  pub distinct :
+      (i j : ℕ) (a b : Node) → getElem? nodes i ≡ some a → getElem? nodes j ≡ some b → a .listens ≡ false → b .listens ≡ false → a .own ≡ b .own
+      → i ≡ j
   pub together : (i j : ℕ) (a b : Node) → getElem? nodes i ≡ some a → getElem? nodes j ≡ some b → a .clock ≤ b .clock + s .epsilon
-  pub few : length nodes ≤ s .n
+  pub few : countOf (λ node. not (node .listens)) nodes ≤ s .n
+
+-- what a node asks of a frame in a call for the clock u, and the least due clock that its shelf may have: as an observer or as a station
+abbrev pub askingBy : Bool → Setup → ℕ → Asking
+askingBy true s u = observerQuestions s u
+askingBy false s u = judgeQuestions s u
+
+abbrev pub leastBy : Bool → Setup → ℕ → Timestamp → ℕ
+leastBy true s u tables = leastAfter s (soundClock (s .epsilon) (s .modulus) u (tables .r)) (clockStep (s .modulus) (tables .r) u)
+leastBy false s u tables = leastDue s u tables
+
+abbrev pub askingAt : Setup → ℕ → Node → Asking
+askingAt s v node = askingBy (node .listens) s (v % s .modulus)
+
+abbrev pub leastAt : Setup → ℕ → Node → ℕ
+leastAt s v node = leastBy (node .listens) s (v % s .modulus) (node .tables)
 
 -- the queue with which a call for v starts, as found or emptied, and what of it is not due before v
 abbrev pub openedAt : Setup → ℕ → Node → List Frame
-openedAt s v node = openingQueue s (v % s .modulus) (leastDue s (v % s .modulus) (node .tables)) (node .holdback)
+openedAt s v node = openingQueue s (v % s .modulus) (leastAt s v node) (node .holdback)
 
 abbrev pub earlyAt : Setup → ℕ → Node → List Frame
 earlyAt s v node = select (dueBefore s (v % s .modulus)) (openedAt s v node)
@@ -132,48 +148,64 @@ earlyAt s v node = select (dueBefore s (v % s .modulus)) (openedAt s v node)
 abbrev pub restAt : Setup → ℕ → Node → List Frame
 restAt s v node = select (λ f. not (dueBefore s (v % s .modulus) f)) (openedAt s v node)
 
--- what a call of node i for v starts from, its clock before that being `last`: the stamp, and the queue as found or emptied, with what is due before v
-pub record Opens (s : Setup) (floor from : ℕ) (w : World) (i last v : ℕ) (t : Timestamp) (queue : List Frame) : Type 0 where
-  pub bounded : Bounded s floor (w .nodes) v (t .kn)
+-- what a call of node i for v starts from, its clock before that being `last`: the queue as found or emptied, with what is due before v
+pub record OpensQueue (s : Setup) (from : ℕ) (w : World) (i last v : ℕ) (queue : List Frame) : Type 0 where
   pub members : AllExplained s from (w .past) (heardAt (w .past) i) v queue
-  -- a frame there that is followed is due past `last`
+  -- a frame there that is covered is due past `last`
   pub later : (f : Frame) → List·Memᴰ f queue → s .modulus + from ≤ readingOf s (v % s .modulus) f + v → s .modulus + last < dueNear s (v % s .modulus) f + v
   pub waiting : AllWaiting s from (w .past) (heardAt (w .past) i) last queue
-  pub passed-on : (k : ℕ) (d : Done) → getElem? (w .past) k ≡ some d → isAccepted (d .output) ≡ true → d .node ≡ i → Passed-on s d v t
 
--- what a call leaves in its node's memory, at the node's own clock: sound tables, and a shelf of frames that pass 10 to 12
+-- and the stamp, of a station
+pub record OpensStamp (s : Setup) (floor : ℕ) (w : World) (i v : ℕ) (t : Timestamp) : Type 0 where
+  pub bounded : Bounded s floor (w .nodes) v (t .kn)
+  pub passed-on : (k : ℕ) (d : Done) → getElem? (w .past) k ≡ some d → isEvent d ≡ true → d .node ≡ i → Passed-on s d v t
+
+-- what a call leaves in its node's memory, at the node's own clock: the last clock, and a shelf of frames that pass 10 to 12
 pub record Memory (s : Setup) (node : Node) : Type 0 where
-  pub tables : Left (s .n) (s .epsilon) (trimmed (s .epsilon) (node .tables))
-  pub r-is : trimmed (s .epsilon) (node .tables) .r ≡ node .clock % s .modulus
+  pub r-is : node .tables .r ≡ node .clock % s .modulus
   pub passed : every (passes s) (heldBytes (s .epsilon) (node .holdback)) ≡ true
   pub queue : QueueLeft s (node .clock % s .modulus) 0 (held (s .epsilon) (node .holdback))
+
+-- and sound tables, of a station
+abbrev pub Tables : Setup → Node → Type 0
+Tables s node = Left (s .n) (s .epsilon) (trimmed (s .epsilon) (node .tables))
+
+-- a station's stamp as its last accepted call left it
+pub record LeftStamp (s : Setup) (floor : ℕ) (w : World) (i : ℕ) (node : Node) : Type 0 where
+  pub tables : Tables s node
+  pub bounded : Bounded s floor (w .nodes) (node .clock) (trimmed (s .epsilon) (node .tables) .kn)
+  pub passed-on :
+      (k : ℕ) (d : Done) → getElem? (w .past) k ≡ some d → isEvent d ≡ true → d .node ≡ i
+      → Passed-on s d (node .clock) (trimmed (s .epsilon) (node .tables))
 
 -- a node as its last accepted call left it; a fresh node is one too
 pub record LeftAt (s : Setup) (floor from : ℕ) (w : World) (i : ℕ) (node : Node) : Type 0 where
   pub memory : Memory s node
-  pub bounded : Bounded s floor (w .nodes) (node .clock) (trimmed (s .epsilon) (node .tables) .kn)
   pub members : AllExplained s from (w .past) (heardAt (w .past) i) (node .clock) (held (s .epsilon) (node .holdback))
   pub waiting : AllWaiting s from (w .past) (heardAt (w .past) i) (node .clock) (held (s .epsilon) (node .holdback))
-  pub passed-on :
-      (k : ℕ) (d : Done) → getElem? (w .past) k ≡ some d → isAccepted (d .output) ≡ true → d .node ≡ i
-      → Passed-on s d (node .clock) (trimmed (s .epsilon) (node .tables))
+  pub stamp : node .listens ≡ false → LeftStamp s floor w i node
 
 -- a node that has made no accepted call yet: its memory is whatever it was, and what it opens at its first one lies below the floor
 pub record Untouched (s : Setup) (floor : ℕ) (w : World) (i : ℕ) (node : Node) : Type 0 where
   pub early : node .clock + s .epsilon + s .epsilon ≤ floor
   pub unheard : (k : ℕ) → heardAt (w .past) i k ≡ false
-  pub uncalled : (k : ℕ) (d : Done) → getElem? (w .past) k ≡ some d → isAccepted (d .output) ≡ true → d .node ≡ i → ⊥
+  pub uncalled : (k : ℕ) (d : Done) → getElem? (w .past) k ≡ some d → isEvent d ≡ true → d .node ≡ i → ⊥
 
 -- one node among all, between its calls
 abbrev pub NodeOk : Setup → ℕ → ℕ → World → ℕ → Node → Type 0
 NodeOk s floor from w i node = Untouched s floor w i node ⊎ LeftAt s floor from w i node
 
+-- every call, refused ones too, was made by a node that is an observer or not, as it says
+abbrev pub AllKinds : List Node → List Done → Type 0
+AllKinds nodes past = (k : ℕ) (d : Done) → getElem? past k ≡ some d → (node : Node) × (getElem? nodes (d .node) ≡ some node) × (node .listens ≡ d .listens)
+
 -- the invariant
 pub record Good (s : Setup) (floor from : ℕ) (w : World) : Type 0 where
   pub group : Group s (w .nodes)
   pub node : (i : ℕ) (a : Node) → getElem? (w .nodes) i ≡ some a → NodeOk s floor from w i a
-  pub calls : (k : ℕ) (d : Done) → getElem? (w .past) k ≡ some d → isAccepted (d .output) ≡ true → Settled s floor (w .nodes) d
-  pub unique : (k l : ℕ) (a b : Done) → getElem? (w .past) k ≡ some a → getElem? (w .past) l ≡ some b → isAccepted (a .output) ≡ true → isAccepted (b .output) ≡ true → a .own ≡ b .own → a .clock ≡ b .clock → k ≡ l
+  pub calls : (k : ℕ) (d : Done) → getElem? (w .past) k ≡ some d → isEvent d ≡ true → Settled s floor (w .nodes) d
+  pub unique : (k l : ℕ) (a b : Done) → getElem? (w .past) k ≡ some a → getElem? (w .past) l ≡ some b → isEvent a ≡ true → isEvent b ≡ true → a .own ≡ b .own → a .clock ≡ b .clock → k ≡ l
+  pub kinds : AllKinds (w .nodes) (w .past)
   pub heard-before : (i k : ℕ) → heardAt (w .past) i k ≡ true → k < length (w .past)
 
 -- an entry's message
@@ -193,11 +225,16 @@ EntryOk s floor past nodes v entry stale = v + s .epsilon ≤ floor
 pub record Due-call (s : Setup) (node : Node) (call : Call) (v : ℕ) : Type 0 where
   pub accepted : isAccepted (outputOf node call) ≡ true
   pub setup-is : call .setup ≡ s
-  pub own-is : call .own ≡ node .own
+  pub own-is : node .listens ≡ false → call .own ≡ node .own
   pub clock-is : call .clock ≡ v % s .modulus
   pub turn : v ≡ node .clock + call .step
   pub step-pos : 1 ≤ call .step
   pub step-few : call .step ≤ s .epsilon
+
+-- a station's
+pub record Ticks (s : Setup) (node : Node) (call : Call) (v : ℕ) : Type 0 where
+  pub due : Due-call s node call v
+  pub station : node .listens ≡ false
 
 -- an accepted call of a node that keeps the premises
 pub record Legal (s : Setup) (floor : ℕ) (w : World) (call : Call) (node : Node) (v : ℕ) : Type 0 where
@@ -232,34 +269,38 @@ after-together s floor w call node v legal i j a b p q =
     let e = ap (λ (u : World). u .nodes) (act-is w call node (legal .at)) in
     legal .together i j a b (ap (λ (l : List Node). getElem? l i) e ∙ p) (ap (λ (l : List Node). getElem? l j) e ∙ q)
 
--- only an accepted call sends
-pub sends-accepted : (m : Done) → sends m ≡ true → isAccepted (m .output) ≡ true
+-- only an accepted call sends, and only a station's
+pub sends-event : (m : Done) → sends m ≡ true → isEvent m ≡ true
 unfolding sends
-sends-accepted m e = and-left (isAccepted (m .output)) (m .call .send) e
+sends-event m e = and-left (isEvent m) (m .call .send) e
 
--- the followed messages heard at a node that are due past `last` and not past v
-unfoldable pub dueFollowed : Setup → ℕ → List Done → ℕ → ℕ → ℕ → List Done
-dueFollowed s from past node last v = selectFrom (λ k m. followed from m && (dueIn s last v m && any (heardIn node k) past)) 0 past
+pub event-accepted : (m : Done) → isEvent m ≡ true → isAccepted (m .output) ≡ true
+unfolding isEvent
+event-accepted m e = and-left (isAccepted (m .output)) (not (m .listens)) e
 
-unfoldable pub followedFrame : Setup → ℕ → ℕ → List ℕ → Bool
-followedFrame s from v bytes =
-    leb (s .modulus + from) (readingOf s (v % s .modulus) (decode (s .epsilon) bytes) + v)
+pub event-kind : (m : Done) → isEvent m ≡ true → m .listens ≡ false
+unfolding isEvent
+event-kind m e = false-of-not (m .listens) (and-right (isAccepted (m .output)) (not (m .listens)) e)
+
+pub event-of : (m : Done) → isAccepted (m .output) ≡ true → m .listens ≡ false → isEvent m ≡ true
+unfolding isEvent
+event-of m acc station = and-intro acc (not-of-false station)
 
 -- what is promised of one accepted call, given the calls before it
 pub record Kept (s : Setup) (from : ℕ) (past : List Done) (d : Done) : Type 0 where
-  pub event : CallEvent s d
+  pub event : isEvent d ≡ true → CallEvent s d
   pub setup-is : d .call .setup ≡ s
   pub hearing :
-      (e k : ℕ) (m : Done) → getElem? (d .call .sources) e ≡ some (sentBy k) → getElem? past k ≡ some m → followed from m ≡ true
+      (e k : ℕ) (m : Done) → getElem? (d .call .sources) e ≡ some (sentBy k) → getElem? past k ≡ some m → covered from m ≡ true
       → getD (d .output .verdicts) e 0 ≡ cond (heardAt past (d .node) k || any (isFrom k) (take e (d .call .sources))) 16 0
   pub delivering :
-      select (followedFrame s from (d .clock)) (heldBytes (s .epsilon) (d .output .delivery))
-      ≡ map messageBytes (sortBy (earlier s) (dueFollowed s from (past ++ (d ∷ [])) (d .node) (d .last) (d .clock)))
+      select (coveredFrame s from (d .clock)) (heldBytes (s .epsilon) (d .output .delivery))
+      ≡ map messageBytes (sortBy (earlier s) (dueHere s from (past ++ (d ∷ [])) (d .node) (d .last) (d .clock)))
   pub later :
-      (k : ℕ) (a : Done) → getElem? past k ≡ some a → isAccepted (a .output) ≡ true → a .node ≡ d .node
+      isEvent d ≡ true → (k : ℕ) (a : Done) → getElem? past k ≡ some a → isEvent a ≡ true → a .node ≡ d .node
       → lexCompare (eventKey s a) (eventKey s d) ≡ Ordering·lt
   pub takes :
-      (e k : ℕ) (m : Done) → getElem? (d .call .sources) e ≡ some (sentBy k) → getElem? past k ≡ some m → getD (d .output .verdicts) e 0 ≡ 0
+      isEvent d ≡ true → (e k : ℕ) (m : Done) → getElem? (d .call .sources) e ≡ some (sentBy k) → getElem? past k ≡ some m → getD (d .output .verdicts) e 0 ≡ 0
       → lexCompare (eventKey s m) (eventKey s d) ≡ Ordering·lt
   pub sent-before :
       (e k : ℕ) → getElem? (d .call .sources) e ≡ some (sentBy k) → (m : Done) × (getElem? past k ≡ some m) × (sends m ≡ true)

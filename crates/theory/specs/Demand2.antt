@@ -8,16 +8,17 @@ use lib.Dec.{ltb, eqb}
 use lib.ListN.{length, take, drop, getD, set, replicate, getElem?}
 use Rattle.laws.specs.Lists.{every, any, overlay}
 use Rattle.model.specs.Setup.{Setup, width}
-use Rattle.model.specs.Timestamp.{Timestamp, trimmed, widened, soundTables}
+use Rattle.model.specs.Timestamp.{Timestamp, trimmed, widened, soundClock, soundTables}
 use Rattle.model.specs.Frame.{Frame, encode, wellFormed}
 use Rattle.model.specs.Batch.{batchEntries}
 use Rattle.model.specs.Holdback.{heldBytes, held, soundHoldback, encodeFrames, encodeHoldback}
 use Rattle.model.specs.Question.{firstNo}
 use Rattle.model.specs.Codec.{read, write}
-use Rattle.model.specs.Judge.{Heard, hear, judgeQuestions}
-use Rattle.model.specs.Tick.{Input, holdbackSize, leastDue, opening, sentBytes, deliveredOf, takenCount, tick}
+use Rattle.model.specs.Judge.{Heard, hear, judgeQuestions, observerQuestions}
+use Rattle.model.specs.Tick.{Input, holdbackSize, leastDue, opening, openingIn, sentBytes, deliveredOf, takenCount, tick}
+use Rattle.model.specs.Observer.{Listening, observerLeast, observerOpened, observerDelivered, listen}
 use Rattle.model.specs.Published.{Event, Message, Process, Condition, deliverable, deliverableBy, inOrder, sameMessage, newOnes, eventOf, messageOf, deliveredAt, advanced, started}
-use Rattle.model.specs.Run.{Node, Source, sentBy, stale, Call, Done, isAccepted, runFrom, atStart}
+use Rattle.model.specs.Run.{Node, Source, sentBy, stale, Call, Done, isEvent, runFrom, atStart}
 use Rattle.theory.specs.Premises.{goodStart, largestClock, keeps, allFresh, noneStale, stepsOfOne}
 
 -- what a tick has heard before its entry k
@@ -57,6 +58,38 @@ pub record AnyState (i : Input) : Type 0 where
 -- Demand 2 from any state, of every accepted call
 abbrev pub Demand2Any : Type 0
 Demand2Any = (i : Input) → tick i .answer .number ≡ 0 → AnyState i
+
+-- 02, 2.6: what an observer's call has heard before its entry k
+unfoldable pub observedBefore : Listening → ℕ → Heard
+observedBefore i k =
+    hear (i .setup) (i .clock) (observerQuestions (i .setup) (i .clock)) (openingIn (i .setup) (i .clock) (observerOpened i)) (take k (batchEntries (i .batch)))
+
+-- From any state, of an accepted call of an observer: the same, by its own questions, for its last clock in place of the tables
+pub record AnyObserver (i : Listening) : Type 0 where
+  pub verdict :
+      (k : ℕ) (entry : List ℕ) → getElem? (batchEntries (i .batch)) k ≡ some entry
+      → getD (listen i .verdicts) k 0 ≡ firstNo (observerQuestions (i .setup) (i .clock) (observedBefore i k .queue) entry)
+  -- 1 exactly if the last clock is unsound for this clock, 2 exactly if the shelf is, after it, else 0
+  pub repair :
+      listen i .repair
+      ≡ cond (soundClock (i .setup .epsilon) (i .setup .modulus) (i .clock) (i .last)) 0 1
+      + cond (soundHoldback (i .setup) (i .clock) (observerLeast i) (i .holdback)) 0 2
+  pub taken : listen i .taken ≡ takenCount (take (length (batchEntries (i .batch))) (listen i .verdicts))
+  pub delivered : listen i .delivered ≡ length (observerDelivered i)
+  pub delivery : heldBytes (i .setup .epsilon) (listen i .delivery) ≡ map encode (observerDelivered i)
+  -- the last clock is this call's, and sound for every next clock 1 to ε ahead
+  pub last : listen i .last ≡ i .clock
+  pub bounded :
+      (k : ℕ) → 1 ≤ k → k ≤ i .setup .epsilon
+      → soundClock (i .setup .epsilon) (i .setup .modulus) ((i .clock + k) % i .setup .modulus) (listen i .last) ≡ true
+  -- and so is the shelf
+  pub boundedQueue :
+      (k : ℕ) → 1 ≤ k → k ≤ i .setup .epsilon
+      → soundHoldback (i .setup) ((i .clock + k) % i .setup .modulus) (i .setup .modulus + 1 - k) (listen i .holdback) ≡ true
+
+-- of every accepted call of an observer
+abbrev pub Demand2Observer : Type 0
+Demand2Observer = (i : Listening) → listen i .number ≡ 0 → AnyObserver i
 
 -- bytes: numbers below 256
 unfoldable pub areBytes : List ℕ → Bool
@@ -146,9 +179,9 @@ outcomeOf delcond s sent p clock call =
       buffer = advanced delcond (s .epsilon) (s .delta) clock p (messagesHeard sent (call .sources)) .buffer;
     }
 
--- an accepted call is an event of its process, a refused one is none
+-- an accepted call is an event of its process, a refused one is none, nor is an observer's
 abbrev pub publishOn : Condition → Setup → Published → Done → Bool → Option Process → Published
-publishOn delcond s w d accepted none = record { processes = w .processes; sent = w .sent ++ (none ∷ []) }
+publishOn delcond s w d event none = record { processes = w .processes; sent = w .sent ++ (none ∷ []) }
 publishOn delcond s w d false (some p) = record { processes = w .processes; sent = w .sent ++ (none ∷ []) }
 publishOn delcond s w d true (some p) =
     record {
@@ -160,14 +193,14 @@ publishOn delcond s w d true (some p) =
 
 -- what a call makes of the published program
 unfoldable pub publish : Condition → Setup → Published → Done → Published
-publish delcond s w d = publishOn delcond s w d (isAccepted (d .output)) (getElem? (w .processes) (d .node))
+publish delcond s w d = publishOn delcond s w d (isEvent d) (getElem? (w .processes) (d .node))
 
 -- what a list of calls makes of it
 unfoldable pub publishAll : Condition → Setup → Published → List Done → Published
 publishAll delcond s w [] = w
 publishAll delcond s w (d ∷ ds) = publishAll delcond s (publish delcond s w d) ds
 
--- the published program's processes, fresh at the stations' clocks
+-- the published program's processes, fresh at the stations' clocks; that of an observer has no event
 unfoldable pub publishedStart : Setup → List Node → Published
 publishedStart s nodes =
     record { processes = map (λ (node : Node). started (s .epsilon) (node .own) (node .clock)) nodes; sent = [] }
@@ -214,12 +247,12 @@ abbrev pub publishedAfter : Condition → Setup → List Node → List Call → 
 publishedAfter delcond s nodes calls j =
     publishAll delcond s (publishedStart s nodes) (take j (runFrom (atStart nodes) calls .past))
 
--- From fresh stations: of every accepted call of the list. 02, 2.2: the published program "that delivers at the first event at or past"
+-- From fresh stations: of every accepted call of a station in the list, which may have observers too. 02, 2.2: the published program "that delivers at the first event at or past"
 abbrev pub Demand2Fresh : Type 0
 Demand2Fresh =
     (s : Setup) (nodes : List Node) (calls : List Call) → goodStart s nodes ≡ true → allFresh s nodes ≡ true
     → keeps s (largestClock nodes) (atStart nodes) calls ≡ true → noneStale (runFrom (atStart nodes) calls .past) ≡ true
-    → (j : ℕ) (d : Done) → getElem? (runFrom (atStart nodes) calls .past) j ≡ some d → isAccepted (d .output) ≡ true
+    → (j : ℕ) (d : Done) → getElem? (runFrom (atStart nodes) calls .past) j ≡ some d → isEvent d ≡ true
     → Matched deliverableBy s (publishedAfter deliverableBy s nodes calls j) d
 
 -- Where all steps are one this is Equation 4.11's program: both have done the same after any number of these calls
@@ -236,5 +269,5 @@ Demand2Ones =
     (s : Setup) (nodes : List Node) (calls : List Call) → goodStart s nodes ≡ true → allFresh s nodes ≡ true
     → keeps s (largestClock nodes) (atStart nodes) calls ≡ true → noneStale (runFrom (atStart nodes) calls .past) ≡ true
     → stepsOfOne (runFrom (atStart nodes) calls .past) ≡ true
-    → (j : ℕ) (d : Done) → getElem? (runFrom (atStart nodes) calls .past) j ≡ some d → isAccepted (d .output) ≡ true
+    → (j : ℕ) (d : Done) → getElem? (runFrom (atStart nodes) calls .past) j ≡ some d → isEvent d ≡ true
     → Matched deliverable s (publishedAfter deliverable s nodes calls j) d

@@ -15,15 +15,15 @@ use Rattle.model.specs.Order.{readingOf, key, due}
 use Rattle.model.specs.Holdback.{heldBytes}
 use Rattle.model.specs.Codec.{WriteAnswer, write}
 use Rattle.model.specs.Run.{Node, Source, sentBy, stale, Call, Done, isAccepted, runFrom, atStart, sends, messageBytes, messageFrame}
-use Rattle.theory.specs.Premises.{goodStart, largestClock, keeps}
+use Rattle.theory.specs.Premises.{goodStart, largestClock, keeps, allFresh, noneStale}
 
 -- 01: "T for X + δ + 3ε"
 unfoldable pub coveredFrom : Setup → ℕ → ℕ
 coveredFrom s x = x + s .delta + 3 * s .epsilon
 
--- 01: a message "is covered if r is at least T"; "its r here is that call's true clock"
-unfoldable pub covered : Setup → ℕ → Done → Bool
-covered s x m = sends m && leb (coveredFrom s x) (m .clock)
+-- 01: a message "is covered if r is at least T", here `from`; "its r here is that call's true clock"
+unfoldable pub covered : ℕ → Done → Bool
+covered from m = sends m && leb from (m .clock)
 
 -- an entry that comes from the call at position k
 unfoldable pub isFrom : ℕ → Source → Bool
@@ -53,13 +53,12 @@ earlier s m m′ = isLess (lexCompare (messageKey s m) (messageKey s m′))
 
 -- 01: "the covered messages heard there so far (this call too) that are due", each once, in the call that moves the clock from `last` to v
 unfoldable pub dueHere : Setup → ℕ → List Done → ℕ → ℕ → ℕ → List Done
-dueHere s x past node last v = selectFrom (λ k m. covered s x m && (dueIn s last v m && any (heardIn node k) past)) 0 past
+dueHere s from past node last v = selectFrom (λ k m. covered from m && (dueIn s last v m && any (heardIn node k) past)) 0 past
 
 -- 01: a handed-out frame "whose r, read near v, is at least T"; v reads B
 unfoldable pub coveredFrame : Setup → ℕ → ℕ → List ℕ → Bool
-coveredFrame s x v bytes =
-    leb (s .modulus + coveredFrom s x)
-    (readingOf s (v % s .modulus) (decode (s .epsilon) bytes) + v)
+coveredFrame s from v bytes =
+    leb (s .modulus + from) (readingOf s (v % s .modulus) (decode (s .epsilon) bytes) + v)
 
 -- 01: the tables' new c and counts, with the clock modulo B
 unfoldable pub newTimestamp : Setup → Done → Timestamp
@@ -79,16 +78,17 @@ pub data Leads (past : List Done) : ℕ → ℕ → Type 0 where
       → getElem? (b .call .sources) e ≡ some (sentBy i) → getD (b .output .verdicts) e 0 ≡ 0 → Leads past i j
   on : {i j k : ℕ} → Leads past i j → Leads past j k → Leads past i k
 
--- what demand 3 promises of a list of calls that have been made
-pub record Promised (s : Setup) (x : ℕ) (past : List Done) : Type 0 where
+-- what demand 3 promises of a list of calls that have been made, of the messages covered from a clock on. 02, 2.6: "What demand 3 says of a
+-- station's board must hold of" an observer's: hearing and delivering are said of every accepted call
+pub record Promised (s : Setup) (from : ℕ) (past : List Done) : Type 0 where
   -- "From T on, an accepted call with a ticket to send sends the frame that the writer makes of its station, clock modulo B, new c and counts, and ticket."
   pub sending :
-      (j : ℕ) (d : Done) → getElem? past j ≡ some d → covered s x d ≡ true
+      (j : ℕ) (d : Done) → getElem? past j ≡ some d → covered from d ≡ true
       → (written s d .number ≡ 0) × (d .output .answer .sent ≡ written s d .size) × (d .output .outgoing ≡ written s d .buffer)
   -- "On each board, in order of calls and entries, a covered message gets verdict 0 at its first hearing, 16 at each later one."
   pub hearing :
       (j : ℕ) (d : Done) → getElem? past j ≡ some d → isAccepted (d .output) ≡ true
-      → (e k : ℕ) (m : Done) → getElem? (d .call .sources) e ≡ some (sentBy k) → getElem? past k ≡ some m → covered s x m ≡ true
+      → (e k : ℕ) (m : Done) → getElem? (d .call .sources) e ≡ some (sentBy k) → getElem? past k ≡ some m → covered from m ≡ true
       → getD (d .output .verdicts) e 0
       ≡ cond (any (heardIn (d .node) k) (take j past) || any (isFrom k) (take e (d .call .sources))) 16 0
   -- "In each accepted call for v, the handed-out frames whose r, read near v, is at least T are byte for byte the covered messages
@@ -96,16 +96,23 @@ pub record Promised (s : Setup) (x : ℕ) (past : List Done) : Type 0 where
   -- before this call and not past v
   pub delivering :
       (j : ℕ) (d : Done) → getElem? past j ≡ some d → isAccepted (d .output) ≡ true
-      → select (coveredFrame s x (d .clock)) (heldBytes (s .epsilon) (d .output .delivery))
-      ≡ map messageBytes (sortBy (earlier s) (dueHere s x (take (j + 1) past) (d .node) (d .last) (d .clock)))
+      → select (coveredFrame s from (d .clock)) (heldBytes (s .epsilon) (d .output .delivery))
+      ≡ map messageBytes (sortBy (earlier s) (dueHere s from (take (j + 1) past) (d .node) (d .last) (d .clock)))
   -- "A sending could have known of each message whose call leads to its own; where both are covered, that message comes first in the order of two stamps."
   pub causality :
       (i j : ℕ) (a b : Done) → Leads past i j → getElem? past i ≡ some a → getElem? past j ≡ some b
-      → covered s x a ≡ true → covered s x b ≡ true → earlier s a b ≡ true
+      → covered from a ≡ true → covered from b ≡ true → earlier s a b ≡ true
 
 -- 01: "Demand 3 is one statement about the whole list, not one about each call."
 abbrev pub Demand3 : Type 0
 Demand3 =
     (s : Setup) (nodes : List Node) (calls : List Call) → goodStart s nodes ≡ true
     → keeps s (largestClock nodes) (atStart nodes) calls ≡ true
-    → Promised s (largestClock nodes) (runFrom (atStart nodes) calls .past)
+    → Promised s (coveredFrom s (largestClock nodes)) (runFrom (atStart nodes) calls .past)
+
+-- 02, 2.6: and "for every message from a fresh start": fresh stations, observers with their last clock right, empty shelves, no older frame
+abbrev pub Demand3Fresh : Type 0
+Demand3Fresh =
+    (s : Setup) (nodes : List Node) (calls : List Call) → goodStart s nodes ≡ true → allFresh s nodes ≡ true
+    → keeps s (largestClock nodes) (atStart nodes) calls ≡ true → noneStale (runFrom (atStart nodes) calls .past) ≡ true
+    → Promised s 0 (runFrom (atStart nodes) calls .past)

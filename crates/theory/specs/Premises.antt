@@ -1,6 +1,6 @@
 -- 01, "Premises of demands 2 and 3". Each is a test, so that a given list can be tried.
 use Prim.Native.Nat.{ℕ, _+_, _%_}
-use mathlib.Core.Bool.{Bool, true, false, _&&_, _||_, not}
+use mathlib.Core.Bool.{Bool, true, false, _&&_, _||_, not, cond}
 use mathlib.Core.List.{List, [], _∷_, map}
 use mathlib.Core.Option.{Option, none, some}
 use lib.Dec.{leb, eqb}
@@ -11,7 +11,7 @@ use Rattle.model.specs.Timestamp.{Timestamp, fresh, trimmed}
 use Rattle.model.specs.Frame.{twoAt}
 use Rattle.model.specs.Batch.{batchEntries}
 use Rattle.model.specs.Tick.{holdbackSize}
-use Rattle.model.specs.Run.{Node, Source, sentBy, stale, Call, Done, World, act, doneOf, isAccepted, sends, messageBytes}
+use Rattle.model.specs.Run.{Node, Source, sentBy, stale, Call, Done, World, act, doneOf, isAccepted, isEvent, sends, messageBytes}
 
 -- the two setups are the same
 unfoldable pub sameSetup : Setup → Setup → Bool
@@ -19,17 +19,17 @@ sameSetup s t =
     eqb (s .n) (t .n) && (eqb (s .epsilon) (t .epsilon) && (eqb (s .delta) (t .delta)
     && eqb (s .modulus) (t .modulus)))
 
--- 01: "no two station clocks ever differ by more" than ε
+-- 01: "no two station clocks ever differ by more" than ε; 02, 2.6: an observer "has a clock within ε of the others"
 unfoldable pub together : ℕ → List Node → Bool
 together epsilon nodes = every (λ a. every (λ b. leb (a .clock) (b .clock + epsilon)) nodes) nodes
 
--- 01: "distinct stations"
+-- 01: "distinct stations"; an observer "is not counted in n", and has no own number
 unfoldable pub distinct : List Node → Bool
-distinct nodes = apart (λ a b. eqb (a .own) (b .own)) nodes
+distinct nodes = apart (λ a b. not (a .listens) && (not (b .listens) && eqb (a .own) (b .own))) nodes
 
 -- 01: "One valid setup", with each station's own number
 unfoldable pub validFor : Setup → Node → Bool
-validFor s node = inLimits s && isMember s (node .own)
+validFor s node = inLimits s && (node .listens || isMember s (node .own))
 
 -- 01: "any shelf bytes of the exact length"
 unfoldable pub exactHoldback : Setup → Node → Bool
@@ -41,7 +41,7 @@ unfoldable pub goodStart : Setup → List Node → Bool
 goodStart s nodes =
     every (validFor s) nodes && (distinct nodes && (together (s .epsilon) nodes && every (exactHoldback s) nodes))
 
--- 01: "X is the largest of these clocks"
+-- 01: "X is the largest of these clocks"; 02, 2.6: which "then includes the listener's"
 unfoldable pub largestClock : List Node → ℕ
 largestClock nodes = largest (map (λ (node : Node). node .clock) nodes)
 
@@ -76,7 +76,7 @@ entriesAllowed s x past nodes v (e ∷ es) (o ∷ os) =
 
 -- 01: an accepted call has "One valid setup, the own number aside", and its station's own number
 unfoldable pub oneSetup : Setup → Call → Done → Bool
-oneSetup s call d = sameSetup (call .setup) s && eqb (call .own) (d .own)
+oneSetup s call d = sameSetup (call .setup) s && (d .listens || eqb (call .own) (d .own))
 
 -- 01: "the true clock modulo B"
 unfoldable pub trueClock : Setup → Call → Done → Bool
@@ -116,14 +116,15 @@ keeps s x w (call ∷ calls) = allowed s x w call && keeps s x (act w call) call
 unfoldable pub sameTimestamp : Timestamp → Timestamp → Bool
 sameTimestamp t u = eqb (t .r) (u .r) && (eqb (t .c) (u .c) && sameList (t .kn) (u .kn))
 
--- 01, demand 2: a "station is fresh at its own clock, its shelf empty". The places past the 2ε counts, and the bytes behind the
--- count of the shelf, are ignored
+-- 01, demand 2: a "station is fresh at its own clock, its shelf empty"; 02, 2.6: an observer has its last clock right. The places past the 2ε
+-- counts, and the bytes behind the count of the shelf, are ignored
 unfoldable pub isFresh : Setup → Node → Bool
 isFresh s node =
-    sameTimestamp (trimmed (s .epsilon) (node .tables)) (fresh (s .epsilon) (node .clock % s .modulus))
+    cond (node .listens) (eqb (node .tables .r) (node .clock % s .modulus))
+    (sameTimestamp (trimmed (s .epsilon) (node .tables)) (fresh (s .epsilon) (node .clock % s .modulus)))
     && eqb (twoAt (node .holdback) 0) 0
 
--- 01, demand 2: "every station is fresh at its own clock, its shelf empty"
+-- 01, demand 2: "every station is fresh at its own clock, its shelf empty"; and every observer
 unfoldable pub allFresh : Setup → List Node → Bool
 allFresh s nodes = every (isFresh s) nodes
 
@@ -136,6 +137,6 @@ isSent stale = false
 unfoldable pub noneStale : List Done → Bool
 noneStale past = every (λ d. not (isAccepted (d .output)) || every isSent (d .call .sources)) past
 
--- 01: "a clock moves by one": of every accepted call
+-- 01: "a clock moves by one": in every accepted call of a station
 unfoldable pub stepsOfOne : List Done → Bool
-stepsOfOne past = every (λ d. not (isAccepted (d .output)) || eqb (d .call .step) 1) past
+stepsOfOne past = every (λ d. not (isEvent d) || eqb (d .call .step) 1) past

@@ -2,15 +2,15 @@
 -- Assumes nothing.
 use Prim.Native.Nat.{ℕ, _+_, _-_, _*_, _≤_, _<_}
 use native.Mathlib.Omega.{arith}
-use mathlib.Core.Path.{_≡_, ap, _∙_}
-use mathlib.Core.Bool.{true, false, _&&_}
+use mathlib.Core.Path.{_≡_, ap, sym, _∙_}
+use mathlib.Core.Bool.{Bool, true, false, _&&_}
 use mathlib.Core.List.{List}
 use lib.ListN.{length, take, getD}
-use lib.Dec.{leb, ltb}
+use lib.Dec.{leb}
 use lib.Seq.{slice, take-all}
 use borrow.Author.Tests.{le-leb, lt-leb, lt-ltb, le-ltb}
 use Rattle.laws.specs.Lists.{within}
-use Rattle.model.specs.Timestamp.{Timestamp, countAt, atMost, trimmed, soundTimestamp, clockStep, soundTables}
+use Rattle.model.specs.Timestamp.{Timestamp, countAt, atMost, trimmed, soundTimestamp, clockStep, soundClock, soundTables}
 use Rattle.lemmas.proofs.Counts.{count-zero, counts-from-drop}
 use Rattle.timestamp.specs.Views.{ofCounts, withinLimits}
 use Rattle.timestamp.proofs.Counts.{and-false}
@@ -53,9 +53,12 @@ module _ (epsilon : ℕ) (t : Timestamp) (small : epsilon ≤ 16) (long : length
   sound-trimmed = rw (trimmed-all epsilon t small long)
 
   module _ (modulus v : ℕ) where
+    abbrev above : Bool
+    above = atMost (n - 1) (slice (epsilon + 1) (2 * epsilon) (t .kn))
+
     tables-are : soundTables n epsilon modulus v (trimmed epsilon t)
-        ≡ (soundTimestamp n epsilon (trimmed epsilon t) && (ltb (t .r) modulus && (within 1 epsilon (clockStep modulus (t .r) v)
-        && atMost (n - 1) (slice (epsilon + 1) (2 * epsilon) (t .kn)))))
+        ≡ (soundTimestamp n epsilon (trimmed epsilon t) && (soundClock epsilon modulus v (t .r)
+        && atMost (n - 1) (slice (epsilon + 1) (2 * epsilon) (t .kn))))
     unfolding soundTables
     tables-are =
         rw (trimmed-all epsilon t small long, counts-from-drop epsilon 0 (take (2 * epsilon) (t .kn)) 1 (epsilon + 1) (omega arith))
@@ -63,22 +66,23 @@ module _ (epsilon : ℕ) (t : Timestamp) (small : epsilon ≤ 16) (long : length
     pub unsound-tables : soundTimestamp n epsilon (trimmed epsilon t) ≡ false → false ≡ soundTables n epsilon modulus v (trimmed epsilon t)
     unsound-tables e = rw (tables-are, e)
 
-    pub tables-past : soundTimestamp n epsilon (trimmed epsilon t) ≡ true → modulus ≤ t .r → false ≡ soundTables n epsilon modulus v (trimmed epsilon t)
-    tables-past e h = rw (tables-are, e, le-ltb (t .r) modulus h)
-
-    pub tables-still : soundTimestamp n epsilon (trimmed epsilon t) ≡ true → t .r < modulus → clockStep modulus (t .r) v < 1
+    pub tables-away : soundTimestamp n epsilon (trimmed epsilon t) ≡ true → soundClock epsilon modulus v (t .r) ≡ false
         → false ≡ soundTables n epsilon modulus v (trimmed epsilon t)
-    unfolding within
-    tables-still e h k = rw (tables-are, e, lt-ltb (t .r) modulus h, lt-leb 1 (clockStep modulus (t .r) v) k)
+    tables-away e h = sym (tables-are ∙ (ap (λ (b : Bool). b && (soundClock epsilon modulus v (t .r) && above)) e ∙ ap (λ (b : Bool). b && above) h))
 
-    pub tables-far : soundTimestamp n epsilon (trimmed epsilon t) ≡ true → t .r < modulus → epsilon < clockStep modulus (t .r) v
-        → false ≡ soundTables n epsilon modulus v (trimmed epsilon t)
-    unfolding within
-    tables-far e h k =
-        rw (tables-are, e, lt-ltb (t .r) modulus h, lt-leb (clockStep modulus (t .r) v) epsilon k, and-false (leb 1 (clockStep modulus (t .r) v)))
-
-    pub tables-above : soundTimestamp n epsilon (trimmed epsilon t) ≡ true → t .r < modulus → 1 ≤ clockStep modulus (t .r) v → clockStep modulus (t .r) v ≤ epsilon
+    pub tables-above : soundTimestamp n epsilon (trimmed epsilon t) ≡ true → soundClock epsilon modulus v (t .r) ≡ true
         → atMost (n - 1) (slice (epsilon + 1) (2 * epsilon) (t .kn)) ≡ soundTables n epsilon modulus v (trimmed epsilon t)
-    unfolding within
-    tables-above e h k l =
-        rw (tables-are, e, lt-ltb (t .r) modulus h, le-leb 1 (clockStep modulus (t .r) v) k, le-leb (clockStep modulus (t .r) v) epsilon l)
+    tables-above e h = sym (tables-are ∙ (ap (λ (b : Bool). b && (soundClock epsilon modulus v (t .r) && above)) e ∙ ap (λ (b : Bool). b && above) h))
+
+-- a clock r, before the clock v
+module _ (epsilon modulus v r : ℕ) where
+  pub clock-past : modulus ≤ r → false ≡ soundClock epsilon modulus v r
+  clock-past h = rw (le-ltb r modulus h)
+
+  pub clock-still : r < modulus → clockStep modulus r v < 1 → false ≡ soundClock epsilon modulus v r
+  unfolding within
+  clock-still h k = rw (lt-ltb r modulus h, lt-leb 1 (clockStep modulus r v) k)
+
+  pub clock-steps : r < modulus → 1 ≤ clockStep modulus r v → leb (clockStep modulus r v) epsilon ≡ soundClock epsilon modulus v r
+  unfolding within
+  clock-steps h k = rw (lt-ltb r modulus h, le-leb 1 (clockStep modulus r v) k)

@@ -8,6 +8,7 @@ pub use ordering::Reason;
 pub use ordering::compare;
 pub use ordering::compare_ranked;
 pub use stamp::Timestamp;
+pub use stamp::clock_sound;
 pub use stamp::clock_step;
 pub use stamp::counts_at_most;
 pub use stamp::counts_of;

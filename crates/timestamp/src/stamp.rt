@@ -104,18 +104,10 @@ impl Timestamp {
         ensures { λ b. ⌜ b ≡ soundTables n epsilon modulus v (trimmed epsilon (stampOf self)) ⌝ }
     {
         let kn = self.kn;
-        let r = self.r;
         if !self.is_sound(n, epsilon) {
             return false;
         }
-        if modulus <= r {
-            return false;
-        }
-        let k = clock_step(modulus, r, v);
-        if k < 1 {
-            return false;
-        }
-        if epsilon < k {
+        if !clock_sound(epsilon, modulus, v, self.r) {
             return false;
         }
         counts_at_most(&kn, epsilon + 1, 2 * epsilon, n - 1)
@@ -280,6 +272,22 @@ pub fn clock_step(modulus: usize, r: usize, v: usize) -> usize
     ensures { λ k. ⌜ k ≡ model.clockStep modulus r v ⌝ }
 {
     ahead(modulus, r, v)
+}
+
+// 01: "r is below B and one before v modulo B". 02, 2.2: r lies 1 to ε before v. 02, 2.6: an observer's last clock is judged
+// "like the r of tables".
+pub fn clock_sound(epsilon: usize, modulus: usize, v: usize, r: usize) -> bool
+    requires { ⌜ (modulus ≤ 65535) × (v < modulus) ⌝ }
+    ensures { λ b. ⌜ b ≡ model.soundClock epsilon modulus v r ⌝ }
+{
+    if modulus <= r {
+        return false;
+    }
+    let k = clock_step(modulus, r, v);
+    if k < 1 {
+        return false;
+    }
+    k <= epsilon
 }
 
 // 01: "If u ≤ ε − 1, r is u ahead. Otherwise it is B − u behind." v itself reads B.

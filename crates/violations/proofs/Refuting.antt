@@ -20,12 +20,14 @@ use Rattle.model.specs.Setup.{Setup}
 use Rattle.model.specs.Timestamp.{Timestamp}
 use Rattle.model.specs.Published.{Condition, deliverable, deliverableBy}
 use Rattle.model.specs.Tick.{Input, tick}
-use Rattle.model.specs.Run.{Node, Source, sentBy, stale, Call, Done, isAccepted, runFrom, atStart}
+use Rattle.model.specs.Observer.{Listening, listen}
+use Rattle.model.specs.Run.{Node, Source, sentBy, stale, Call, Done, isAccepted, isEvent, runFrom, atStart}
 use Rattle.theory.specs.Premises.{goodStart, largestClock, keeps, sameTimestamp, allFresh, noneStale, stepsOfOne}
-use Rattle.theory.specs.Demand2.{AnyState, Demand2Any, Published, Outcome, outcomeOf, publish, publishAll, publishedStart, SameAs, Matched, Demand2Fresh, Demand2Ones}
-use Rattle.theory.specs.Demand3.{covered, isFrom, Leads, later, takes, on, Promised, Demand3}
+use Rattle.theory.specs.Demand2.{AnyState, Demand2Any, AnyObserver, Demand2Observer, Published, Outcome, outcomeOf, publish, publishAll, publishedStart, SameAs, Matched, Demand2Fresh, Demand2Ones}
+use Rattle.theory.specs.Demand3.{coveredFrom, covered, isFrom, Leads, later, takes, on, Promised, Demand3, Demand3Fresh}
 use Rattle.violations.specs.Tests.{everyFrom, anyFrom, implies, sameFrames, sendsRight, sendingTest, verdictRight, entryRight, hearingTest, deliversRight, deliveringTest, laterThan, takesFrom, stepTo, causesRight, causalityTest}
 use Rattle.violations.specs.Tests.{verdictTest, takenTest, deliveredTest, deliveryTest, sentTest, outgoingTest, repairTest, everyStep, boundedTest, boundedQueueTest}
+use Rattle.violations.specs.Tests.{observedTest, observerTakenTest, observerDeliveredTest, observerDeliveryTest, observerRepairTest, lastTest, lastBoundedTest, observerQueueTest}
 use Rattle.violations.specs.Tests.{FreshTest, sameTables, sameRepair, sameTaken, sameVerdicts, sameHoldback, sameOutgoing, sameSent, sameDelivery, sameDelivered, matchedBy, freshTest}
 
 implies-intro : (a b : Bool) → (a ≡ true → b ≡ true) → implies a b ≡ true
@@ -108,51 +110,51 @@ step-leads past i j b is h =
     ]
 
 -- Demand 3: the promises make their tests true
-module _ (s : Setup) (x : ℕ) (past : List Done) (p : Promised s x past) where
-  pub sending-true : sendingTest s x past ≡ true
+module _ (s : Setup) (from : ℕ) (past : List Done) (p : Promised s from past) where
+  pub sending-true : sendingTest s from past ≡ true
   unfolding sendingTest
   sending-true =
-      every-of-mem (sendsRight s x) past (λ d m.
+      every-of-mem (sendsRight s from) past (λ d m.
       let at = mem-getElem? m in
-      implies-intro (covered s x d) _ (λ c.
+      implies-intro (covered from d) _ (λ c.
       let right = p .sending (at .0) d (at .1) c in
       and-intro (same (right .0)) (and-intro (same (right .1)) (sameList-eq (right .2)))))
 
   entry-true :
       (j : ℕ) (d : Done) → getElem? past j ≡ some d → isAccepted (d .output) ≡ true → (e : ℕ) (o : Source) → getElem? (d .call .sources) e ≡ some o
-      → entryRight s x past j d e o ≡ true
+      → entryRight s from past j d e o ≡ true
   entry-true j d at a e (sentBy k) is = go (getElem? past k) refl
     where
-      go : (m : Option Done) → getElem? past k ≡ m → verdictRight s x past j d e k m ≡ true
-      go none from = refl
-      go (some m) from = implies-intro (covered s x m) _ (λ c. same (p .hearing j d at a e k m is from c))
+      go : (m : Option Done) → getElem? past k ≡ m → verdictRight s from past j d e k m ≡ true
+      go none is-k = refl
+      go (some m) is-k = implies-intro (covered from m) _ (λ c. same (p .hearing j d at a e k m is is-k c))
   entry-true j d at a e stale is = refl
 
-  pub hearing-true : hearingTest s x past ≡ true
+  pub hearing-true : hearingTest s from past ≡ true
   unfolding hearingTest
   hearing-true =
       every-at _ past (λ j d at.
-      implies-intro (isAccepted (d .output)) _ (λ a. every-at (entryRight s x past j d) (d .call .sources) (entry-true j d at a)))
+      implies-intro (isAccepted (d .output)) _ (λ a. every-at (entryRight s from past j d) (d .call .sources) (entry-true j d at a)))
 
-  pub delivering-true : deliveringTest s x past ≡ true
+  pub delivering-true : deliveringTest s from past ≡ true
   unfolding deliveringTest
   delivering-true =
-      every-at (deliversRight s x past) past (λ j d at.
+      every-at (deliversRight s from past) past (λ j d at.
       implies-intro (isAccepted (d .output)) _ (λ a. sameFrames-eq (p .delivering j d at a)))
 
   -- a call and the positions that it leads to so far
   causes-true :
-      (i : ℕ) (a : Done) → getElem? past i ≡ some a → covered s x a ≡ true
+      (i : ℕ) (a : Done) → getElem? past i ≡ some a → covered from a ≡ true
       → (led : List ℕ) → ((k : ℕ) → List·Memᴰ k led → (k ≡ i) ⊎ Leads past i k)
       → (j : ℕ) (bs : List Done) → ((l : ℕ) (b : Done) → getElem? bs l ≡ some b → getElem? past (j + l) ≡ some b)
-      → causesRight s x past a led j bs ≡ true
+      → causesRight s from past a led j bs ≡ true
   unfolding causesRight
   causes-true i a at c led leads j [] h = refl
   causes-true i a at c led leads j (b ∷ bs) h =
       elim (true-or-false (any (stepTo past j b) led)) [
         | inl e ↦
             let led-here = lead e in
-            cond-true _ _ e ∙ and-intro (implies-intro (covered s x b) _ (λ c′. p .causality i j a b led-here at here c c′))
+            cond-true _ _ e ∙ and-intro (implies-intro (covered from b) _ (λ c′. p .causality i j a b led-here at here c c′))
             (causes-true i a at c (j ∷ led) (λ k m. elim (List·Memᴰ·cases-cons m) [
               | inl q ↦ inr (subst (Leads past i) (sym q) led-here)
               | inr q ↦ leads k q
@@ -176,24 +178,31 @@ module _ (s : Setup) (x : ℕ) (past : List Done) (p : Promised s x past) where
                 | inr q ↦ on q (step-leads past k j b here t)
               ]
 
-  pub causality-true : causalityTest s x past ≡ true
+  pub causality-true : causalityTest s from past ≡ true
   unfolding causalityTest
   causality-true =
       every-at _ past (λ i a at.
-      implies-intro (covered s x a) _ (λ c.
+      implies-intro (covered from a) _ (λ c.
       causes-true i a at c (i ∷ []) (λ k m. elim (List·Memᴰ·cases-cons m) [
         | inl q ↦ inl q
         | inr q ↦ absurd (List·Memᴰ·not-nil q)
       ]) 0 past (λ l b q. ap (getElem? past) (zero-add l) ∙ q)))
 
 -- a test of the list that the promises make true and that is false refutes demand 3
-pub refute-promised :
-    (test : Setup → ℕ → List Done → Bool) → ((s : Setup) (x : ℕ) (past : List Done) → Promised s x past → test s x past ≡ true)
-    → (s : Setup) (nodes : List Node) (calls : List Call) → goodStart s nodes ≡ true
-    → keeps s (largestClock nodes) (atStart nodes) calls ≡ true
-    → test s (largestClock nodes) (runFrom (atStart nodes) calls .past) ≡ false → Demand3 → ⊥
-refute-promised test right s nodes calls good kept wrong demand =
-    clash (right s (largestClock nodes) (runFrom (atStart nodes) calls .past) (demand s nodes calls good kept)) wrong
+module _ (test : Setup → ℕ → List Done → Bool) (right : (s : Setup) (from : ℕ) (past : List Done) → Promised s from past → test s from past ≡ true)
+    (s : Setup) (nodes : List Node) (calls : List Call) where
+  pub refute-promised :
+      goodStart s nodes ≡ true → keeps s (largestClock nodes) (atStart nodes) calls ≡ true
+      → test s (coveredFrom s (largestClock nodes)) (runFrom (atStart nodes) calls .past) ≡ false → Demand3 → ⊥
+  refute-promised good kept wrong demand =
+      clash (right s (coveredFrom s (largestClock nodes)) (runFrom (atStart nodes) calls .past) (demand s nodes calls good kept)) wrong
+
+  -- or what it says from a fresh start
+  pub refute-start :
+      goodStart s nodes ≡ true → allFresh s nodes ≡ true → keeps s (largestClock nodes) (atStart nodes) calls ≡ true
+      → noneStale (runFrom (atStart nodes) calls .past) ≡ true → test s 0 (runFrom (atStart nodes) calls .past) ≡ false → Demand3Fresh → ⊥
+  refute-start good fresh kept sent wrong demand =
+      clash (right s 0 (runFrom (atStart nodes) calls .past) (demand s nodes calls good fresh kept sent)) wrong
 
 -- what holds of every step is true of all of them
 every-step : (p : ℕ → Bool) (epsilon : ℕ) → ((k : ℕ) → 1 ≤ k → k ≤ epsilon → p k ≡ true) → everyStep p epsilon ≡ true
@@ -241,6 +250,45 @@ pub refute-any :
     (test : Input → Bool) → ((i : Input) → AnyState i → test i ≡ true) → (i : Input) → tick i .answer .number ≡ 0
     → test i ≡ false → Demand2Any → ⊥
 refute-any test right i accepted wrong demand = clash (right i (demand i accepted)) wrong
+
+-- of an observer's call
+module _ (i : Listening) (p : AnyObserver i) where
+  pub observed-true : observedTest i ≡ true
+  unfolding observedTest
+  observed-true = every-at _ _ (λ k entry e. same (p .verdict k entry e))
+
+  pub observer-taken-true : observerTakenTest i ≡ true
+  unfolding observerTakenTest
+  observer-taken-true = same (p .taken)
+
+  pub observer-delivered-true : observerDeliveredTest i ≡ true
+  unfolding observerDeliveredTest
+  observer-delivered-true = same (p .delivered)
+
+  pub observer-delivery-true : observerDeliveryTest i ≡ true
+  unfolding observerDeliveryTest
+  observer-delivery-true = sameFrames-eq (p .delivery)
+
+  pub observer-repair-true : observerRepairTest i ≡ true
+  unfolding observerRepairTest
+  observer-repair-true = same (p .repair)
+
+  pub last-true : lastTest i ≡ true
+  unfolding lastTest
+  last-true = same (p .last)
+
+  pub last-bounded-true : lastBoundedTest i ≡ true
+  unfolding lastBoundedTest
+  last-bounded-true = every-step _ (i .setup .epsilon) (p .bounded)
+
+  pub observer-queue-true : observerQueueTest i ≡ true
+  unfolding observerQueueTest
+  observer-queue-true = every-step _ (i .setup .epsilon) (p .boundedQueue)
+
+pub refute-observer :
+    (test : Listening → Bool) → ((i : Listening) → AnyObserver i → test i ≡ true) → (i : Listening) → listen i .number ≡ 0
+    → test i ≡ false → Demand2Observer → ⊥
+refute-observer test right i accepted wrong demand = clash (right i (demand i accepted)) wrong
 
 -- Demand 2 from fresh stations: the promises make their tests true
 sameTimestamp-eq : {t u : Timestamp} → t ≡ u → sameTimestamp t u ≡ true
@@ -293,12 +341,12 @@ module _ (test : FreshTest) (right : (s : Setup) (o : Outcome) (d : Done) → Sa
 
   fresh-true :
       (delcond : Condition) (w : Published) (past : List Done)
-      → ((j : ℕ) (d : Done) → getElem? past j ≡ some d → isAccepted (d .output) ≡ true → Matched delcond s (publishAll delcond s w (take j past)) d)
+      → ((j : ℕ) (d : Done) → getElem? past j ≡ some d → isEvent d ≡ true → Matched delcond s (publishAll delcond s w (take j past)) d)
       → freshTest test delcond s w past ≡ true
   unfolding freshTest publishAll
   fresh-true delcond w [] h = refl
   fresh-true delcond w (d ∷ ds) h =
-      and-intro (implies-intro (isAccepted (d .output)) _ (λ a. matched-true delcond w d (h 0 d refl a)))
+      and-intro (implies-intro (isEvent d) _ (λ a. matched-true delcond w d (h 0 d refl a)))
       (fresh-true delcond (publish delcond s w d) ds (λ j d′ at a. h (suc j) d′ at a))
 
   pub refute-fresh :

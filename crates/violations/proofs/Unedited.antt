@@ -10,11 +10,14 @@ use Rattle.model.specs.Setup.{Setup}
 use Rattle.model.specs.Codec.{read, write}
 use Rattle.model.specs.Published.{Condition, deliverable, deliverableBy}
 use Rattle.model.specs.Tick.{tick}
+use Rattle.model.specs.Observer.{listen}
 use Rattle.model.specs.Run.{Node, Call, Done, atStart}
 use Rattle.theory.specs.Premises.{goodStart, largestClock, keeps, allFresh, noneStale, stepsOfOne}
 use Rattle.theory.specs.Demand2.{publishedStart}
-use Rattle.violations.specs.Tests.{sendingTest, hearingTest, deliveringTest, causalityTest, anyStateTest, sameAll, freshTest}
+use Rattle.theory.specs.Demand3.{coveredFrom}
+use Rattle.violations.specs.Tests.{sendingTest, hearingTest, deliveringTest, causalityTest, anyStateTest, anyObserverTest, sameAll, freshTest}
 use Rattle.violations.specs.Stories.{group, Scene, freshTables, freshNodes, callsOf, pastOf, causeAndEffect, heardTooLate, driftedApart, hauntedAt10, hauntedAt8, staleHeard, holdingNodes, wideGroup, wideNodes, wideCalls, widePast, steppedTooFar, notStepped, inputsFrom, inputsOf, unsoundTables, unsoundQueue}
+use Rattle.violations.specs.Stories.{watchedNodes, watchedCalls, watchedPast, allAhead, leftBehind, forestalled, holdingWatched, wideWatched, watchedSteps, watchedStepped, listeningsFrom, unsoundShelf}
 use Rattle.violations.proofs.Telling.{telling}
 
 -- the premises of demand 3
@@ -25,8 +28,11 @@ abbrev kept : List Scene → Bool
 kept scenes = keptBy group freshNodes (callsOf scenes)
 
 -- its promises
+abbrev promisedFrom : Setup → ℕ → List Done → Bool
+promisedFrom s from past = sendingTest s from past && (hearingTest s from past && (deliveringTest s from past && causalityTest s from past))
+
 abbrev promised : Setup → ℕ → List Done → Bool
-promised s x past = sendingTest s x past && (hearingTest s x past && (deliveringTest s x past && causalityTest s x past))
+promised s x past = promisedFrom s (coveredFrom s x) past
 
 pub story-kept : kept causeAndEffect ≡ true
 unfolding telling
@@ -117,3 +123,56 @@ read-back = refl
 pub written-length : write group 0 1 (freshTables 6) (9 ∷ []) (replicate 11 0) .size ≡ 10
 unfolding telling
 written-length = refl
+
+-- 02, 2.6: two stations and an observer: what demand 3 says holds of covered messages, and of all of them from a fresh start
+abbrev keptWatched : List Scene → Bool
+keptWatched scenes = keptBy group watchedNodes (watchedCalls scenes)
+
+pub watched-kept : keptWatched allAhead ≡ true
+unfolding telling
+watched-kept = refl
+
+pub watched-fresh : (allFresh group watchedNodes && noneStale (watchedPast allAhead)) ≡ true
+unfolding telling
+watched-fresh = refl
+
+pub watched-promised :
+    (promised group (largestClock watchedNodes) (watchedPast allAhead) && promisedFrom group 0 (watchedPast allAhead)) ≡ true
+unfolding telling
+watched-promised = refl
+
+pub watched-matched : freshTest sameAll deliverableBy group (publishedStart group watchedNodes) (watchedPast allAhead) ≡ true
+unfolding telling
+watched-matched = refl
+
+pub watched-figures :
+    (every anyObserverTest (listeningsFrom (atStart watchedNodes) (watchedCalls allAhead)) && every anyStateTest (inputsFrom (atStart watchedNodes) (watchedCalls allAhead)))
+    ≡ true
+unfolding telling
+watched-figures = refl
+
+-- with steps of 2
+pub watched-stepped :
+    (keptBy wideGroup wideWatched watchedSteps ∷ allFresh wideGroup wideWatched ∷ promised wideGroup (largestClock wideWatched) watchedStepped
+    ∷ promisedFrom wideGroup 0 watchedStepped ∷ every anyObserverTest (listeningsFrom (atStart wideWatched) watchedSteps) ∷ [])
+    ≡ replicate 5 true
+unfolding telling
+watched-stepped = refl
+
+-- an observer's damage is mended
+pub watched-mended : (listen unsoundShelf .repair ∷ listen (record { setup = group; clock = 7; last = 8; holdback = unsoundShelf .holdback; batch = 0 ∷ []; verdicts = replicate 255 0; delivery = unsoundShelf .delivery }) .repair ∷ []) ≡ 2 ∷ 3 ∷ []
+unfolding telling
+watched-mended = refl
+
+pub watched-mended-figures : anyObserverTest unsoundShelf ≡ true
+unfolding telling
+watched-mended-figures = refl
+
+-- the premises rule the others out
+pub watched-not-kept : map keptWatched (leftBehind ∷ forestalled ∷ []) ≡ replicate 2 false
+unfolding telling
+watched-not-kept = refl
+
+pub watched-not-fresh : (goodStart group holdingWatched ∷ allFresh group holdingWatched ∷ []) ≡ true ∷ false ∷ []
+unfolding telling
+watched-not-fresh = refl

@@ -1,7 +1,7 @@
 -- Stories: short lists of calls, told so that they are the same under any definition of the tick. A scene names its node and what it sends and
 -- hears, and by how many ticks its clock moves; a message is heard by the bytes that its call sent.
 use Prim.Native.Nat.{ℕ, _+_, _-_, _%_}
-use mathlib.Core.Bool.{Bool, true, false}
+use mathlib.Core.Bool.{Bool, true, false, cond}
 use mathlib.Core.List.{List, [], _∷_, _++_, map}
 use mathlib.Core.Option.{Option, none, some}
 use lib.ListN.{length, replicate, getD, getElem?}
@@ -10,7 +10,8 @@ use Rattle.model.specs.Setup.{Setup}
 use Rattle.model.specs.Timestamp.{Timestamp}
 use Rattle.model.specs.Frame.{encode}
 use Rattle.model.specs.Tick.{Input, holdbackSize}
-use Rattle.model.specs.Run.{Node, Source, sentBy, stale, Call, Done, World, inputOf, act, atStart, runFrom, messageBytes}
+use Rattle.model.specs.Observer.{Listening}
+use Rattle.model.specs.Run.{Node, Source, sentBy, stale, Call, Done, World, inputOf, listeningOf, act, atStart, runFrom, messageBytes}
 use Rattle.theory.specs.Premises.{clockAt}
 
 -- n 2, ε 1, δ 1 and the least B
@@ -109,6 +110,7 @@ wideTables clock = record { r = clock; c = 0; kn = 0 ∷ 0 ∷ 1 ∷ 0 ∷ repli
 abbrev pub nodeWith : Setup → (ℕ → Timestamp) → ℕ → ℕ → Node
 nodeWith s tables own clock =
     record {
+      listens = false;
       own = own;
       clock = clock;
       tables = tables clock;
@@ -173,6 +175,7 @@ heldFrame = bytesOf 1 4 0 (0 ∷ 1 ∷ []) (9 ∷ [])
 abbrev pub holdingNodes : List Node
 holdingNodes =
     record {
+      listens = false;
       own = 0;
       clock = 5;
       tables = record { r = 5; c = 0; kn = 0 ∷ 1 ∷ replicate 30 0 };
@@ -210,10 +213,86 @@ steppedTooFar = nudged 2 0 ∷ []
 abbrev pub notStepped : List Scene
 notStepped = nudged 0 0 ∷ []
 
--- the inputs of the calls of a list
+-- 02, 2.6: an observer with its last clock right, and nonsense for counts
+abbrev pub observerWith : Setup → ℕ → List ℕ → Node
+observerWith s clock frames =
+    record {
+      listens = true;
+      own = 0;
+      clock = clock;
+      tables = record { r = clock; c = 9; kn = replicate 32 77 };
+      holdback = frames ++ replicate (holdbackSize s - length frames) 170;
+    }
+
+-- two stations and an observer behind them, node 2: X is 6 again
+abbrev pub watchedNodes : List Node
+watchedNodes = freshNode 0 6 ∷ freshNode 1 6 ∷ observerWith group 5 (0 ∷ 0 ∷ []) ∷ []
+
+abbrev pub watchedCalls : List Scene → List Call
+watchedCalls scenes = callsFrom group (atStart watchedNodes) scenes
+
+abbrev pub watchedPast : List Scene → List Done
+watchedPast scenes = runFrom (atStart watchedNodes) (watchedCalls scenes) .past
+
+-- all three come to clock 9
+abbrev pub watchedUntil9 : List Scene
+watchedUntil9 = quiet 2 ∷ quiet 0 ∷ quiet 1 ∷ quiet 2 ∷ quiet 0 ∷ quiet 1 ∷ quiet 2 ∷ quiet 0 ∷ quiet 1 ∷ quiet 2 ∷ []
+
+-- node 0 sends at 10, and node 1 at 10 because of it, with two events at 10: the observer hears that in its call for 10, and delivers both at 12
+abbrev pub allAhead : List Scene
+allAhead =
+    watchedUntil9
+    ++ (sending 0 65 [] ∷ sending 1 66 (message 10 ∷ []) ∷ hearing 2 (message 11 ∷ message 10 ∷ message 11 ∷ [])
+    ∷ hearing 0 (message 11 ∷ []) ∷ quiet 1 ∷ quiet 2 ∷ quiet 0 ∷ quiet 1 ∷ quiet 2 ∷ [])
+
+-- node 0 sends at 11, two clocks ahead of the observer, which hears it at 10
+abbrev pub leftBehind : List Scene
+leftBehind = watchedUntil9 ++ (quiet 0 ∷ quiet 1 ∷ sending 0 66 [] ∷ hearing 2 (message 12 ∷ []) ∷ [])
+
+-- at 10 the observer hears an older frame of node 0 for clock 10, and then the message of that clock
+abbrev pub forestalled : List Scene
+forestalled =
+    watchedUntil9
+    ++ (hearing 2 (staleFrame (bytesOf 0 2 0 (0 ∷ 1 ∷ []) (9 ∷ [])) ∷ []) ∷ sending 0 65 [] ∷ quiet 1 ∷ hearing 2 (message 11 ∷ []) ∷ [])
+
+-- the observer starts with a frame on its shelf
+abbrev pub holdingWatched : List Node
+holdingWatched = freshNode 0 6 ∷ freshNode 1 6 ∷ observerWith group 5 (1 ∷ 0 ∷ heldFrame) ∷ []
+
+-- with ε 2: T is 13. Node 0 sends at 14; that is due at 17, and the observer goes from 16 to 18
+abbrev pub wideWatched : List Node
+wideWatched = nodeWith wideGroup wideTables 0 6 ∷ nodeWith wideGroup wideTables 1 6 ∷ observerWith wideGroup 5 (0 ∷ 0 ∷ []) ∷ []
+
+abbrev pub watchedSteps : List Call
+watchedSteps =
+    callsFrom wideGroup (atStart wideWatched)
+    (nudged 2 2 ∷ nudged 2 0 ∷ nudged 2 1 ∷ nudged 2 2 ∷ nudged 2 0 ∷ nudged 2 1 ∷ nudged 2 2 ∷ nudged 2 0 ∷ nudged 2 1 ∷ nudged 2 2
+    ∷ record { node = 0; step = 2; send = true; payload = 66 ∷ []; hears = [] } ∷ nudged 2 1 ∷ hearing 2 (message 10 ∷ [])
+    ∷ nudged 2 0 ∷ nudged 2 1 ∷ nudged 2 2 ∷ nudged 2 2 ∷ [])
+
+abbrev pub watchedStepped : List Done
+watchedStepped = runFrom (atStart wideWatched) watchedSteps .past
+
+-- the observers' calls of a list
+abbrev pub listeningTo : Option Node → Call → List Listening
+listeningTo none call = []
+listeningTo (some node) call = cond (node .listens) (listeningOf node call ∷ []) []
+
+unfoldable pub listeningsFrom : World → List Call → List Listening
+listeningsFrom w [] = []
+listeningsFrom w (call ∷ calls) = listeningTo (getElem? (w .nodes) (call .node)) call ++ listeningsFrom (act w call) calls
+
+-- a call for clock 7 of an observer whose shelf has a frame twice
+abbrev pub unsoundShelf : Listening
+unsoundShelf = listeningOf (observerWith group 6 (2 ∷ 0 ∷ (heldTwice ++ heldTwice))) (calling group 0 1 7 false [] [] [])
+  where
+    heldTwice : List ℕ
+    heldTwice = bytesOf 1 6 0 (0 ∷ 1 ∷ []) (9 ∷ [])
+
+-- the inputs of the stations' calls of a list
 abbrev pub inputTo : Option Node → Call → List Input
 inputTo none call = []
-inputTo (some node) call = inputOf node call ∷ []
+inputTo (some node) call = cond (node .listens) [] (inputOf node call ∷ [])
 
 unfoldable pub inputsFrom : World → List Call → List Input
 inputsFrom w [] = []
@@ -226,7 +305,7 @@ inputsOf scenes = inputsFrom (atStart freshNodes) (callsOf scenes)
 -- a quiet call for clock 7 of a node with these tables and this shelf
 abbrev pub damagedInput : Timestamp → List ℕ → Input
 damagedInput tables holdback =
-    inputOf (record { own = 0; clock = 6; tables = tables; holdback = holdback }) (calling group 0 1 7 false [] [] [])
+    inputOf (record { listens = false; own = 0; clock = 6; tables = tables; holdback = holdback }) (calling group 0 1 7 false [] [] [])
 
 -- tables of nonsense
 abbrev pub unsoundTables : Input

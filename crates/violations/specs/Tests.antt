@@ -8,17 +8,18 @@ use lib.Dec.{ltb, eqb}
 use lib.ListN.{length, take, getD, getElem?}
 use Rattle.laws.specs.Lists.{tab, every, any, select, sortBy, overlay, sameList}
 use Rattle.model.specs.Setup.{Setup}
-use Rattle.model.specs.Timestamp.{trimmed, widened, soundTables}
+use Rattle.model.specs.Timestamp.{trimmed, widened, soundClock, soundTables}
 use Rattle.model.specs.Frame.{encode}
 use Rattle.model.specs.Batch.{batchEntries}
 use Rattle.model.specs.Holdback.{heldBytes, soundHoldback, encodeFrames, encodeHoldback}
 use Rattle.model.specs.Question.{firstNo}
-use Rattle.model.specs.Judge.{judgeQuestions}
+use Rattle.model.specs.Judge.{judgeQuestions, observerQuestions}
 use Rattle.model.specs.Published.{Process, Condition, inOrder}
 use Rattle.model.specs.Tick.{Input, holdbackSize, leastDue, sentBytes, deliveredOf, takenCount, tick}
-use Rattle.model.specs.Run.{Source, sentBy, stale, Done, isAccepted, messageBytes}
+use Rattle.model.specs.Observer.{Listening, observerLeast, observerDelivered, listen}
+use Rattle.model.specs.Run.{Source, sentBy, stale, Done, isAccepted, isEvent, messageBytes}
 use Rattle.theory.specs.Premises.{sameTimestamp}
-use Rattle.theory.specs.Demand2.{Published, Outcome, outcomeOf, publish, heardBefore, reduced, reducedFrame}
+use Rattle.theory.specs.Demand2.{Published, Outcome, outcomeOf, publish, heardBefore, observedBefore, reduced, reducedFrame}
 use Rattle.theory.specs.Demand3.{covered, isFrom, heardIn, earlier, dueHere, coveredFrame, written}
 
 module _ {A : Type 0} where
@@ -45,40 +46,40 @@ sameFrames (x ∷ xs) (y ∷ ys) = sameList x y && sameFrames xs ys
 
 -- Demand 3, `sending`: of one call
 abbrev pub sendsRight : Setup → ℕ → Done → Bool
-sendsRight s x d =
-    implies (covered s x d) (eqb (written s d .number) 0 && (eqb (d .output .answer .sent) (written s d .size)
+sendsRight s from d =
+    implies (covered from d) (eqb (written s d .number) 0 && (eqb (d .output .answer .sent) (written s d .size)
     && sameList (d .output .outgoing) (written s d .buffer)))
 
 -- of the list
 unfoldable pub sendingTest : Setup → ℕ → List Done → Bool
-sendingTest s x past = every (λ d. sendsRight s x d) past
+sendingTest s from past = every (λ d. sendsRight s from d) past
 
 -- Demand 3, `hearing`: of entry e of the call at j, which comes from the call at k
 abbrev pub verdictRight : Setup → ℕ → List Done → ℕ → Done → ℕ → ℕ → Option Done → Bool
-verdictRight s x past j d e k none = true
-verdictRight s x past j d e k (some m) =
-    implies (covered s x m) (eqb (getD (d .output .verdicts) e 0)
+verdictRight s from past j d e k none = true
+verdictRight s from past j d e k (some m) =
+    implies (covered from m) (eqb (getD (d .output .verdicts) e 0)
     (cond (any (heardIn (d .node) k) (take j past) || any (isFrom k) (take e (d .call .sources))) 16 0))
 
 -- by the entry's source
 abbrev pub entryRight : Setup → ℕ → List Done → ℕ → Done → ℕ → Source → Bool
-entryRight s x past j d e (sentBy k) = verdictRight s x past j d e k (getElem? past k)
-entryRight s x past j d e stale = true
+entryRight s from past j d e (sentBy k) = verdictRight s from past j d e k (getElem? past k)
+entryRight s from past j d e stale = true
 
 -- of the list
 unfoldable pub hearingTest : Setup → ℕ → List Done → Bool
-hearingTest s x past =
-    everyFrom (λ j d. implies (isAccepted (d .output)) (everyFrom (entryRight s x past j d) 0 (d .call .sources))) 0 past
+hearingTest s from past =
+    everyFrom (λ j d. implies (isAccepted (d .output)) (everyFrom (entryRight s from past j d) 0 (d .call .sources))) 0 past
 
 -- Demand 3, `delivering`: of the call at j
 abbrev pub deliversRight : Setup → ℕ → List Done → ℕ → Done → Bool
-deliversRight s x past j d =
-    implies (isAccepted (d .output)) (sameFrames (select (coveredFrame s x (d .clock)) (heldBytes (s .epsilon) (d .output .delivery)))
-    (map messageBytes (sortBy (earlier s) (dueHere s x (take (j + 1) past) (d .node) (d .last) (d .clock)))))
+deliversRight s from past j d =
+    implies (isAccepted (d .output)) (sameFrames (select (coveredFrame s from (d .clock)) (heldBytes (s .epsilon) (d .output .delivery)))
+    (map messageBytes (sortBy (earlier s) (dueHere s from (take (j + 1) past) (d .node) (d .last) (d .clock)))))
 
 -- of the list
 unfoldable pub deliveringTest : Setup → ℕ → List Done → Bool
-deliveringTest s x past = everyFrom (deliversRight s x past) 0 past
+deliveringTest s from past = everyFrom (deliversRight s from past) 0 past
 
 -- Demand 3, `Leads`, one step: the call at j is a later one of the station of the call at i
 abbrev pub laterThan : ℕ → Done → ℕ → Option Done → Bool
@@ -96,15 +97,15 @@ stepTo past j b i = laterThan j b i (getElem? past i) || takesFrom b i
 -- Demand 3, `causality`: of the call a and every call from j on that it leads to, through the positions led to so far. One walk along the
 -- list finds them all, since a step leads on in the list
 unfoldable pub causesRight : Setup → ℕ → List Done → Done → List ℕ → ℕ → List Done → Bool
-causesRight s x past a led j [] = true
-causesRight s x past a led j (b ∷ bs) =
+causesRight s from past a led j [] = true
+causesRight s from past a led j (b ∷ bs) =
     cond (any (stepTo past j b) led)
-    (implies (covered s x b) (earlier s a b) && causesRight s x past a (j ∷ led) (suc j) bs)
-    (causesRight s x past a led (suc j) bs)
+    (implies (covered from b) (earlier s a b) && causesRight s from past a (j ∷ led) (suc j) bs)
+    (causesRight s from past a led (suc j) bs)
 
 -- of the list
 unfoldable pub causalityTest : Setup → ℕ → List Done → Bool
-causalityTest s x past = everyFrom (λ i a. implies (covered s x a) (causesRight s x past a (i ∷ []) 0 past)) 0 past
+causalityTest s from past = everyFrom (λ i a. implies (covered from a) (causesRight s from past a (i ∷ []) 0 past)) 0 past
 
 -- Demand 2 from any state, of an accepted call: a test for each clause
 unfoldable pub verdictTest : Input → Bool
@@ -151,6 +152,44 @@ unfoldable pub anyStateTest : Input → Bool
 anyStateTest i =
     verdictTest i && (takenTest i && (deliveredTest i && (deliveryTest i && (sentTest i && (outgoingTest i && (repairTest i
     && (boundedTest i && boundedQueueTest i)))))))
+
+-- 02, 2.6: the same of an observer's call
+unfoldable pub observedTest : Listening → Bool
+observedTest i =
+    everyFrom (λ k entry. eqb (getD (listen i .verdicts) k 0)
+    (firstNo (observerQuestions (i .setup) (i .clock) (observedBefore i k .queue) entry))) 0 (batchEntries (i .batch))
+
+unfoldable pub observerTakenTest : Listening → Bool
+observerTakenTest i = eqb (listen i .taken) (takenCount (take (length (batchEntries (i .batch))) (listen i .verdicts)))
+
+unfoldable pub observerDeliveredTest : Listening → Bool
+observerDeliveredTest i = eqb (listen i .delivered) (length (observerDelivered i))
+
+unfoldable pub observerDeliveryTest : Listening → Bool
+observerDeliveryTest i = sameFrames (heldBytes (i .setup .epsilon) (listen i .delivery)) (map encode (observerDelivered i))
+
+unfoldable pub observerRepairTest : Listening → Bool
+observerRepairTest i =
+    eqb (listen i .repair)
+    (cond (soundClock (i .setup .epsilon) (i .setup .modulus) (i .clock) (i .last)) 0 1
+    + cond (soundHoldback (i .setup) (i .clock) (observerLeast i) (i .holdback)) 0 2)
+
+unfoldable pub lastTest : Listening → Bool
+lastTest i = eqb (listen i .last) (i .clock)
+
+unfoldable pub lastBoundedTest : Listening → Bool
+lastBoundedTest i =
+    everyStep (λ k. soundClock (i .setup .epsilon) (i .setup .modulus) ((i .clock + k) % i .setup .modulus) (listen i .last)) (i .setup .epsilon)
+
+unfoldable pub observerQueueTest : Listening → Bool
+observerQueueTest i =
+    everyStep (λ k. soundHoldback (i .setup) ((i .clock + k) % i .setup .modulus) (i .setup .modulus + 1 - k) (listen i .holdback))
+    (i .setup .epsilon)
+
+unfoldable pub anyObserverTest : Listening → Bool
+anyObserverTest i =
+    observedTest i && (observerTakenTest i && (observerDeliveredTest i && (observerDeliveryTest i && (observerRepairTest i && (lastTest i
+    && (lastBoundedTest i && observerQueueTest i))))))
 
 -- Demand 2 from fresh stations, of an accepted call and its outcome in the published program
 abbrev pub FreshTest : Type 0
@@ -199,9 +238,9 @@ abbrev pub matchedBy : FreshTest → Condition → Setup → Published → Done 
 matchedBy test delcond s w d none = false
 matchedBy test delcond s w d (some p) = test s (outcomeOf delcond s (w .sent) p (d .clock) (d .call)) d
 
--- of every accepted call of a list, the published program being at w before it
+-- of every accepted call of a station in a list, the published program being at w before it
 unfoldable pub freshTest : FreshTest → Condition → Setup → Published → List Done → Bool
 freshTest test delcond s w [] = true
 freshTest test delcond s w (d ∷ ds) =
-    implies (isAccepted (d .output)) (matchedBy test delcond s w d (getElem? (w .processes) (d .node)))
+    implies (isEvent d) (matchedBy test delcond s w d (getElem? (w .processes) (d .node)))
     && freshTest test delcond s (publish delcond s w d) ds

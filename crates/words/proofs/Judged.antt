@@ -16,9 +16,11 @@ use Rattle.model.specs.Frame.{decode}
 use Rattle.model.specs.Batch.{exactBatch, batchEntries}
 use Rattle.model.specs.Question.{firstNo, askSetup}
 use Rattle.model.specs.Codec.{askPayload}
+use Rattle.model.specs.Judge.{judgeQuestions}
 use Rattle.model.specs.Tick.{Input, holdbackSize, callQuestions, opening, heardOf, tick}
 use Rattle.lemmas.proofs.Questions.{first-yes, other-yes, yes-cons}
-use Rattle.lemmas.proofs.OneTick.{Accepted, accepted-call, no-question-fails, verdicts-are, hear-length, verdict-byte}
+use Rattle.lemmas.proofs.Board.{hear-length}
+use Rattle.lemmas.proofs.OneTick.{Accepted, accepted-call, no-question-fails, verdicts-are, verdict-byte}
 use Rattle.words.specs.Words.{given, lineOf, lineAt, wordLines, textOf, longestLine, wordsQuestions, wordsBy, words}
 use Rattle.words.specs.Statements.{queueAt, numberAt, tickWords, TrueWords}
 use Rattle.words.proofs.Given.{judged-given}
@@ -66,7 +68,7 @@ module _ (i : Input) (a : Accepted i) where
       rw (verdicts-are i a)
       (omega (
         arith,
-        hear-length (i .setup) (i .clock) (opening i) entries,
+        hear-length (i .setup) (i .clock) (judgeQuestions (i .setup) (i .clock)) (opening i) entries,
         length-append (heardOf i .verdicts) (drop (length (heardOf i .verdicts)) (i .verdicts)),
       ))
 

@@ -2,7 +2,7 @@
 
 use super::{memory, Prng};
 use crate::words::LINE;
-use crate::{Answer, Buffers, Call, ClockState, Setup};
+use crate::{Answer, Buffers, Call, ClockState, Setup, Timestamp};
 
 /// How much too large a number or a length can be and look right, cut to one byte or two.
 const FAR: [i64; 2] = [256, 65_536];
@@ -60,7 +60,8 @@ impl TickCase {
         let any = rng.range(1, setup.epsilon);
         let step = rng.pick(&[0, 1, any, any, setup.epsilon, setup.epsilon + 1]);
         let state = memory::sound_state(rng, setup, v, step);
-        let least = memory::least_due(rng, setup, v, &state);
+        let tables = Timestamp::of_state(setup, &state);
+        let least = memory::least_due(rng, setup, tables.sound_step(setup, v));
         let holdback = memory::holdback(rng, setup, v, least);
         TickCase { state, holdback, ..self.clone() }
     }
@@ -76,11 +77,10 @@ impl TickCase {
         };
         let mut buffers = Buffers {
             holdback: &mut self.holdback,
-            outgoing: &mut self.outgoing,
             verdicts: &mut self.verdicts,
             delivery: &mut self.delivery,
         };
-        crate::tick(&call, &mut self.state, &mut buffers)
+        crate::tick(&call, &mut self.state, &mut self.outgoing, &mut buffers)
     }
 }
 

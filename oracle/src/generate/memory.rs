@@ -3,7 +3,7 @@
 use super::cases::random_state;
 use super::{frames, Prng};
 use crate::holdback::Entry;
-use crate::{ClockState, Frame, Setup, Timestamp};
+use crate::{ClockState, Frame, Setup};
 
 /// Any clock state for a tick at v, its step often 1 and otherwise up to ε.
 pub fn state(rng: &mut Prng, setup: &Setup, v: i64) -> ClockState {
@@ -57,10 +57,9 @@ fn damage_state(rng: &mut Prng, setup: &Setup, state: &mut ClockState) {
     }
 }
 
-/// A least due clock for a queue beside these tables, relative to v: mostly the least that is
-/// sound, otherwise one before it, or any before it that is at most ε before v.
-pub fn least_due(rng: &mut Prng, setup: &Setup, v: i64, state: &ClockState) -> i64 {
-    let step = Timestamp::of_state(setup, state).sound_step(setup, v);
+/// A least due clock for a queue at v, relative to v, after a sound step or none: mostly the least
+/// that is sound, otherwise one before it, or any before it that is at most ε before v.
+pub fn least_due(rng: &mut Prng, setup: &Setup, step: Option<i64>) -> i64 {
     let least = step.map_or(0, |step| 1 - step);
     let any = rng.range(-setup.epsilon, least - 1);
     rng.pick(&[least, least, least, least - 1, any, any])

@@ -4,6 +4,7 @@ pub mod cases;
 pub mod frames;
 pub mod group;
 pub mod memory;
+pub mod observers;
 pub mod pairs;
 pub mod polls;
 pub mod prng;
@@ -11,7 +12,8 @@ pub mod spoil;
 pub mod traces;
 
 pub use cases::{ReadCase, TickCase, WordsCase, WriteCase};
-pub use group::{Group, Habits};
+pub use group::{Group, Habits, Turn};
+pub use observers::ListenCase;
 pub use pairs::CompareCase;
 pub use polls::PollCase;
 pub use prng::Prng;

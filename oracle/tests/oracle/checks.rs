@@ -1,9 +1,9 @@
 //! Every check's number, and that refusals change nothing.
 
 use crate::common::{frame, frame_a, fresh_case, holdback, run, state, verdict, FILL, SETUP};
+use oracle::board::{judge, Owner};
 use oracle::generate::TickCase;
 use oracle::holdback::{Entry, Holdback};
-use oracle::node::judge;
 use oracle::{read, write, Answer, ClockState, Frame, Setup, Timestamp};
 
 /// A good call with everything in it.
@@ -162,13 +162,17 @@ fn check_17_a_full_queue() {
     let wide = Setup { delta: 40, ..small };
     let frames: Vec<_> = (10..13).map(|r| frame(0, r, 0, &[0, 1], &[])).collect();
     let mut queue = Holdback::empty();
+    let newcomer = frame(0, 19, 0, &[0, 1], &[]);
+    let judged = |queue: &Holdback| {
+        [Owner::Node, Owner::Observer].map(|owner| judge(&small, 20, owner, queue, &newcomer).err())
+    };
     for (place, bytes) in frames.iter().enumerate() {
-        assert_eq!(judge(&small, 20, &queue, &frame(0, 19, 0, &[0, 1], &[])).err(), None);
+        assert_eq!(judged(&queue), [None; 2]);
         let entry = Entry::near(&wide, 20, Frame::parse(&wide, bytes).unwrap());
         assert_eq!(queue.place(&wide, entry), place);
     }
     assert_eq!(queue.len(), small.capacity());
-    assert_eq!(judge(&small, 20, &queue, &frame(0, 19, 0, &[0, 1], &[])).err(), Some(17));
+    assert_eq!(judged(&queue), [Some(17); 2]);
 }
 
 #[test]

@@ -1,7 +1,7 @@
 //! What the tests share.
 
 use oracle::batch;
-use oracle::generate::{frames, TickCase};
+use oracle::generate::{frames, ListenCase, TickCase};
 use oracle::timestamp::fresh;
 use oracle::{Answer, ClockState, Setup, Timestamp};
 
@@ -49,6 +49,18 @@ pub fn run(mut case: TickCase) -> (Answer, TickCase) {
     (answer, case)
 }
 
+/// An observer's call for v with this last clock, which hears these frames.
+pub fn listening<T: AsRef<[u8]>>(setup: Setup, last: i64, v: i64, heard: &[T]) -> ListenCase {
+    let last = (last as u16).to_le_bytes();
+    ListenCase { last, ..ListenCase::of(fresh_case(setup, v, heard)) }
+}
+
+/// Runs an observer's call; its answer and what it left.
+pub fn listen(mut case: ListenCase) -> (Answer, ListenCase) {
+    let answer = case.run();
+    (answer, case)
+}
+
 /// The verdict of one frame heard at v by a node that was fresh one before.
 pub fn verdict(v: i64, frame: &[u8]) -> u8 {
     let (answer, after) = run(fresh_case(SETUP, v, &[frame]));
@@ -58,8 +70,14 @@ pub fn verdict(v: i64, frame: &[u8]) -> u8 {
 
 /// A hold-back queue of these frames with zeros after them.
 pub fn holdback<T: AsRef<[u8]>>(setup: &Setup, frames: &[T]) -> Vec<u8> {
+    let mut bytes = packed(frames);
+    bytes.resize(setup.holdback_len(), 0);
+    bytes
+}
+
+/// The frames of a hand-out as bytes.
+pub fn packed<T: AsRef<[u8]>>(frames: &[T]) -> Vec<u8> {
     let mut bytes = (frames.len() as u16).to_le_bytes().to_vec();
     frames.iter().for_each(|frame| bytes.extend(frame.as_ref()));
-    bytes.resize(setup.holdback_len(), 0);
     bytes
 }

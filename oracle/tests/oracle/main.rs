@@ -5,6 +5,7 @@ mod common;
 mod group;
 mod memory;
 mod nudges;
+mod observer;
 mod order;
 mod poll;
 mod programs;

@@ -128,7 +128,8 @@ fn a_tick_leaves_sound_memory_for_the_next() {
         let heard: Vec<_> = (0..9).map(|_| generate::frames::near(&mut rng, &setup, v)).collect();
         let mut case = fresh_case(setup, v, &heard);
         case.state = memory::state(&mut rng, &setup, v);
-        let least = memory::least_due(&mut rng, &setup, v, &case.state);
+        let step = Timestamp::of_state(&setup, &case.state).sound_step(&setup, v);
+        let least = memory::least_due(&mut rng, &setup, step);
         case.holdback = memory::holdback(&mut rng, &setup, v, least);
         let (answer, mut after) = run(case);
         assert_eq!(answer.number, 0);

@@ -1,16 +1,16 @@
 //! 02's nudged clocks: steps of 1 to ε, and what is due on the way.
 
-use crate::common::{frame, fresh_case, holdback, run, state, FILL};
+use crate::common::{frame, fresh_case, holdback, packed, run, state, FILL};
 use oracle::generate::{self, memory, Prng, TickCase};
 use oracle::holdback::Entry;
 use oracle::timestamp::fresh;
 use oracle::{read, Setup};
 
 /// Steps of up to 4; sum + 5 is the due clock.
-const WIDE: Setup = Setup { n: 2, epsilon: 4, delta: 1, modulus: 30, own: 0 };
+pub const WIDE: Setup = Setup { n: 2, epsilon: 4, delta: 1, modulus: 30, own: 0 };
 
 /// A frame of WIDE with c 0, so r is its sum.
-fn wide(node: i64, r: i64, payload: u8) -> Vec<u8> {
+pub fn wide(node: i64, r: i64, payload: u8) -> Vec<u8> {
     frame(node, r.rem_euclid(WIDE.modulus), 0, &[0, 0, 0, 0, 1, 0, 0, 0], &[payload])
 }
 
@@ -20,13 +20,6 @@ fn stepped<T: AsRef<[u8]>>(setup: Setup, r: i64, v: i64, shelf: &[T]) -> TickCas
     case.state = fresh(&setup, r);
     case.holdback = holdback(&setup, shelf);
     case
-}
-
-/// The frames of a hand-out or shelf as bytes.
-fn packed<T: AsRef<[u8]>>(frames: &[T]) -> Vec<u8> {
-    let mut bytes = (frames.len() as u16).to_le_bytes().to_vec();
-    frames.iter().for_each(|frame| bytes.extend(frame.as_ref()));
-    bytes
 }
 
 #[test]

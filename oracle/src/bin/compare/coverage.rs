@@ -14,9 +14,9 @@ const TRACES: u64 = 40;
 /// Of calls. 17 is not among the numbers of frames: no queue ever gets full; it is
 /// among those of lines, where verdicts that are not the frames' own are given too. For `sent` and
 /// `gave` (was a frame sent, was one handed out) 1 is yes. The numbers of `early`, `overdue` and
-/// `step` are kinds: see `nudges`; so are those of `count`: see `reasons`; and those of the rows of polls
-/// but the first: see `polls`.
-const OF_CALLS: [Row; 23] = [
+/// `step` are kinds: see `nudges`; so are those of `count`: see `reasons`; those of the rows of polls
+/// but the first: see `polls`; and those of the rows of observers: see `observers`.
+const OF_CALLS: [Row; 31] = [
     ("call", &[0, 1, 2, 3, 4, 5, 6]),
     ("compare", &[0, 1, 2, 10, 11, 12]),
     ("count", &[0, 1, 2]),
@@ -25,6 +25,14 @@ const OF_CALLS: [Row; 23] = [
     ("frame", &[0, 10, 11, 12, 13, 14, 15, 16]),
     ("gave", &[0, 1]),
     ("line", &[0, 10, 11, 12, 13, 14, 15, 16, 17]),
+    ("listen", &[0, 1, 2, 3, 5, 6]),
+    ("listen 15", &[0, 1]),
+    ("listen early", &[0, 1, 2]),
+    ("listen frame", &[0, 10, 11, 12, 13, 14, 16]),
+    ("listen gave", &[0, 1]),
+    ("listen last", &[0, 1, 2, 3, 4, 5, 6]),
+    ("listen mend", &[0, 1, 2, 3]),
+    ("listen overdue", &[1, 2, 3]),
     ("mend", &[0, 1, 2, 3]),
     ("order", &[0, 1, 2]),
     ("overdue", &[1, 2, 3]),
@@ -85,7 +93,7 @@ impl fmt::Display for Coverage {
         let mut last = "";
         for (&(what, number), count) in &self.0 {
             if what != last {
-                write!(f, "{}{what:<12}", if last.is_empty() { "" } else { "\n" })?;
+                write!(f, "{}{what:<14}", if last.is_empty() { "" } else { "\n" })?;
                 last = what;
             }
             write!(f, " {number}:{count}")?;

@@ -11,6 +11,7 @@
 
 mod coverage;
 mod nudges;
+mod observers;
 mod polls;
 mod reasons;
 mod run;

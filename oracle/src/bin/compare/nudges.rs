@@ -2,7 +2,7 @@
 
 use oracle::generate::TickCase;
 use oracle::holdback::{dues, Holdback};
-use oracle::{Answer, Timestamp};
+use oracle::{Answer, Setup, Timestamp};
 
 /// The kind of a step: 0, 1, 2 for one between 1 and ε, 3 for ε (above 1), 4 for ε + 1.
 pub fn step_kind(epsilon: i64, step: i64) -> Option<u8> {
@@ -17,19 +17,18 @@ pub fn step_kind(epsilon: i64, step: i64) -> Option<u8> {
 
 /// The kind of an accepted call's step, from tables that are sound but for it.
 pub fn step_of(given: &TickCase) -> Option<u8> {
-    let tables = Timestamp::of_state(&given.setup, &given.state);
-    let step = tables.step_to(&given.setup, given.clock);
-    if tables.are_sound_tables(&given.setup) {
-        step_kind(given.setup.epsilon, step)
-    } else {
-        None
+    let TickCase { setup, clock, state, .. } = given;
+    let tables = Timestamp::of_state(setup, state);
+    if tables.r >= setup.modulus || !tables.are_sound_tables(setup) {
+        return None;
     }
+    step_kind(setup.epsilon, setup.step(tables.r, *clock))
 }
 
-/// Of an accepted call's hand-out: 0 if all of it is due at v, 1 if all of it was due before, 2
+/// Of an accepted call's hand-out at v: 0 if all of it is due at v, 1 if all of it was due before, 2
 /// if it has both. None if it has no frames.
-pub fn early_of(left: &TickCase) -> Option<u8> {
-    let due: Vec<i64> = dues(&left.setup, left.clock, &left.delivery).collect();
+pub fn early_of(setup: &Setup, v: i64, delivery: &[u8]) -> Option<u8> {
+    let due: Vec<i64> = dues(setup, v, delivery).collect();
     let early = due.iter().filter(|&&due| due < 0).count();
     match early {
         _ if due.is_empty() => None,
@@ -39,17 +38,22 @@ pub fn early_of(left: &TickCase) -> Option<u8> {
     }
 }
 
-/// Of an accepted call whose queue was emptied only because of a due clock: 1 if the tables are
-/// sound and it is that of the tables, 2 if they are and it is before that, 3 if they are
-/// replaced and it is before v.
-pub fn overdue_of(given: &TickCase, answer: &Answer) -> Option<u8> {
-    let TickCase { setup, clock, holdback, .. } = given;
+/// Of an accepted call for v whose queue was emptied only because of a due clock: 1 if the call's
+/// step is sound and it is the last clock, 2 if the step is and it is before that, 3 if there is no
+/// sound step and it is before v.
+pub fn overdue_of(
+    setup: &Setup,
+    v: i64,
+    queue: &[u8],
+    step: Option<i64>,
+    answer: &Answer,
+) -> Option<u8> {
     if answer.repair & 2 == 0 {
         return None;
     }
-    Holdback::decode(setup, *clock, -setup.epsilon, holdback)?;
-    let least = dues(setup, *clock, holdback).next().expect("a frame");
-    match Timestamp::of_state(setup, &given.state).sound_step(setup, *clock) {
+    Holdback::decode(setup, v, -setup.epsilon, queue)?;
+    let least = dues(setup, v, queue).next().expect("a frame");
+    match step {
         None => Some(3),
         Some(step) if least == -step => Some(1),
         Some(_) => Some(2),

@@ -2,12 +2,13 @@
 
 use crate::coverage::Coverage;
 use crate::subject::Subject;
-use crate::{nudges, polls, reasons};
+use crate::{nudges, observers, polls, reasons};
 use oracle::abi;
-use oracle::generate::{self, spoil, Group, Habits, Prng};
-use oracle::generate::{CompareCase, PollCase, ReadCase, TickCase, WordsCase, WriteCase};
+use oracle::generate::{self, spoil, Group, Habits, Prng, Turn};
+use oracle::generate::{CompareCase, ListenCase, PollCase, ReadCase};
+use oracle::generate::{TickCase, WordsCase, WriteCase};
 use oracle::replay::hex;
-use oracle::Answer;
+use oracle::{Answer, Timestamp};
 
 /// How many bytes of a buffer a report shows; zeros at its end are never shown.
 const SHOWN: usize = 1_000;
@@ -113,6 +114,26 @@ impl Case for PollCase {
     }
 }
 
+impl Case for ListenCase {
+    fn call(&mut self, subject: &mut dyn Subject) -> u64 {
+        subject.listen(self)
+    }
+
+    fn numbers(&self) -> String {
+        format!("observer: {:?} clock {}", self.setup, self.clock)
+    }
+
+    fn buffers(&self) -> Vec<(&'static str, &[u8])> {
+        vec![
+            ("last", &self.last),
+            ("shelf", &self.holdback),
+            ("bundle", &self.batch),
+            ("verdicts", &self.verdicts),
+            ("hand-out", &self.delivery),
+        ]
+    }
+}
+
 /// Two programs, and what was met so far. An error describes a difference.
 pub struct Comparison<'s> {
     pub left: &'s mut dyn Subject,
@@ -134,6 +155,10 @@ impl<'s> Comparison<'s> {
             let (noise, dips, nudges) = (!rng.one_in(4), rng.one_in(2), rng.one_in(2));
             let habits = Habits { noise, dips, nudges, deafness: rng.range(1, 4) };
             let mut group = Group::fresh(rng, setup, habits);
+            for _ in 0..rng.below(3) {
+                let lags = rng.one_in(2);
+                group.add_observer(rng, lags);
+            }
             let rounds = setup.delta + 4 * setup.epsilon;
             for _ in 0..rng.range(1, (setup.n * rounds).min(300)) {
                 self.step(rng, &mut group)?;
@@ -142,20 +167,43 @@ impl<'s> Comparison<'s> {
         Ok(())
     }
 
-    /// One call of a group, with other calls before it that leave the group as it is.
+    /// One call of a group, with other calls around a node's that leave the group as it is.
     fn step(&mut self, rng: &mut Prng, group: &mut Group) -> Result<(), String> {
-        let (node, case) = group.next_case(rng);
+        match group.next_turn(rng) {
+            (node, Turn::Node(case)) => {
+                self.before(rng, &case)?;
+                let (case, answer) = self.tick(case)?;
+                self.after(rng, &case)?;
+                group.settle(node, case, &answer);
+            }
+            (observer, Turn::Observer(case)) => {
+                let (case, answer) = self.listen(case)?;
+                group.settle_observer(observer, case, &answer);
+            }
+        }
+        Ok(())
+    }
+
+    /// Other calls before a tick: ticks and observers' calls with wrong arguments, with another
+    /// memory and for other clocks; frames read, written and compared.
+    fn before(&mut self, rng: &mut Prng, case: &TickCase) -> Result<(), String> {
         if rng.one_in(4) {
             let mut wrong = case.clone();
             spoil::spoil(rng, &mut wrong);
+            self.listen(ListenCase::of(wrong.clone()))?;
             self.tick(wrong)?;
         }
         if rng.one_in(3) {
             self.tick(case.stepped(rng))?;
         }
+        if rng.one_in(2) {
+            self.listen(ListenCase::stepped(rng, case))?;
+        }
         if rng.one_in(16) {
             let clock = rng.below(case.setup.modulus);
-            self.tick(TickCase { clock, ..case.clone() })?;
+            let other = TickCase { clock, ..case.clone() };
+            self.listen(ListenCase::of(other.clone()))?;
+            self.tick(other)?;
         }
         if rng.one_in(3) {
             let (_, word) = self.case(ReadCase::random(rng, case.setup, case.clock))?;
@@ -163,20 +211,20 @@ impl<'s> Comparison<'s> {
             let (_, word) = self.case(WriteCase::random(rng, case.setup, case.clock))?;
             self.coverage.meet("writer", abi::number(word));
         }
-        self.compare(CompareCase::random(rng, case.setup))?;
-        let (case, answer) = self.tick(case)?;
+        self.compare(CompareCase::random(rng, case.setup))
+    }
+
+    /// Other calls after a tick, which left this: words and polls.
+    fn after(&mut self, rng: &mut Prng, left: &TickCase) -> Result<(), String> {
         if rng.one_in(2) {
-            let judged = WordsCase::judged(rng, &case);
+            let judged = WordsCase::judged(rng, left);
             self.words(judged.clone().spoil(rng))?;
             self.words(judged)?;
         }
-        let poll = match rng.one_in(2) {
-            true => PollCase::after(rng, &case),
-            false => PollCase::random(rng, &case),
-        };
-        self.poll(poll)?;
-        group.settle(node, case, &answer);
-        Ok(())
+        self.poll(match rng.one_in(2) {
+            true => PollCase::after(rng, left),
+            false => PollCase::random(rng, left),
+        })
     }
 
     fn tick(&mut self, case: TickCase) -> Result<(TickCase, Answer), String> {
@@ -198,14 +246,25 @@ impl<'s> Comparison<'s> {
 
     /// Counts what an accepted call meets of the nudged clocks.
     fn meet_nudges(&mut self, given: &TickCase, left: &TickCase, answer: &Answer) {
+        let TickCase { setup, clock, holdback, .. } = given;
+        let step = Timestamp::of_state(setup, &given.state).sound_step(setup, *clock);
         let kinds = [
             ("step", nudges::step_of(given)),
-            ("early", nudges::early_of(left)),
-            ("overdue", nudges::overdue_of(given, answer)),
+            ("early", nudges::early_of(setup, *clock, &left.delivery)),
+            ("overdue", nudges::overdue_of(setup, *clock, holdback, step, answer)),
         ];
         for (what, kind) in kinds {
             kind.into_iter().for_each(|kind| self.coverage.meet(what, kind));
         }
+    }
+
+    fn listen(&mut self, given: ListenCase) -> Result<(ListenCase, Answer), String> {
+        let (left, word) = self.case(given.clone())?;
+        let answer = abi::unpack_tick(word);
+        for (what, kind) in observers::kinds_of(&given, &left, &answer) {
+            self.coverage.meet(what, kind);
+        }
+        Ok((left, answer))
     }
 
     fn words(&mut self, case: WordsCase) -> Result<(), String> {

@@ -1,7 +1,8 @@
 //! The programs that are compared.
 
 use oracle::abi;
-use oracle::generate::{CompareCase, PollCase, ReadCase, TickCase, WordsCase, WriteCase};
+use oracle::generate::{CompareCase, ListenCase, PollCase, ReadCase};
+use oracle::generate::{TickCase, WordsCase, WriteCase};
 use oracle::{fault, replay};
 
 /// Something that makes the calls and replays traces. Answers are packed as the library's.
@@ -12,6 +13,7 @@ pub trait Subject {
     fn words(&mut self, case: &mut WordsCase) -> u64;
     fn compare(&mut self, case: &mut CompareCase) -> u64;
     fn poll(&mut self, case: &mut PollCase) -> u64;
+    fn listen(&mut self, case: &mut ListenCase) -> u64;
     fn replay(&mut self, trace: &[u8]) -> Result<String, String>;
 }
 
@@ -73,6 +75,10 @@ impl Subject for Oracle {
         abi::pack_poll(self.faulty(|| case.run()))
     }
 
+    fn listen(&mut self, case: &mut ListenCase) -> u64 {
+        abi::pack_tick(&self.faulty(|| case.run()))
+    }
+
     fn replay(&mut self, trace: &[u8]) -> Result<String, String> {
         Ok(self.faulty(|| replay::replay_text(trace)))
     }
@@ -108,6 +114,10 @@ impl Subject for Proved {
 
     fn poll(&mut self, case: &mut PollCase) -> u64 {
         abi::library::poll(case)
+    }
+
+    fn listen(&mut self, case: &mut ListenCase) -> u64 {
+        abi::library::listen(case)
     }
 
     fn replay(&mut self, trace: &[u8]) -> Result<String, String> {

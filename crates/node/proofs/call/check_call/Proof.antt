@@ -1,21 +1,22 @@
 -- `node::call::check_call` meets its contract. Assumes nothing.
-use Prim.Native.Nat.{_≤_, _<_}
+use Prim.Native.Nat.{ℕ, _≤_, _<_}
 use native.Mathlib.Omega.{arith}
-use mathlib.Core.Path.{_≡_, _∙_, sym}
+use mathlib.Core.Path.{_≡_, _∙_, sym, ap}
 use mathlib.Core.Bool.{Bool, true, _&&_}
+use lib.Dec.{leb}
 use lib.ListN.{length}
 use borrow.Author.Tests.{not-true, not-false}
 use borrow.Author.Needs.{needs}
-use Rattle.model.specs.Setup.{inLimits, isMember, longestFrame}
+use Rattle.model.specs.Setup.{inLimits, isMember, longestFrame, verdictLength}
 use Rattle.model.specs.Batch.{exactBatch}
 use Rattle.model.specs.Question.{firstNo}
-use Rattle.model.specs.Tick.{Input, holdbackSize, holdbackQuestions}
+use Rattle.model.specs.Tick.{Input, holdbackSize, boardRoomy, holdbackQuestions}
 use Rattle.lemmas.proofs.Bounds.{Limits}
 use Rattle.lemmas.proofs.Questions.{setup-from, limits-to, shelf-passed}
 use Rattle.setup.specs.Views.{setupOf}
 use Rattle.timestamp.specs.declared.stamp.Timestamp.{Timestamp}
 use Rattle.node.specs.Views.{callInput}
-use Rattle.node.proofs.Calls.{setup-no, shelf-no, payload-no, batch-no, outgoing-no, verdicts-no, delivery-no, none-no}
+use Rattle.node.proofs.Calls.{setup-no, shelf-no, payload-no, batch-no, outgoing-no, board-no, none-no}
 use Rattle.node.proofs.call.check_call.Statement.{statement}
 use Rattle.node.proofs.call.check_call.Tie as tie
 
@@ -75,20 +76,18 @@ short c = omega (arith, c .before .longest-frame .ensures)
 returns-5 : tie.Need-returns-5
 returns-5 c = λ tables send. outgoing-no (input (c .before .before .before .before .before .before .before .before .before .before .before .before .before .before .before .before) tables send) (valid (c .before .before .before .before .before .before .before .before)) (shelf-yes (c .before .before .before .before .before .before)) (c .before .before .before .before .before .if3 .left) (exact (c .before .before .before)) (short c)
 
+board-roomy-requires : tie.Need-board-roomy-requires
+board-roomy-requires c κs = search needs
+
+-- the shelf has its length, so the hand-out buffer is held to it
+board : (c : tie.After-board-roomy) → c .board-roomy .result ≡ boardRoomy (setupOf (c .before .before .before .before .before .before .before .before .before .before .before .before .before .before .before .before .before .args .setup)) (c .before .before .before .before .before .before .before .before .before .before .before .before .before .before .before .before .before .args .verdicts .now) (c .before .before .before .before .before .before .before .before .before .before .before .before .before .before .before .before .before .args .delivery .now)
+board c = c .board-roomy .ensures ∙ ap (λ (n : ℕ). leb verdictLength (length (c .before .before .before .before .before .before .before .before .before .before .before .before .before .before .before .before .before .args .verdicts .now)) && leb n (length (c .before .before .before .before .before .before .before .before .before .before .before .before .before .before .before .before .before .args .delivery .now))) (sized (c .before .before .before .before .before .before .before))
+
 returns-6 : tie.Need-returns-6
-returns-6 c = λ tables send. verdicts-no (input (c .before .before .before .before .before .before .before .before .before .before .before .before .before .before .before .before .before) tables send) (valid (c .before .before .before .before .before .before .before .before .before)) (shelf-yes (c .before .before .before .before .before .before .before)) (c .before .before .before .before .before .before .if3 .left) (exact (c .before .before .before .before)) (long (c .before)) (c .if6 .taken)
-
-delivery-short : (c : tie.Then7) → length (c .before .before .before .before .before .before .before .before .before .before .before .before .before .before .before .before .before .before .args .delivery .now) < holdbackSize (setupOf (c .before .before .before .before .before .before .before .before .before .before .before .before .before .before .before .before .before .before .args .setup))
-delivery-short c = omega (arith, sized (c .before .before .before .before .before .before .before .before))
-
-delivery-long : (c : tie.Else7) → holdbackSize (setupOf (c .before .before .before .before .before .before .before .before .before .before .before .before .before .before .before .before .before .before .args .setup)) ≤ length (c .before .before .before .before .before .before .before .before .before .before .before .before .before .before .before .before .before .before .args .delivery .now)
-delivery-long c = omega (arith, sized (c .before .before .before .before .before .before .before .before))
+returns-6 c = λ tables send. board-no (input (c .before .before .before .before .before .before .before .before .before .before .before .before .before .before .before .before .before .before) tables send) (valid (c .before .before .before .before .before .before .before .before .before .before)) (shelf-yes (c .before .before .before .before .before .before .before .before)) (c .before .before .before .before .before .before .before .if3 .left) (exact (c .before .before .before .before .before)) (long (c .before .before)) (sym (board (c .before)) ∙ not-true (c .before .board-roomy .result) (c .if6 .taken))
 
 returns-7 : tie.Need-returns-7
-returns-7 c = λ tables send. delivery-no (input (c .before .before .before .before .before .before .before .before .before .before .before .before .before .before .before .before .before .before) tables send) (valid (c .before .before .before .before .before .before .before .before .before .before)) (shelf-yes (c .before .before .before .before .before .before .before .before)) (c .before .before .before .before .before .before .before .if3 .left) (exact (c .before .before .before .before .before)) (long (c .before .before)) (c .before .if6 .left) (delivery-short c)
-
-returns-8 : tie.Need-returns-8
-returns-8 c = λ tables send. none-no (input (c .before .before .before .before .before .before .before .before .before .before .before .before .before .before .before .before .before .before) tables send) (valid (c .before .before .before .before .before .before .before .before .before .before)) (shelf-yes (c .before .before .before .before .before .before .before .before)) (c .before .before .before .before .before .before .before .if3 .left) (exact (c .before .before .before .before .before)) (long (c .before .before)) (c .before .if6 .left) (delivery-long c)
+returns-7 c = λ tables send. none-no (input (c .before .before .before .before .before .before .before .before .before .before .before .before .before .before .before .before .before .before) tables send) (valid (c .before .before .before .before .before .before .before .before .before .before)) (shelf-yes (c .before .before .before .before .before .before .before .before)) (c .before .before .before .before .before .before .before .if3 .left) (exact (c .before .before .before .before .before)) (long (c .before .before)) (sym (board (c .before)) ∙ not-false (c .before .board-roomy .result) (c .if6 .left))
 
 pub check-call-spec : {M : Type 1} → statement M
 check-call-spec =
@@ -104,6 +103,6 @@ check-call-spec =
     cast-longest-frame
     longest-frame-requires
     returns-5
+    board-roomy-requires
     returns-6
-    returns-7
-    returns-8)
+    returns-7)

@@ -2,6 +2,7 @@
 use Prim.Native.Nat.{ℕ, _≤_, _^_}
 use native.Mathlib.Omega.{arith}
 use mathlib.Core.Path.{_≡_, _∙_, ap, ap₂}
+use mathlib.Core.Bool.{Bool, false, cond}
 use borrow.Author.Needs.{needs}
 use Rattle.model.specs.Timestamp.{Timestamp, trimmed, widened, absorb}
 use Rattle.model.specs.Frame.{Frame, decode}
@@ -18,6 +19,9 @@ frame c = decode (c .args .setup .epsilon) (c .args .s .now)
 known : (c : tie.Start) → Given (setupOf (c .args .setup)) (c .args .clock) (c .args .s .now)
 known c = given (setupOf (c .args .setup)) (c .args .clock) (c .args .s .now) (c .pre .0)
 
+returns : tie.Need-returns
+returns c = rw (c .if1 .taken)
+
 cast-epsilon : tie.Need-cast-epsilon
 cast-epsilon c = search needs
 
@@ -28,11 +32,11 @@ high : (c : tie.Start) → c .args .reading ≤ 2 ^ 17
 high c = omega (arith, c .pre .1, known c .high, known c .limits .modulus-most, known c .limits .epsilon-most)
 
 stamp-of-requires : tie.Need-stamp-of-requires
-stamp-of-requires c κs = (known (c .before .before .before) .limits .epsilon-most, known (c .before .before .before) .formed)
+stamp-of-requires c κs = (known (c .before .before .before .before) .limits .epsilon-most, known (c .before .before .before .before) .formed)
 
 module _ (c : tie.After-stamp-of) where
   abbrev begin : tie.Start
-  begin = c .before .before .before .before
+  begin = c .before .before .before .before .before
 
   lead : c .stamp-of .result .c ≤ 2 ^ 16
   unfolding widened
@@ -47,11 +51,15 @@ module _ (c : tie.After-stamp-of) where
 absorb-requires : tie.Need-absorb-requires
 absorb-requires c κs = let lim = known (begin c) .limits in (lim .epsilon-most, (lim .modulus-most, (high (begin c), lead c)))
 
-returns : tie.Need-returns
-returns c =
+not-listening : (b : Bool) (x y : Timestamp) → b ≡ false → y ≡ cond b x y
+not-listening b x y e = rw e
+
+returns-2 : tie.Need-returns-2
+returns-2 c =
     let start = begin (c .before) in
     c .absorb .ensures
     ∙ ap₂ (λ (x : ℕ) (t : Timestamp). widened (absorb (start .args .setup .epsilon) (start .args .setup .modulus) (trimmed (start .args .setup .epsilon) (stampOf (start .args .stamp))) x t)) (start .pre .1) (other (c .before))
+    ∙ not-listening (start .args .listens) (stampOf (start .args .stamp)) _ (c .before .before .before .before .if1 .left)
 
 pub absorb-frame-spec : {M : Type 1} → statement M
-absorb-frame-spec = tie.close (tie.spec cast-epsilon cast-modulus stamp-of-requires absorb-requires returns)
+absorb-frame-spec = tie.close (tie.spec returns cast-epsilon cast-modulus stamp-of-requires absorb-requires returns-2)

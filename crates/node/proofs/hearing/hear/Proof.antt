@@ -8,7 +8,7 @@ use lib.ListN.{length, take, drop}
 use borrow.Author.Needs.{needs}
 use Rattle.model.specs.Setup.{verdictLength}
 use Rattle.model.specs.Holdback.{held}
-use Rattle.model.specs.Judge.{judge, judgeQuestions, refused, verdictNumber}
+use Rattle.model.specs.Judge.{judge, taken, refused, verdictNumber}
 use Rattle.lemmas.proofs.Bounds.{Limits}
 use Rattle.lemmas.proofs.Questions.{limits-from}
 use Rattle.holdback.proofs.Seen.{length-seen}
@@ -20,7 +20,7 @@ use Rattle.model.specs.Frame.{decode}
 use Rattle.model.specs.Order.{readingOf}
 use Rattle.setup.specs.Views.{setupOf}
 use Rattle.timestamp.specs.Views.{stampOf}
-use Rattle.node.specs.Views.{verdictOf}
+use Rattle.node.specs.Views.{verdictOf, questionsFor}
 use Rattle.node.specs.States.{Taking, heardAll}
 use Rattle.node.proofs.Verdicts.{Tags, is-refused, refused-number, taken-readable}
 use Rattle.node.proofs.Places.{size-small, known, fits}
@@ -34,12 +34,12 @@ tags = record { tag = Declared.tagOf Rattle.node.proofs.verdict.Verdict
 
 -- the two halves: what goes on the queue, and what goes into the stamp
 abbrev Inv-loop : tie.InvT-loop
-Inv-loop setup clock batch count end holdback₀ seen₀ starts₀ verdicts₀ entries absorbed₀ taken₀ held₀ stop₀ at₀ i₀ holdback seen starts verdicts absorbed took kept stop at i =
-    QueueTurning (setupOf setup) clock batch holdback₀ verdicts₀ took kept stop at i holdback seen starts verdicts
-    × StampTurning (setupOf setup) clock (stampOf absorbed₀) batch (heardAll (setupOf setup) clock batch holdback₀ .verdicts) (stampOf absorbed) at i
+Inv-loop setup clock listens batch count end holdback₀ seen₀ starts₀ verdicts₀ entries absorbed₀ taken₀ held₀ stop₀ at₀ i₀ holdback seen starts verdicts absorbed took kept stop at i =
+    QueueTurning listens (setupOf setup) clock batch holdback₀ verdicts₀ took kept stop at i holdback seen starts verdicts
+    × StampTurning listens (setupOf setup) clock (stampOf absorbed₀) batch (heardAll listens (setupOf setup) clock batch holdback₀ .verdicts) (stampOf absorbed) at i
 
 abbrev μ-loop : tie.MeasureT-loop
-μ-loop setup clock batch count end holdback₀ seen₀ starts₀ verdicts₀ entries absorbed₀ taken₀ held₀ stop₀ at₀ i₀ holdback seen starts verdicts absorbed took kept stop at i = entries - i
+μ-loop setup clock listens batch count end holdback₀ seen₀ starts₀ verdicts₀ entries absorbed₀ taken₀ held₀ stop₀ at₀ i₀ holdback seen starts verdicts absorbed took kept stop at i = entries - i
 
 limits : (c : tie.Start Inv-loop μ-loop) → Limits (setupOf (c .args .setup))
 limits c = limits-from (setupOf (c .args .setup)) (c .pre .0 .limits)
@@ -128,11 +128,11 @@ module _ (c : tie.After-number-of Inv-loop μ-loop) where
   abbrev number : ℕ
   number = verdictNumber (verdictOf (c .before .before .before .judge .result))
 
-  no : judge (setupOf (c .before .before .before .before .before .before .before .before .before .before .before .before .before .before .before .before .before .args .setup)) (c .before .before .before .before .before .before .before .before .before .before .before .before .before .before .before .before .before .args .clock) (judgeQuestions (setupOf (c .before .before .before .before .before .before .before .before .before .before .before .before .before .before .before .before .before .args .setup)) (c .before .before .before .before .before .before .before .before .before .before .before .before .before .before .before .before .before .args .clock)) (held (c .before .before .before .before .before .before .before .before .before .before .before .before .before .before .before .before .before .args .setup .epsilon) (c .before .before .before .before .before .before .before .before .before .before .loop .holdback)) (bytes (c .before .before .before .before .before .before .before .before)) ≡ refused number
+  no : judge (setupOf (c .before .before .before .before .before .before .before .before .before .before .before .before .before .before .before .before .before .args .setup)) (c .before .before .before .before .before .before .before .before .before .before .before .before .before .before .before .before .before .args .clock) (questionsFor (c .before .before .before .before .before .before .before .before .before .before .before .before .before .before .before .before .before .args .listens) (setupOf (c .before .before .before .before .before .before .before .before .before .before .before .before .before .before .before .before .before .args .setup)) (c .before .before .before .before .before .before .before .before .before .before .before .before .before .before .before .before .before .args .clock)) (held (c .before .before .before .before .before .before .before .before .before .before .before .before .before .before .before .before .before .args .setup .epsilon) (c .before .before .before .before .before .before .before .before .before .before .loop .holdback)) (bytes (c .before .before .before .before .before .before .before .before)) ≡ refused number
   no = sym (c .before .before .before .judge .ensures .0) ∙ is-refused tags (c .before .before .before .judge .result) (c .before .before .match .keys2)
 
   no-zero : c .number-of .result ≡ 0 → ⊥
-  no-zero z = refused-number (setupOf (c .before .before .before .before .before .before .before .before .before .before .before .before .before .before .before .before .before .args .setup)) (c .before .before .before .before .before .before .before .before .before .before .before .before .before .before .before .before .before .args .clock) (held (c .before .before .before .before .before .before .before .before .before .before .before .before .before .before .before .before .before .args .setup .epsilon) (c .before .before .before .before .before .before .before .before .before .before .loop .holdback)) (bytes (c .before .before .before .before .before .before .before .before)) number no (sym (c .number-of .ensures) ∙ z)
+  no-zero z = refused-number (setupOf (c .before .before .before .before .before .before .before .before .before .before .before .before .before .before .before .before .before .args .setup)) (c .before .before .before .before .before .before .before .before .before .before .before .before .before .before .before .before .before .args .clock) (questionsFor (c .before .before .before .before .before .before .before .before .before .before .before .before .before .before .before .before .before .args .listens) (setupOf (c .before .before .before .before .before .before .before .before .before .before .before .before .before .before .before .before .before .args .setup)) (c .before .before .before .before .before .before .before .before .before .before .before .before .before .before .before .before .before .args .clock)) (held (c .before .before .before .before .before .before .before .before .before .before .before .before .before .before .before .before .before .args .setup .epsilon) (c .before .before .before .before .before .before .before .before .before .before .loop .holdback)) (bytes (c .before .before .before .before .before .before .before .before)) number no (sym (c .number-of .ensures) ∙ z)
 
 loop-again : tie.Need-loop-again Inv-loop μ-loop
 loop-again c =
@@ -142,13 +142,17 @@ loop-again c =
 
 -- what taking it asks
 module _ (c : tie.After-known-told Inv-loop μ-loop) where
+  judged : judge (setupOf (c .before .before .before .before .before .before .before .before .before .before .before .before .before .before .before .before .before .args .setup)) (c .before .before .before .before .before .before .before .before .before .before .before .before .before .before .before .before .before .args .clock) (questionsFor (c .before .before .before .before .before .before .before .before .before .before .before .before .before .before .before .before .before .args .listens) (setupOf (c .before .before .before .before .before .before .before .before .before .before .before .before .before .before .before .before .before .args .setup)) (c .before .before .before .before .before .before .before .before .before .before .before .before .before .before .before .before .before .args .clock)) (held (c .before .before .before .before .before .before .before .before .before .before .before .before .before .before .before .before .before .args .setup .epsilon) (c .before .before .before .before .before .before .before .before .before .before .loop .holdback)) (bytes (c .before .before .before .before .before .before .before .before)) ≡ taken (c .before .verdict .given .0 .0 .place .index)
+  judged = sym (c .before .before .before .judge .ensures .0) ∙ ap verdictOf (c .before .verdict .given .1)
+
   taking : Taking (setupOf (c .before .before .before .before .before .before .before .before .before .before .before .before .before .before .before .before .before .args .setup)) (c .before .before .before .before .before .before .before .before .before .before .before .before .before .before .before .before .before .args .clock) (c .before .before .before .before .before .before .before .before .before .before .loop .holdback) (c .before .verdict .given .0 .0 .place .index) (c .before .verdict .given .0 .0 .place .at) (bytes (c .before .before .before .before .before .before .before .before))
   taking =
       record {
         timed = c .before .before .before .before .before .before .before .before .before .before .before .before .before .before .before .before .before .pre .0;
         size = c .before .before .before .before .before .before .before .before .before .before .loop .inv .0 .queued .size;
         sound = c .before .before .before .before .before .before .before .before .before .before .loop .inv .0 .queued .sound;
-        judged = sym (c .before .before .before .judge .ensures .0) ∙ ap verdictOf (c .before .verdict .given .1);
+        listens = c .before .before .before .before .before .before .before .before .before .before .before .before .before .before .before .before .before .args .listens;
+        judged = judged;
         starts = c .before .before .before .judge .ensures .1 .stands (c .before .verdict .given .0 .0) (c .before .verdict .given .1);
       }
 
@@ -162,8 +166,7 @@ enqueue-requires c κs = let queue = c .before .before .before .before .before .
 absorb-frame-requires : tie.Need-absorb-frame-requires Inv-loop μ-loop
 absorb-frame-requires c κs =
     let start = c .before .before .before .before .before .before .before .before .before .before .before .before .before .before .before .before .before .before .before .before .before .before .before .before .before .before .before in
-    let taken = taking (c .before .before .before .before .before .before .before .before .before .before) in
-    (taken-readable (setupOf (start .args .setup)) (start .args .clock) (held (start .args .setup .epsilon) (c .before .before .before .before .before .before .before .before .before .before .before .before .before .before .before .before .before .before .before .before .loop .holdback)) (bytes (c .before .before .before .before .before .before .before .before .before .before .before .before .before .before .before .before .before .before)) (c .before .before .before .before .before .before .before .before .before .before .before .verdict .given .0 .0 .place .index) (taken .timed) (taken .judged), read (c .before .before .before .before .before .before .before .before .before .before))
+    (taken-readable (start .args .listens) (setupOf (start .args .setup)) (start .args .clock) (held (start .args .setup .epsilon) (c .before .before .before .before .before .before .before .before .before .before .before .before .before .before .before .before .before .before .before .before .loop .holdback)) (bytes (c .before .before .before .before .before .before .before .before .before .before .before .before .before .before .before .before .before .before)) (c .before .before .before .before .before .before .before .before .before .before .before .verdict .given .0 .0 .place .index) (start .pre .0) (judged (c .before .before .before .before .before .before .before .before .before .before)), read (c .before .before .before .before .before .before .before .before .before .before))
 
 add-held : tie.Need-add-held Inv-loop μ-loop
 add-held c = omega (arith, known (taking (c .before .before .before .before .before .before .before .before .before .before .before)) .few, c .before .before .before .before .before .before .before .before .before .before .before .before .before .before .before .before .before .before .before .before .before .loop .inv .0 .extent .count-is)
@@ -189,7 +192,7 @@ loop-less-2 c = omega (arith, c .before .before .before .before .before .before 
 loop-again-2 : tie.Need-loop-again-2 Inv-loop μ-loop
 loop-again-2 c =
     let now = c .before .before .before .before .before .before .before .before .before .before .before .before .before .before .before .before .before .before .before .before .before .loop in
-    let queue = queue-taken (now .inv .0) (more (c .before .before .before .before .before .before .before .before .before .before .before .before .before .before .before .before .before .before .before .before)) (few (c .before .before .before .before .before .before .before .before .before .before .before .before .before .before .before .before .before .before .before .before .before .before) .1) (entry (c .before .before .before .before .before .before .before .before .before .before .before .before .before .before .before .before .before .before .before)) (next (c .before .before .before .before .before .before .before .before .before .before .before .before .before .before .before .before .before .before .before)) (taking (c .before .before .before .before .before .before .before .before .before .before .before) .judged) (c .before .before .before .before .before .before .before .enqueue .ensures) in
+    let queue = queue-taken (now .inv .0) (more (c .before .before .before .before .before .before .before .before .before .before .before .before .before .before .before .before .before .before .before .before)) (few (c .before .before .before .before .before .before .before .before .before .before .before .before .before .before .before .before .before .before .before .before .before .before) .1) (entry (c .before .before .before .before .before .before .before .before .before .before .before .before .before .before .before .before .before .before .before)) (next (c .before .before .before .before .before .before .before .before .before .before .before .before .before .before .before .before .before .before .before)) (judged (c .before .before .before .before .before .before .before .before .before .before .before)) (c .before .before .before .before .before .before .before .enqueue .ensures) in
     (queue, stamp-taken (now .inv .1) (more (c .before .before .before .before .before .before .before .before .before .before .before .before .before .before .before .before .before .before .before .before)) (entry (c .before .before .before .before .before .before .before .before .before .before .before .before .before .before .before .before .before .before .before)) (next (c .before .before .before .before .before .before .before .before .before .before .before .before .before .before .before .before .before .before .before)) (written-last (now .verdicts) (now .i) 0 queue (inside (c .before .before .before .before .before .before .before .before .before .before .before .before .before .before .before .before .before .before .before .before))) (limits (c .before .before .before .before .before .before .before .before .before .before .before .before .before .before .before .before .before .before .before .before .before .before .before .before .before .before .before .before) .epsilon-most) refl (c .absorb-frame .ensures))
 
 same-length : tie.Need-same-length Inv-loop μ-loop

@@ -7,7 +7,7 @@ use borrow.Author.Needs.{needs}
 use Rattle.model.specs.Timestamp.{countsFrom, atMost}
 use Rattle.model.specs.Frame.{Frame, decode}
 use Rattle.setup.specs.Views.{setupOf}
-use Rattle.node.proofs.Times.{Given, given, late-no, early-no, counts-no, times-right, counts-there}
+use Rattle.node.proofs.Times.{Given, given, late-no, early-no, counts-unasked, counts-no, times-right, counts-there}
 use Rattle.node.proofs.questions.check_time.Statement.{statement}
 use Rattle.node.proofs.questions.check_time.Tie as tie
 
@@ -38,7 +38,7 @@ add-if1-2 c = omega (arith, high (c .before .before .before .before), known (c .
 returns : tie.Need-returns
 returns c =
     let start = c .before .before .before .before .before in
-    late-no (setupOf (start .args .setup)) (start .args .clock) (frame start) (start .args .reading) (start .pre .1) (c .if1 .taken)
+    late-no (start .args .listens) (setupOf (start .args .setup)) (start .args .clock) (frame start) (start .args .reading) (start .pre .1) (c .if1 .taken)
 
 sub-if2 : tie.Need-sub-if2
 sub-if2 c = omega (arith, known (c .before .before .before .before .before) .limits)
@@ -61,44 +61,49 @@ late-left c = c .if1 .left
 returns-2 : tie.Need-returns-2
 returns-2 c =
     let start = c .before .before .before .before .before .before .before in
-    early-no (setupOf (start .args .setup)) (start .args .clock) (frame start) (start .args .reading) (start .pre .1) (late-left (c .before .before)) (omega (arith, leads (c .before)))
+    early-no (start .args .listens) (setupOf (start .args .setup)) (start .args .clock) (frame start) (start .args .reading) (start .pre .1) (late-left (c .before .before)) (omega (arith, leads (c .before)))
 
 early-left : (c : tie.Else2) → c .before .before .before .before .before .before .before .args .reading + frame (c .before .before .before .before .before .before .before) .stamp .c ≤ c .before .before .before .before .before .before .before .args .setup .modulus + (c .before .before .before .before .before .before .before .args .setup .epsilon - 1)
 early-left c = omega (arith, leads (c .before))
 
+returns-3 : tie.Need-returns-3
+returns-3 c =
+    let start = c .before .before .before .before .before .before .before .before in
+    counts-unasked (start .args .listens) (setupOf (start .args .setup)) (start .args .clock) (frame start) (start .args .reading) (start .pre .1) (late-left (c .before .before .before)) (early-left (c .before)) (c .if3 .taken)
+
 counts-part-requires : tie.Need-counts-part-requires
-counts-part-requires c κs = (known (c .before .before .before .before .before .before .before) .limits .epsilon-most, known (c .before .before .before .before .before .before .before) .long)
+counts-part-requires c κs = (known (c .before .before .before .before .before .before .before .before) .limits .epsilon-most, known (c .before .before .before .before .before .before .before .before) .long)
 
 add-from : tie.Need-add-from
 add-from c = search needs
 
 sub-from : tie.Need-sub-from
-sub-from c = omega (arith, high (c .before .before .before .before .before .before .before .before))
+sub-from c = omega (arith, high (c .before .before .before .before .before .before .before .before .before))
 
 cast-counts-at-most : tie.Need-cast-counts-at-most
 cast-counts-at-most c = search needs
 
 sub-counts-at-most : tie.Need-sub-counts-at-most
-sub-counts-at-most c = omega (arith, known (c .before .before .before .before .before .before .before .before .before) .limits)
+sub-counts-at-most c = omega (arith, known (c .before .before .before .before .before .before .before .before .before .before) .limits)
 
 counts-at-most-requires : tie.Need-counts-at-most-requires
 counts-at-most-requires c κs = search needs
 
-counts : (c : tie.After-counts-at-most) → c .counts-at-most .result ≡ atMost (c .before .before .before .before .before .before .before .before .before .before .args .setup .n - 1) (countsFrom (c .before .before .before .before .before .before .before .before .before .before .args .setup .epsilon) (c .before .before .before .before .before .before .before .before .before .before .args .reading) (frame (c .before .before .before .before .before .before .before .before .before .before) .stamp .kn) (c .before .before .before .before .before .before .before .before .before .before .args .setup .modulus))
+counts : (c : tie.After-counts-at-most) → c .counts-at-most .result ≡ atMost (c .before .before .before .before .before .before .before .before .before .before .before .args .setup .n - 1) (countsFrom (c .before .before .before .before .before .before .before .before .before .before .before .args .setup .epsilon) (c .before .before .before .before .before .before .before .before .before .before .before .args .reading) (frame (c .before .before .before .before .before .before .before .before .before .before .before) .stamp .kn) (c .before .before .before .before .before .before .before .before .before .before .before .args .setup .modulus))
 counts c =
-    let start = c .before .before .before .before .before .before .before .before .before .before in
+    let start = c .before .before .before .before .before .before .before .before .before .before .before in
     c .counts-at-most .ensures
     ∙ ap (atMost (start .args .setup .n - 1)) (counts-there (start .args .setup .epsilon) (start .args .reading) (start .args .setup .modulus) (start .args .s .now) (c .before .before .counts-part .result .now) (c .before .before .counts-part .ensures) (omega (arith, high start)))
 
-returns-3 : tie.Need-returns-3
-returns-3 c =
-    let start = c .before .before .before .before .before .before .before .before .before .before .before in
-    counts-no (setupOf (start .args .setup)) (start .args .clock) (frame start) (start .args .reading) (start .pre .1) (late-left (c .before .before .before .before .before .before)) (early-left (c .before .before .before .before)) (sym (counts (c .before)) ∙ not-true (c .before .counts-at-most .result) (c .if3 .taken))
-
 returns-4 : tie.Need-returns-4
 returns-4 c =
-    let start = c .before .before .before .before .before .before .before .before .before .before .before in
-    times-right (setupOf (start .args .setup)) (start .args .clock) (frame start) (start .args .reading) (start .pre .1) (late-left (c .before .before .before .before .before .before)) (early-left (c .before .before .before .before)) (sym (counts (c .before)) ∙ not-false (c .before .counts-at-most .result) (c .if3 .left))
+    let start = c .before .before .before .before .before .before .before .before .before .before .before .before in
+    counts-no (start .args .listens) (setupOf (start .args .setup)) (start .args .clock) (frame start) (start .args .reading) (start .pre .1) (late-left (c .before .before .before .before .before .before .before)) (early-left (c .before .before .before .before .before)) (c .before .before .before .before .if3 .left) (sym (counts (c .before)) ∙ not-true (c .before .counts-at-most .result) (c .if4 .taken))
+
+returns-5 : tie.Need-returns-5
+returns-5 c =
+    let start = c .before .before .before .before .before .before .before .before .before .before .before .before in
+    times-right (start .args .listens) (setupOf (start .args .setup)) (start .args .clock) (frame start) (start .args .reading) (start .pre .1) (late-left (c .before .before .before .before .before .before .before)) (early-left (c .before .before .before .before .before)) (c .before .before .before .before .if3 .left) (sym (counts (c .before)) ∙ not-false (c .before .counts-at-most .result) (c .if4 .left))
 
 pub check-time-spec : {M : Type 1} → statement M
 check-time-spec =
@@ -115,11 +120,12 @@ check-time-spec =
     c-of-requires
     add-if2-2
     returns-2
+    returns-3
     counts-part-requires
     add-from
     sub-from
     cast-counts-at-most
     sub-counts-at-most
     counts-at-most-requires
-    returns-3
-    returns-4)
+    returns-4
+    returns-5)

@@ -46,7 +46,7 @@ check-requires c κs = c .before .before .before .before .pre .0 .limits
 returns : tie.Need-returns
 returns c =
     let start = c .before .before .before .before .before .before in
-    (form-no (setupOf (start .args .setup)) (start .args .clock) (queue start) (start .args .s .now) (c .before .check .result) (c .before .check .ensures) (c .if1 .taken), refused-located)
+    (form-no (start .args .listens) (setupOf (start .args .setup)) (start .args .clock) (queue start) (start .args .s .now) (c .before .check .result) (c .before .check .ensures) (c .if1 .taken), refused-located)
 
 passed : (c : tie.Else1) → firstNo (frameQuestions (setupOf (c .before .before .before .before .before .before .args .setup)) (c .before .before .before .before .before .before .args .s .now)) ≡ 0
 passed c = sym (c .before .check .ensures) ∙ c .if1 .left
@@ -65,16 +65,16 @@ check-time-requires c κs = (readable (c .before), c .reading-of .ensures)
 returns-2 : tie.Need-returns-2
 returns-2 c =
     let start = c .before .before .before .before .before .before .before .before .before in
-    (time-no (setupOf (start .args .setup)) (start .args .clock) (queue start) (start .args .s .now) (passed (c .before .before .before)) (c .before .check-time .result) (c .before .check-time .ensures) (c .if2 .taken), refused-located)
+    (time-no (start .args .listens) (setupOf (start .args .setup)) (start .args .clock) (queue start) (start .args .s .now) (passed (c .before .before .before)) (c .before .check-time .result) (c .before .check-time .ensures) (c .if2 .taken), refused-located)
 
-timely : (c : tie.Else2) → firstNo (timeQuestions (setupOf (c .before .before .before .before .before .before .before .before .before .args .setup)) (c .before .before .before .before .before .before .before .before .before .args .clock) (frame (c .before .before .before .before .before .before .before .before .before))) ≡ 0
+timely : (c : tie.Else2) → firstNo (timeQuestions (c .before .before .before .before .before .before .before .before .before .args .listens) (setupOf (c .before .before .before .before .before .before .before .before .before .args .setup)) (c .before .before .before .before .before .before .before .before .before .args .clock) (frame (c .before .before .before .before .before .before .before .before .before))) ≡ 0
 timely c = sym (c .before .check-time .ensures) ∙ c .if2 .left
 
 placeable : (c : tie.Else2) → Placeable (setupOf (c .before .before .before .before .before .before .before .before .before .args .setup)) (c .before .before .before .before .before .before .before .before .before .args .clock) (frame (c .before .before .before .before .before .before .before .before .before))
 placeable c =
     let start = c .before .before .before .before .before .before .before .before .before in
     late-placeable (setupOf (start .args .setup)) (start .args .clock) (frame start) (given (setupOf (start .args .setup)) (start .args .clock) (start .args .s .now) (readable (c .before .before .before)) .frame)
-    (time-late (setupOf (start .args .setup)) (start .args .clock) (frame start) (timely c))
+    (time-late (start .args .listens) (setupOf (start .args .setup)) (start .args .clock) (frame start) (timely c))
 
 repeats-requires : tie.Need-repeats-requires
 repeats-requires c κs =
@@ -91,7 +91,7 @@ repeated c =
 returns-3 : tie.Need-returns-3
 returns-3 c =
     let start = c .before .before .before .before .before .before .before .before .before .before .before in
-    (repeat-no (setupOf (start .args .setup)) (start .args .clock) (queue start) (start .args .s .now) (passed (c .before .before .before .before .before)) (timely (c .before .before)) (sym (repeated (c .before)) ∙ c .if3 .taken), refused-located)
+    (repeat-no (start .args .listens) (setupOf (start .args .setup)) (start .args .clock) (queue start) (start .args .s .now) (passed (c .before .before .before .before .before)) (timely (c .before .before)) (sym (repeated (c .before)) ∙ c .if3 .taken), refused-located)
 
 cast-depth : tie.Need-cast-depth
 cast-depth c = search needs
@@ -111,7 +111,7 @@ full c = omega (arith, c .before .depth .ensures, long (c .before .before .befor
 returns-4 : tie.Need-returns-4
 returns-4 c =
     let start = c .before .before .before .before .before .before .before .before .before .before .before .before .before .before .before .before in
-    (room-no (setupOf (start .args .setup)) (start .args .clock) (queue start) (start .args .s .now) (passed (c .before .before .before .before .before .before .before .before .before .before)) (timely (c .before .before .before .before .before .before .before)) (sym (repeated (c .before .before .before .before .before .before)) ∙ c .before .before .before .before .before .if3 .left) (full c), refused-located)
+    (room-no (start .args .listens) (setupOf (start .args .setup)) (start .args .clock) (queue start) (start .args .s .now) (passed (c .before .before .before .before .before .before .before .before .before .before)) (timely (c .before .before .before .before .before .before .before)) (sym (repeated (c .before .before .before .before .before .before)) ∙ c .before .before .before .before .before .if3 .left) (full c), refused-located)
 
 room : (c : tie.Else4) → length (queue (c .before .before .before .before .before .before .before .before .before .before .before .before .before .before .before .before)) < depth (c .before .before .before .before .before .before .before .before .before .before .before .before .before .before .before .before .args .setup .n) (c .before .before .before .before .before .before .before .before .before .before .before .before .before .before .before .before .args .setup .epsilon) (c .before .before .before .before .before .before .before .before .before .before .before .before .before .before .before .before .args .setup .delta)
 room c = omega (arith, c .before .depth .ensures, long (c .before .before .before .before .before .before .before .before .before .before .before .before .before .before .before .before))
@@ -119,7 +119,7 @@ room c = omega (arith, c .before .depth .ensures, long (c .before .before .befor
 fit : (c : tie.Else2) → fits (setupOf (c .before .before .before .before .before .before .before .before .before .args .setup)) (c .before .before .before .before .before .before .before .before .before .args .clock) (c .before .before .before .before .before .before .before .before .before .args .setup .modulus) (c .before .before .before .before .before .before .before .before .before .args .s .now) ≡ true
 fit c =
     let start = c .before .before .before .before .before .before .before .before .before in
-    fits-when (setupOf (start .args .setup)) (start .args .clock) (start .args .s .now) (passed (c .before .before .before)) (time-late (setupOf (start .args .setup)) (start .args .clock) (frame start) (timely c)) (time-early (setupOf (start .args .setup)) (start .args .clock) (frame start) (timely c))
+    fits-when (setupOf (start .args .setup)) (start .args .clock) (start .args .s .now) (passed (c .before .before .before)) (time-late (start .args .listens) (setupOf (start .args .setup)) (start .args .clock) (frame start) (timely c)) (time-early (start .args .listens) (setupOf (start .args .setup)) (start .args .clock) (frame start) (timely c))
 
 place-for-requires : tie.Need-place-for-requires
 place-for-requires c κs =
@@ -135,7 +135,7 @@ returns-5 : tie.Need-returns-5
 returns-5 c =
     let start = c .before .before .before .before .before .before .before .before .before .before .before .before .before .before .before .before .before in (
       ap taken (c .place-for .ensures .frames)
-          ∙ all-yes (setupOf (start .args .setup)) (start .args .clock) (queue start) (start .args .s .now) (passed (c .before .before .before .before .before .before .before .before .before .before .before)) (timely (c .before .before .before .before .before .before .before .before)) (sym (repeated (c .before .before .before .before .before .before .before)) ∙ c .before .before .before .before .before .before .if3 .left) (room (c .before)),
+          ∙ all-yes (start .args .listens) (setupOf (start .args .setup)) (start .args .clock) (queue start) (start .args .s .now) (passed (c .before .before .before .before .before .before .before .before .before .before .before)) (timely (c .before .before .before .before .before .before .before .before)) (sym (repeated (c .before .before .before .before .before .before .before)) ∙ c .before .before .before .before .before .before .if3 .left) (room (c .before)),
       taken-located (c .place-for .ensures .starts) (c .before .before .before .before .before .before .before .before .before .before .reading-of .ensures),
     )
 

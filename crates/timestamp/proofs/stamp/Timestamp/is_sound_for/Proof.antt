@@ -7,7 +7,7 @@ use lib.ListN.{length}
 use borrow.Author.Tests.{not-true, not-false}
 use Rattle.model.specs.Timestamp.{soundTimestamp, trimmed}
 use Rattle.timestamp.specs.Views.{stampOf}
-use Rattle.timestamp.proofs.Soundness.{unsound-tables, tables-past, tables-still, tables-far, tables-above}
+use Rattle.timestamp.proofs.Soundness.{unsound-tables, tables-away, tables-above}
 use borrow.Author.Needs.{needs}
 use Rattle.timestamp.proofs.stamp.Timestamp.is_sound_for.Statement.{statement}
 use Rattle.timestamp.proofs.stamp.Timestamp.is_sound_for.Tie as tie
@@ -27,25 +27,13 @@ returns c =
     let start = c .before .before .before in
     unsound-tables _ _ (start .pre .0 .1 .1 .1) (long start) _ _ _ (sym (c .before .is-sound .ensures) ∙ not-true _ (c .if1 .taken))
 
+clock-sound-requires : tie.Need-clock-sound-requires
+clock-sound-requires c κs = search needs
+
 returns-2 : tie.Need-returns-2
 returns-2 c =
-    let start = c .before .before .before .before in
-    tables-past _ _ (start .pre .0 .1 .1 .1) (long start) _ _ _ (sound (c .before)) (c .if2 .taken)
-
-clock-step-requires : tie.Need-clock-step-requires
-clock-step-requires c κs = (c .before .before .before .before .pre .1 .0, (c .if2 .left, c .before .before .before .before .pre .1 .1))
-
-returns-3 : tie.Need-returns-3
-returns-3 c =
-    let start = c .before .before .before .before .before .before in
-    tables-still _ _ (start .pre .0 .1 .1 .1) (long start) _ _ _ (sound (c .before .before .before)) (c .before .before .if2 .left)
-    (rw (← c .before .clock-step .ensures) (c .if3 .taken))
-
-returns-4 : tie.Need-returns-4
-returns-4 c =
-    let start = c .before .before .before .before .before .before .before in
-    tables-far _ _ (start .pre .0 .1 .1 .1) (long start) _ _ _ (sound (c .before .before .before .before)) (c .before .before .before .if2 .left)
-    (rw (← c .before .before .clock-step .ensures) (c .if4 .taken))
+    let start = c .before .before .before .before .before in
+    tables-away _ _ (start .pre .0 .1 .1 .1) (long start) _ _ _ (sound (c .before .before)) (sym (c .before .clock-sound .ensures) ∙ not-true _ (c .if2 .taken))
 
 slice-aggregate-counts-at-most : tie.Need-slice-aggregate-counts-at-most
 slice-aggregate-counts-at-most c = search needs
@@ -60,15 +48,14 @@ sub-counts-at-most : tie.Need-sub-counts-at-most
 sub-counts-at-most c = search needs
 
 counts-at-most-requires : tie.Need-counts-at-most-requires
-counts-at-most-requires c κs = omega (arith, long (c .before .before .before .before .before .before .before .before))
+counts-at-most-requires c κs = omega (arith, long (c .before .before .before .before .before .before))
 
-returns-5 : tie.Need-returns-5
-returns-5 c =
-    let start = c .before .before .before .before .before .before .before .before .before in
-    let stepped = c .before .before .before .before .clock-step .ensures in
+returns-3 : tie.Need-returns-3
+returns-3 c =
+    let start = c .before .before .before .before .before .before .before in
     c .counts-at-most .ensures
-    ∙ tables-above _ _ (start .pre .0 .1 .1 .1) (long start) _ _ _ (sound (c .before .before .before .before .before .before)) (c .before .before .before .before .before .if2 .left)
-    (rw (← stepped) (c .before .before .before .if3 .left)) (rw (← stepped) (c .before .before .if4 .left))
+    ∙ tables-above _ _ (start .pre .0 .1 .1 .1) (long start) _ _ _ (sound (c .before .before .before .before))
+    (sym (c .before .before .before .clock-sound .ensures) ∙ not-false _ (c .before .before .if2 .left))
 
 pub is-sound-for-spec : {M : Type 1} → statement M
 is-sound-for-spec =
@@ -76,13 +63,11 @@ is-sound-for-spec =
     (tie.spec
     is-sound-requires
     returns
+    clock-sound-requires
     returns-2
-    clock-step-requires
-    returns-3
-    returns-4
     slice-aggregate-counts-at-most
     add-counts-at-most
     mul-counts-at-most
     sub-counts-at-most
     counts-at-most-requires
-    returns-5)
+    returns-3)

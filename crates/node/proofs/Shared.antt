@@ -1,0 +1,133 @@
+-- What a node and an observer share of a call, from its parts: what is opened, heard and delivered. Assumes nothing.
+use Prim.Native.Nat.{ℕ, _+_, _*_, _-_, _≤_, _<_}
+use native.Mathlib.Omega.{arith}
+use mathlib.Core.Path.{_≡_, refl, sym, ap, ap₂, _∙_}
+use mathlib.Core.Bool.{Bool, not}
+use mathlib.Core.List.{List, _++_, List·Memᴰ}
+use lib.ListN.{length, length-append}
+use Rattle.laws.specs.Lists.{every, select, joined, overlay}
+use Rattle.laws.proofs.Lists.{mem-of-select, every-map, every-of-mem, length-overlay, joined-append}
+use Rattle.model.specs.Setup.{Setup}
+use Rattle.model.specs.Timestamp.{Timestamp, trimmed, widened}
+use Rattle.model.specs.Frame.{Frame, twoBytes, twoAt, encode, wellFormed}
+use Rattle.model.specs.Batch.{batchEntries}
+use Rattle.model.specs.Holdback.{heldBytes, held, encodeFrames, encodeHoldback}
+use Rattle.model.specs.Judge.{Heard}
+use Rattle.model.specs.Tick.{holdbackSize, openingQueue, dueBefore, dueNow, takenCount}
+use Rattle.lemmas.proofs.Bounds.{Limits, FrameOk}
+use Rattle.lemmas.proofs.Questions.{limits-from}
+use Rattle.lemmas.proofs.RoundTrip.{well-formed-encode, two-at-encode, held-encode, held-frames}
+use Rattle.lemmas.proofs.Queue.{opening-queue, early-few, both-few, depth-small}
+use Rattle.holdback.specs.Queue.{frameStart, Spans}
+use Rattle.holdback.specs.Sound.{Recent}
+use Rattle.holdback.proofs.Placed.{Wide, written-whole}
+use Rattle.node.specs.States.{Timed, earlyOnes, HandedEarly, QueueOpened, heardWith, heardAll, HeardQueue, HeardStamp, absorbedFor, Closing, Delivered, attendedAll, AttendedQueue, AttendedStamp}
+use Rattle.node.proofs.Places.{size-two, frames-long, overlay-hides}
+
+-- more frames are no shorter
+more-longer : (q r : List Frame) → length (encodeFrames q) ≤ length (encodeFrames (q ++ r))
+unfolding encodeFrames twoBytes
+more-longer q r = omega (arith, ap length (joined-append encode q r), length-append (joined encode q) (joined encode r))
+
+-- ---- what is handed out early: sound frames, few, and they stand in the delivery
+
+module _ {s : Setup} {v least : ℕ} {buffer delivery : List ℕ} {index at : ℕ} {delivery₁ : List ℕ} (t : Timed s v) (near : Recent s least)
+    (room : holdbackSize s ≤ length delivery) (h : HandedEarly s v least buffer delivery index at delivery₁) where
+  abbrev early : List Frame
+  early = earlyOnes s v least buffer
+
+  limits : Limits s
+  limits = limits-from s (t .limits)
+
+  early-frames : (f : Frame) → List·Memᴰ f early → FrameOk s f
+  early-frames f m = opening-queue s v least buffer limits .frames f (mem-of-select (dueBefore s v) (openingQueue s v least buffer) m .0)
+
+  early-number : length early ≤ s .n * (2 * s .epsilon - 2)
+  early-number = early-few s v least (openingQueue s v least buffer) limits (t .below) near (opening-queue s v least buffer limits)
+
+  -- none of them is too long for the delivery
+  early-fits : length (encodeFrames early) ≤ length delivery
+  early-fits = omega (arith, frames-long s early limits early-frames (omega (arith, early-number, both-few s)), room)
+
+  early-long : length delivery₁ ≡ length delivery
+  early-long = ap length (h .given) ∙ length-overlay (encodeFrames early) delivery early-fits
+
+  early-small : length early < 65536
+  early-small = omega (arith, early-number, both-few s, depth-small s limits)
+
+  early-held : held (s .epsilon) delivery₁ ≡ early
+  unfolding overlay
+  early-held = ap (held (s .epsilon)) (h .given) ∙ held-frames (s .epsilon) early _ (λ f m. early-frames f m .sound .wide) early-small
+
+  early-spans : Spans (s .epsilon) delivery₁ index at index at
+  unfolding overlay
+  early-spans =
+      let wide : Wide (s .epsilon) early = λ f m. early-frames f m .sound .wide in
+      let count : twoAt delivery₁ 0 ≡ length early = ap (λ (l : List ℕ). twoAt l 0) (h .given) ∙ two-at-encode early _ in
+      let ends : at ≡ frameStart (s .epsilon) delivery₁ index =
+      h .ends ∙ sym (ap₂ (λ (l : List ℕ) (n : ℕ). frameStart (s .epsilon) l n) (h .given) (h .number) ∙ written-whole (s .epsilon) early _ wide) in
+      record {
+        formed =
+            ap (λ (l : List ℕ). every (wellFormed (s .epsilon)) (heldBytes (s .epsilon) l)) (h .given)
+            ∙ ap (every (wellFormed (s .epsilon))) (held-encode (s .epsilon) early _ wide early-small)
+            ∙ (every-map (wellFormed (s .epsilon)) encode early
+            ∙ every-of-mem (λ f. wellFormed (s .epsilon) (encode f)) early (λ f m. well-formed-encode (s .epsilon) f (early-frames f m .sound .wide) (early-frames f m .short)));
+        two = omega (arith, early-long, size-two s (holdbackSize s) refl, room);
+        count-is = h .number ∙ sym count;
+        ends = ends;
+        inside = omega arith;
+        starts = ends;
+      }
+
+  -- and what is due at v behind them
+  delivery-whole : (q : List Frame) {l : List ℕ} → l ≡ overlay (encodeFrames (held (s .epsilon) delivery₁ ++ q)) delivery₁ → l ≡ overlay (encodeFrames (early ++ q)) delivery
+  delivery-whole q e =
+      e ∙ ap₂ (λ (g : List Frame) (d : List ℕ). overlay (encodeFrames (g ++ q)) d) early-held (h .given)
+      ∙ overlay-hides (encodeFrames (early ++ q)) (encodeFrames early) delivery (more-longer early q)
+
+  -- ---- the batch heard with what is left, and what is due at v delivered
+
+  module _ {emptied count₁ stop₁ : ℕ} {buffer₁ table₁ starts₁ : List ℕ} (q : QueueOpened s v least buffer emptied count₁ stop₁ buffer₁ table₁ starts₁) where
+    all : (listens : Bool) (batch : List ℕ) → heardAll listens s v batch buffer₁ ≡ attendedAll listens s v least batch buffer
+    all listens batch = ap (λ (x : List Frame). heardWith listens s v x batch) (q .queue)
+
+    pub attended-stamp : {listens : Bool} {batch : List ℕ} {t₁ t₂ : Timestamp} → HeardStamp listens s v t₁ batch buffer₁ t₂ → AttendedStamp listens s v least t₁ batch buffer t₂
+    attended-stamp {listens} {batch} {t₁} g =
+        record {
+          stamp = g .stamp ∙ ap (λ (y : Heard). widened (absorbedFor listens s v (trimmed (s .epsilon) t₁) (batchEntries batch) (y .verdicts))) (all listens batch);
+        }
+
+    module _ {listens : Bool} {batch verdicts : List ℕ} {took count stop : ℕ} {buffer₂ table₂ starts₂ verdicts₂ : List ℕ}
+        (g : HeardQueue listens s v batch buffer₁ verdicts took count stop buffer₂ table₂ starts₂ verdicts₂) where
+      pub closing : Closing s v count stop index at buffer₂ delivery₁
+      closing =
+          record {
+            timed = t;
+            size = g .queued .size;
+            sound = g .queued .sound;
+            extent = g .extent;
+            room = omega (arith, room, early-long);
+            before = early-spans;
+            few = omega (arith, h .number, early-number);
+          }
+
+      queue-is : held (s .epsilon) buffer₂ ≡ attendedAll listens s v least batch buffer .queue
+      queue-is = g .queue ∙ ap (λ (x : Heard). x .queue) (all listens batch)
+
+      pub attended-queue : {delivered : ℕ} {buffer₃ delivery₃ : List ℕ} → Delivered s v index buffer₂ delivery₁ delivered buffer₃ delivery₃
+          → AttendedQueue listens s v least batch buffer verdicts delivery emptied took delivered buffer₃ verdicts₂ delivery₃
+      attended-queue d =
+          let due : List Frame = select (dueNow s v) (attendedAll listens s v least batch buffer .queue) in
+          record {
+            repaired = q .repaired;
+            taken-is = g .taken-is ∙ ap (λ (x : Heard). takenCount (x .verdicts)) (all listens batch);
+            count-is =
+                d .count-is
+                ∙ ap₂ (λ (n : ℕ) (l : List Frame). n + length (select (dueNow s v) l)) (h .number) queue-is
+                ∙ sym (length-append early due);
+            kept = d .kept ∙ ap (λ (l : List Frame). encodeHoldback (holdbackSize s) (select (λ f. not (dueNow s v f)) l)) queue-is;
+            numbers = g .numbers ∙ ap (λ (x : Heard). overlay (x .verdicts) verdicts) (all listens batch);
+            given =
+                delivery-whole due
+                (d .given ∙ ap (λ (l : List Frame). overlay (encodeFrames (held (s .epsilon) delivery₁ ++ select (dueNow s v) l)) delivery₁) queue-is);
+          }

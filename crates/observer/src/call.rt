@@ -1,0 +1,39 @@
+// The questions of an observer's call.
+use setup::Setup;
+use setup::board_roomy;
+use setup::check_holdback;
+use setup::in_limits;
+ghost use mathlib.Core.Path.{_≡_};
+ghost use Prim.Native.Nat.{ℕ};
+ghost use Rattle.model.specs.Question.{firstNo};
+ghost use Rattle.model.specs.Observer.{listenQuestions};
+ghost use Rattle.observer.specs.Views.{listenInput};
+
+// 02: "It asks 1 without the own number, 2, 3, 5, and 6 without the outgoing buffer". The number of the first no, or 0. The last clock is
+// not asked about.
+pub fn check_listen(
+    setup: Setup,
+    clock: usize,
+    holdback: &[u8],
+    batch: &[u8],
+    verdicts: &[u8],
+    delivery: &[u8],
+) -> u8
+    ensures { λ r. ⌜ ((last : ℕ) → r ≡ firstNo (listenQuestions (listenInput setup clock last (now (holdback .entry)) (now (batch .entry))
+        (now (verdicts .entry)) (now (delivery .entry))))) ⌝ }
+{
+    if !in_limits(setup) {
+        return 1;
+    }
+    let number = check_holdback(setup, clock, holdback);
+    if number != 0 {
+        return number;
+    }
+    if !batch::exact(batch) {
+        return 5;
+    }
+    if !board_roomy(holdback, verdicts, delivery) {
+        return 6;
+    }
+    0
+}

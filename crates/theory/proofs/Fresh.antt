@@ -1,0 +1,202 @@
+-- A fresh start, of stations and observers: the invariant holds with no clock left out, and no older frame is heard.
+-- Assumes nothing.
+use Prim.Native.Nat.{ℕ, _+_, _%_, _≤_}
+use native.Mathlib.Omega.{arith}
+use mathlib.Core.Path.{_≡_, refl, sym, ap, subst}
+use mathlib.Core.Logic.{inl, inr}
+use mathlib.Core.Bool.{Bool, true, false, _&&_, _||_, not, cond}
+use mathlib.Core.List.{List, [], _∷_, List·Memᴰ, List·Memᴰ·not-nil}
+use mathlib.Core.Option.{Option, none, some}
+use lib.Dec.{leb, eqb}
+use lib.ListN.{length, getElem?}
+use borrow.Author.Tests.{le-leb, eqb-true}
+use Rattle.laws.specs.Lists.{every, any, sameList, placedAt}
+use Rattle.laws.proofs.Numbers.{eq-or-ne, clash, and-intro, and-left, and-right, or-cases, false-of-not, not-of-false}
+use Rattle.laws.proofs.Lists.{countOf, index-of-mem, every-mem, every-append-left, every-append-right, sameList-true, mem-select, getElem?-mem, getElem?-lt}
+use Rattle.model.specs.Setup.{Setup, width}
+use Rattle.model.specs.Timestamp.{Timestamp, trimmed, fresh, replaced, countOwn}
+use Rattle.model.specs.Frame.{Frame, twoAt}
+use Rattle.model.specs.Holdback.{cutFrames, heldBytes, held}
+use Rattle.model.specs.Run.{Node, Source, sentBy, stale, Call, Done, World, isAccepted, outputOf, doneOf, act, actOn, runFrom, atStart}
+use Rattle.theory.specs.Premises.{goodStart, sameTimestamp, isFresh, allFresh, isSent, noneStale}
+use Rattle.lemmas.proofs.Bounds.{Limits}
+use Rattle.lemmas.proofs.Counts.{opened-replaced, fresh-own, fresh-left, replaced-count, own-count, own-count-here}
+use Rattle.lemmas.proofs.Queue.{left-none}
+use Rattle.theory.proofs.World.{Memory, Tables, reached, Bounded, heardAt, Group, Good, Legal, EntryOk, act-is}
+use Rattle.theory.proofs.HearLoop.{Settles}
+use Rattle.theory.proofs.Start.{group-start}
+
+pub settles-fresh : (s : Setup) → Settles s 0 0
+settles-fresh s = (omega arith, λ v R h k. omega arith)
+
+-- a station has reached its own clock
+reached-own : (epsilon : ℕ) (nodes : List Node) (i : ℕ) (node : Node) → getElem? nodes i ≡ some node → node .listens ≡ false → 1 ≤ reached epsilon nodes (node .clock + epsilon)
+unfolding reached countOf
+reached-own epsilon nodes i node at station =
+    some-length
+    (mem-select (λ (x : Node). not (x .listens) && leb (node .clock + epsilon) (x .clock + epsilon)) (getElem?-mem nodes i at)
+    (and-intro (not-of-false station) (le-leb (node .clock + epsilon) (node .clock + epsilon) (omega arith))))
+  where
+    some-length : {l : List Node} → List·Memᴰ node l → 1 ≤ length l
+    some-length m = let r = index-of-mem node m in omega (arith, r .1)
+
+-- the test for equal timestamps
+same-timestamp : (t u : Timestamp) → sameTimestamp t u ≡ true → t ≡ u
+unfolding sameTimestamp
+same-timestamp t u h =
+    let h′ = and-right (eqb (t .r) (u .r)) (eqb (t .c) (u .c) && sameList (t .kn) (u .kn)) h in
+    let r-is = eqb-true (t .r) (u .r) (and-left (eqb (t .r) (u .r)) (eqb (t .c) (u .c) && sameList (t .kn) (u .kn)) h) in
+    let c-is = eqb-true (t .c) (u .c) (and-left (eqb (t .c) (u .c)) (sameList (t .kn) (u .kn)) h′) in
+    let kn-is = sameList-true (t .kn) (u .kn) (and-right (eqb (t .c) (u .c)) (sameList (t .kn) (u .kn)) h′) in
+    λ i. record { r = r-is i; c = c-is i; kn = kn-is i }
+
+-- one fresh node: a station's tables, an observer's last clock, and an empty shelf
+pub record FreshNode (s : Setup) (node : Node) : Type 0 where
+  pub tables : node .listens ≡ false → trimmed (s .epsilon) (node .tables) ≡ fresh (s .epsilon) (node .clock % s .modulus)
+  pub last : node .tables .r ≡ node .clock % s .modulus
+  pub empty : twoAt (node .holdback) 0 ≡ 0
+
+fresh-node : (s : Setup) (node : Node) → isFresh s node ≡ true → FreshNode s node
+unfolding isFresh
+fresh-node s node h =
+    let right = cond (node .listens) (eqb (node .tables .r) (node .clock % s .modulus)) (sameTimestamp (trimmed (s .epsilon) (node .tables)) (fresh (s .epsilon) (node .clock % s .modulus))) in
+    let both = go (node .listens) refl (and-left right (eqb (twoAt (node .holdback) 0) 0) h) in
+    record { tables = both .0; last = both .1; empty = eqb-true (twoAt (node .holdback) 0) 0 (and-right right (eqb (twoAt (node .holdback) 0) 0) h) }
+  where
+    stamp : sameTimestamp (trimmed (s .epsilon) (node .tables)) (fresh (s .epsilon) (node .clock % s .modulus)) ≡ true → trimmed (s .epsilon) (node .tables) ≡ fresh (s .epsilon) (node .clock % s .modulus)
+    stamp t = same-timestamp (trimmed (s .epsilon) (node .tables)) (fresh (s .epsilon) (node .clock % s .modulus)) t
+
+    go :
+        (b : Bool) → node .listens ≡ b
+        → cond b (eqb (node .tables .r) (node .clock % s .modulus)) (sameTimestamp (trimmed (s .epsilon) (node .tables)) (fresh (s .epsilon) (node .clock % s .modulus))) ≡ true
+        → (node .listens ≡ false → trimmed (s .epsilon) (node .tables) ≡ fresh (s .epsilon) (node .clock % s .modulus)) × (node .tables .r ≡ node .clock % s .modulus)
+    go true e t = ((λ station. absurd (clash e station)), eqb-true (node .tables .r) (node .clock % s .modulus) t)
+    go false e t = ((λ station. stamp t), unfold trimmed fresh in (ap (λ (x : Timestamp). x .r) (stamp t)))
+
+module _ (s : Setup) (node : Node) (limits : Limits s) (is-fresh : FreshNode s node) where
+  pub queue-empty : held (s .epsilon) (node .holdback) ≡ []
+  unfolding held heldBytes cutFrames
+  queue-empty = rw (is-fresh .empty) refl
+
+  -- its memory is what a call leaves
+  pub memory-fresh : Memory s node
+  memory-fresh =
+      record {
+        r-is = is-fresh .last;
+        passed = unfold heldBytes cutFrames every in (rw (is-fresh .empty) refl);
+        queue = rw queue-empty (left-none s (node .clock % s .modulus) 0);
+      }
+
+  module _ (station : node .listens ≡ false) where
+    tables-fresh : Tables s node
+    tables-fresh = rw (is-fresh .tables station) (fresh-left (s .n) (s .epsilon) (node .clock % s .modulus) (limits .n-pos) (limits .epsilon-pos))
+
+    pub fresh-bounded : (nodes : List Node) (i : ℕ) → getElem? nodes i ≡ some node → Bounded s 0 nodes (node .clock) (fresh (s .epsilon) (node .clock % s .modulus) .kn)
+    fresh-bounded nodes i at w h =
+        rw (fresh-own (s .epsilon) x)
+        (elim (eq-or-ne w (node .clock + s .epsilon)) [
+          | inl e ↦
+              subst (λ (u : ℕ). placedAt (node .clock) (countOwn (s .epsilon) x (replaced (s .epsilon) x) .kn) u ≤ reached (s .epsilon) nodes u) (sym e)
+              (omega (
+                arith,
+                own-count-here (s .epsilon) (node .clock) x (replaced (s .epsilon) x) wide (limits .epsilon-pos),
+                replaced-count (s .epsilon) (node .clock) x (node .clock + s .epsilon),
+                reached-own (s .epsilon) nodes i node at station,
+              ))
+          | inr e ↦
+              omega (
+                arith,
+                own-count (s .epsilon) (node .clock) x (replaced (s .epsilon) x) wide (limits .epsilon-pos) w e,
+                replaced-count (s .epsilon) (node .clock) x w,
+              )
+        ])
+      where
+        x : ℕ
+        x = node .clock % s .modulus
+
+        wide : length (replaced (s .epsilon) x .kn) ≡ width (s .epsilon)
+        wide = opened-replaced (s .n) (s .epsilon) x (limits .n-pos) (limits .epsilon-pos) .wide
+
+-- all of them
+module _ (s : Setup) (nodes : List Node) (start : goodStart s nodes ≡ true) (all-fresh : allFresh s nodes ≡ true) where
+  group : Group s nodes
+  group = group-start s nodes start
+
+  pub fresh-at : (i : ℕ) (node : Node) → getElem? nodes i ≡ some node → FreshNode s node
+  unfolding allFresh
+  fresh-at i node at = fresh-node s node (every-mem (isFresh s) all-fresh (getElem?-mem nodes i at))
+
+  nothing : {A : Type 0} (k : ℕ) (x : A) → _≡_ {A = Option A} (getElem? [] k) (some x) → ⊥
+  nothing {A} k x e = omega (arith, getElem?-lt {A = A} [] k e)
+
+  pub good-fresh : Good s 0 0 (atStart nodes)
+  unfolding atStart heardAt any
+  good-fresh =
+      record {
+        group = group;
+        node = λ i node at.
+            let is-fresh = fresh-at i node at in
+            let limits = group .limits i node at in
+            inr (record {
+              memory = memory-fresh s node limits is-fresh;
+              members = λ f m. absurd (List·Memᴰ·not-nil (subst (λ (l : List Frame). List·Memᴰ f l) (queue-empty s node limits is-fresh) m));
+              waiting = λ k m e. absurd (nothing k m e);
+              stamp = λ station.
+                  record {
+                    tables = tables-fresh s node limits is-fresh station;
+                    bounded = subst (λ (t : Timestamp). Bounded s 0 nodes (node .clock) (t .kn)) (sym (is-fresh .tables station)) (fresh-bounded s node limits is-fresh station nodes i at);
+                    passed-on = λ k d e. absurd (nothing k d e);
+                  };
+            });
+        calls = λ k d e. absurd (nothing k d e);
+        unique = λ k l a b e. absurd (nothing k a e);
+        kinds = λ k d e. absurd (nothing k d e);
+        heard-before = λ i k e. absurd (clash e refl);
+      }
+
+-- without older frames nothing is left out
+sent-entry :
+    (s : Setup) (floor : ℕ) (past : List Done) (nodes : List Node) (v : ℕ) (bytes : List ℕ) (o : Source) → isSent o ≡ true
+    → EntryOk s floor past nodes v bytes o → EntryOk s 0 past nodes v bytes o
+unfolding isSent
+sent-entry s floor past nodes v bytes (sentBy k) h entry = entry
+sent-entry s floor past nodes v bytes stale h entry = absurd (clash h refl)
+
+pub legal-fresh : (s : Setup) (floor : ℕ) (w : World) (call : Call) (node : Node) (v : ℕ) → Legal s floor w call node v → every isSent (call .sources) ≡ true → Legal s 0 w call node v
+legal-fresh s floor w call node v legal all-sent =
+    record {
+      at = legal .at;
+      called = legal .called;
+      together = legal .together;
+      lengths = legal .lengths;
+      entry = λ e bytes o at o-at.
+          sent-entry s floor (w .past) (act w call .nodes) v bytes o (every-mem isSent all-sent (getElem?-mem (call .sources) e o-at))
+          (legal .entry e bytes o at o-at);
+    }
+
+-- nor among the first calls of such a list
+pub none-stale-before : (calls : List Call) (w : World) → noneStale (runFrom w calls .past) ≡ true → noneStale (w .past) ≡ true
+unfolding runFrom
+none-stale-before [] w h = h
+none-stale-before (call ∷ calls) w h = go (getElem? (w .nodes) (call .node)) refl (none-stale-before calls (act w call) h)
+  where
+    go : (o : Option Node) → getElem? (w .nodes) (call .node) ≡ o → noneStale (act w call .past) ≡ true → noneStale (w .past) ≡ true
+    go none e k =
+        let idle : act w call ≡ w = unfold act in (ap (λ (o : Option Node). actOn o w call) e) in
+        subst (λ (y : World). noneStale (y .past) ≡ true) idle k
+    go (some node) e k =
+        unfold noneStale in
+        (every-append-left (λ d. not (isAccepted (d .output)) || every isSent (d .call .sources)) (w .past) (doneOf node call ∷ [])
+        (subst (λ (y : World). noneStale (y .past) ≡ true) (act-is w call node e) k))
+
+-- the entries of the last call
+pub last-sent : (w : World) (call : Call) (node : Node) → getElem? (w .nodes) (call .node) ≡ some node → isAccepted (outputOf node call) ≡ true → noneStale (act w call .past) ≡ true → every isSent (call .sources) ≡ true
+unfolding noneStale every doneOf
+last-sent w call node at acc h =
+    let test : ((not (isAccepted (outputOf node call)) || every isSent (call .sources)) && true) ≡ true =
+    every-append-right (λ d. not (isAccepted (d .output)) || every isSent (d .call .sources)) (w .past) (doneOf node call ∷ [])
+    (subst (λ (y : World). noneStale (y .past) ≡ true) (act-is w call node at) h) in
+    elim (or-cases (not (isAccepted (outputOf node call))) (every isSent (call .sources)) (and-left (not (isAccepted (outputOf node call)) || every isSent (call .sources)) true test)) [
+      | inl q ↦ absurd (clash acc (false-of-not (isAccepted (outputOf node call)) q))
+      | inr q ↦ q
+    ]
