@@ -1,13 +1,16 @@
 -- 02, 2.5: polls, computed from the definitions. n 2, ε 2, δ 1, B 14. Assumes nothing.
 use Prim.Native.Nat.{ℕ}
 use mathlib.Core.Path.{_≡_, refl}
-use mathlib.Core.List.{List, [], _∷_}
+use mathlib.Core.Bool.{false}
+use mathlib.Core.List.{List, [], _∷_, _++_, map}
 use mathlib.Core.Option.{Option, none, some}
+use lib.ListN.{replicate}
 use Rattle.model.proofs.Computing.{computing}
 use Rattle.model.specs.Setup.{Setup}
+use Rattle.model.specs.Timestamp.{Timestamp, widened, fresh}
 use Rattle.model.specs.Frame.{Frame}
 use Rattle.model.specs.Holdback.{encodeHoldback}
-use Rattle.model.specs.Tick.{holdbackSize}
+use Rattle.model.specs.Tick.{Output, holdbackSize, tick}
 use Rattle.model.specs.Poll.{PollAnswer, poll}
 
 abbrev usual : Setup
@@ -47,3 +50,37 @@ pub polls-hold :
     ∷ answer 1 none 0 ∷ answer 2 none 0 ∷ answer 3 none 0 ∷ [])
 unfolding computing
 polls-hold = refl
+
+-- a silent tick of station 0 for a clock, with these tables and this shelf
+abbrev silent : ℕ → Timestamp → List ℕ → Output
+silent clock tables holdback =
+    tick
+    (record {
+      setup = usual;
+      own = 0;
+      clock = clock;
+      tables = tables;
+      holdback = holdback;
+      batch = 0 ∷ [];
+      send = false;
+      payload = [];
+      outgoing = replicate 71 1;
+      verdicts = replicate 255 1;
+      delivery = replicate (holdbackSize usual) 1;
+    })
+
+-- the tick for 4, and those for 5 and for 6 with what it left
+abbrev left : Output
+left = silent 4 (widened (fresh 2 3)) (encodeHoldback (holdbackSize usual) (frame 0 2 ∷ frame 1 2 ∷ frame 0 3 ∷ []))
+
+abbrev after : ℕ → Output
+after clock = silent clock (left .answer .tables) (left .holdback)
+
+-- all three are accepted and take nothing, and the poll at 4 for 1 and for 2 has said how many the later ones hand out
+pub foretold :
+    _≡_ {A = List (List ℕ)}
+    (map (λ (o : Output). o .answer .number ∷ o .answer .taken ∷ o .answer .delivered ∷ []) (left ∷ after 5 ∷ after 6 ∷ [])
+    ++ ((poll usual 0 4 1 (left .holdback) .within ∷ poll usual 0 4 2 (left .holdback) .within ∷ []) ∷ []))
+    ((0 ∷ 0 ∷ 0 ∷ []) ∷ (0 ∷ 0 ∷ 2 ∷ []) ∷ (0 ∷ 0 ∷ 3 ∷ []) ∷ (2 ∷ 3 ∷ []) ∷ [])
+unfolding computing
+foretold = refl
