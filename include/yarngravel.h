@@ -59,7 +59,6 @@ extern "C" {
 #define YARNGRAVEL_EARLY 14u       /* the sum is more than epsilon - 1 past the clock */
 #define YARNGRAVEL_BAD_COUNT 15u   /* a count for this clock or later is above n - 1; an observer does not ask it */
 #define YARNGRAVEL_REPEAT 16u      /* that station and r is on the shelf already */
-#define YARNGRAVEL_FULL 17u        /* the shelf is full */
 
 /* The fields of the answer of a tick or of an observer's call. A refusal is its number alone. */
 static inline unsigned yarngravel_number(uint64_t answer) { return (unsigned)(answer & 0xffu); }
@@ -151,13 +150,12 @@ uint64_t yarngravel_write(uint32_t n, uint32_t epsilon, uint32_t delta, uint32_t
  *   14  early epsilon-1        the sum is further past the clock than this
  *   15  count n-1              a count for the clock or later is above this
  *   16  repeat                 that station and r is on the shelf already
- *   17  full n(delta+3epsilon) so many frames are on the shelf already
  * The limits are written as numbers, as in `4 1 2 late 3`.
  *   bundle    as given to the tick
  *   verdicts  as the tick left them; at least a byte for each frame
  *   text      gets the lines, with no byte 0 after them; at least YARNGRAVEL_LINE bytes for each frame. Bytes beyond the text stay
  *             as they were
- * Refusals: 1, 5, and 6 for a short buffer or for a verdict of one of these frames that is neither 0 nor 10 to 17. With verdicts
+ * Refusals: 1, 5, and 6 for a short buffer or for a verdict of one of these frames that is neither 0 nor 10 to 16. With verdicts
  * that are not these frames' own, the station and r are the bytes in their places, 0 for one that is missing.
  */
 uint64_t yarngravel_words(uint32_t n, uint32_t epsilon, uint32_t delta, uint32_t modulus, uint32_t own,

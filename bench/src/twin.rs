@@ -556,7 +556,7 @@ impl<F: Forms> Group<F> {
         taken
     }
 
-    /// Checks 10 to 17; a frame that passes is queued and counted in.
+    /// Checks 10 to 16; a frame that passes is queued, for which there is always room, and counted in.
     fn judge<O: Owner>(
         &self,
         w: &Window,
@@ -586,9 +586,6 @@ impl<F: Forms> Group<F> {
         let key = self.key(w, ahead);
         if queue.origins.has(&key) {
             return 16;
-        }
-        if queue.count >= self.depth() {
-            return 17;
         }
         self.place::<O>(&key, entry, queue, buf);
         owner.count_in(self, w, ahead);

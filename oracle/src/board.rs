@@ -62,7 +62,7 @@ impl<'a> Board<'a> {
         let found = Holdback::decode(&setup, clock, least, bytes);
         let repair = if found.is_some() { 0 } else { 2 };
         let mut holdback = found.unwrap_or_else(Holdback::empty);
-        let early = if planted(15) { Vec::new() } else { holdback.take_early(&setup) };
+        let early = holdback.take_early(&setup);
         Board { setup, clock, owner, repair, early, holdback }
     }
 
@@ -98,10 +98,7 @@ impl<'a> Board<'a> {
 
     /// Writes what was due before v and what is due at v to the delivery, the rest back to the
     /// queue; how many are delivered.
-    pub fn deliver(mut self, buffers: &mut Buffers) -> u16 {
-        if planted(15) {
-            self.early = self.holdback.take_early(&self.setup);
-        }
+    pub fn deliver(self, buffers: &mut Buffers) -> u16 {
         let (due, rest) = self.holdback.split_due(&self.setup);
         let early = &self.early[..];
         let delivered = if planted(16) { [due, early].concat() } else { [early, due].concat() };
@@ -112,7 +109,8 @@ impl<'a> Board<'a> {
     }
 }
 
-/// Checks 10 to 17 of one frame, for an observer without 15.
+/// Checks 10 to 16 of one frame, for an observer without 15. A frame that passes finds room: no due
+/// clock is before v here, so a node's r has δ + 3ε − 1 values at most.
 pub fn judge<'a>(
     setup: &Setup,
     v: i64,
@@ -127,7 +125,6 @@ pub fn judge<'a>(
         ask(has_possible_counts(setup, &entry), 15)?;
     }
     ask(!holdback.contains(setup, &entry), 16)?;
-    ask(holdback.len() < setup.capacity(), 17)?;
     Ok(entry)
 }
 

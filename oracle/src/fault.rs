@@ -15,7 +15,7 @@
 //! 12. the words say one tick more for check 13
 //! 13. a step of several ticks moves the counts by one offset only
 //! 14. a shelved frame due at the last clock passes as sound
-//! 15. frames due before v leave the queue only after the batch is judged
+//! 15. the words give 17, which no judgement gives, the line of 16
 //! 16. frames due before v are handed out behind those due at v
 //! 17. where the tables are replaced, a shelved frame due one before v passes as sound
 //! 18. a queue of one frame more than its count limit passes as sound

@@ -1,6 +1,6 @@
 //! 02's 2.1: a line of words beside each verdict.
 
-use crate::fault::skew;
+use crate::fault::{planted, skew};
 use crate::{ask, batch, Setup};
 
 /// The most bytes that a line has.
@@ -33,7 +33,7 @@ fn line(setup: &Setup, place: usize, entry: &[u8], number: u8) -> Option<String>
         14 => ("early", vec![epsilon - 1]),
         15 => ("count", vec![n - 1]),
         16 => ("repeat", vec![]),
-        17 => ("full", vec![n * (delta + 3 * epsilon)]),
+        17 if planted(15) => ("repeat", vec![]),
         _ => return None,
     };
     let byte = |at: usize| entry.get(at).copied().unwrap_or(0);

@@ -24,7 +24,7 @@ use Rattle.model.specs.Tick.{holdbackSize, openingQueue, dueBefore, dueNow, ear
 use Rattle.lemmas.proofs.Bounds.{Limits, FrameOk, QueueOk}
 use Rattle.lemmas.proofs.Reading.{step-true}
 use Rattle.lemmas.proofs.RoundTrip.{held-encode, held-holdback, length-holdback}
-use Rattle.lemmas.proofs.Queue.{Places, opening-queue, queue-rest, queue-take, early-few, due-few, both-few, due-sorted, queue-sound, QueueLeft, queue-left, left-later, left-ok, left-room, depth-small}
+use Rattle.lemmas.proofs.Queue.{Places, opening-queue, queue-rest, queue-take, early-few, due-few, both-few, due-sorted, queue-sound, queue-bound, queue-room, QueueLeft, queue-left, left-later, left-ok, left-room, depth-small}
 
 -- one entry, one step of the hearing: the queue stays sound
 pub hearing-one :
@@ -162,6 +162,13 @@ module _ (s : Setup) (v least : ℕ) (asking : Asking) (holdback : List ℕ) (en
     board-heard =
         hearing-all s v asking (openingIn s v boardOpened) entries (board .limits) (board .below) (board .places)
         (queue-rest s v least boardOpened board-opened)
+
+    -- 02, 2.7: so hearing never fills it
+    pub board-bound : length (boardHeard .queue) ≤ s .n * (s .delta + 3 * s .epsilon - 1)
+    board-bound = queue-bound s v (s .modulus) (boardHeard .queue) (board .limits) (board .below) (omega arith) board-heard
+
+    pub board-room : length (boardHeard .queue) < depth (s .n) (s .epsilon) (s .delta)
+    board-room = queue-room s v (s .modulus) (boardHeard .queue) (board .limits) (board .below) (omega arith) board-heard
 
     -- what stays on the queue, at the call's own clock
     pub board-kept : QueueLeft s v 0 boardKept

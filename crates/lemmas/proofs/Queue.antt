@@ -10,7 +10,7 @@ use mathlib.Core.List.{List, [], _∷_, _++_, List·Memᴰ, List·Memᴰ·not-ni
 use lib.Dec.{leb, ltb, eqb}
 use lib.ListN.{length, drop}
 use lib.Seq.{drop-at}
-use borrow.Author.Tests.{le-leb, lt-ltb, eq-eqb, leb-true, ltb-true, ltb-false, eqb-true, eqb-false}
+use borrow.Author.Tests.{le-leb, eq-eqb, leb-true, ltb-true, ltb-false, eqb-true, eqb-false}
 use Rattle.laws.specs.Lists.{any, every, chained, apart, insertAt, select, padded}
 use Rattle.laws.specs.Lex.{lexCompare}
 use Rattle.laws.proofs.Numbers.{clash, and-intro, and-left, and-right, false-of-not, eqb-sym}
@@ -23,7 +23,7 @@ use Rattle.model.specs.Frame.{Frame, encode, decode, twoAt}
 use Rattle.model.specs.Order.{readingOf, countsDown, keyBy, key, keyNear, compareFrames, before, due, dueNear}
 use Rattle.model.specs.Holdback.{sameOrigin, passes, notEarly, notOverdue, heldBytes, held, soundHoldback, encodeFrames, encodeHoldback}
 use Rattle.model.specs.Question.{Question, firstNo}
-use Rattle.model.specs.Judge.{Asking, askLate, askEarly, askCounts, askRepeat, askRoom, placeQuestions, judgeQuestions, observerPlaceQuestions, observerQuestions, placeFor}
+use Rattle.model.specs.Judge.{Asking, askLate, askEarly, askCounts, askRepeat, placeQuestions, judgeQuestions, observerPlaceQuestions, observerQuestions, placeFor}
 use Rattle.model.specs.Tick.{openingQueue, dueBefore, dueNow, holdbackSize}
 use Rattle.lemmas.proofs.Bounds.{Limits, FrameOk, QueueOk}
 use Rattle.lemmas.proofs.Reading.{near-true, near-high, near-later, near-injective}
@@ -113,7 +113,7 @@ passed-new : (queue : List Frame) (f : Frame) (qs : List Question) → firstNo (
 unfolding askRepeat
 passed-new queue f qs e = false-of-not (any (sameOrigin f) queue) (none-no (not (any (sameOrigin f) queue)) 15 qs e .0)
 
--- 10 to 17
+-- 10 to 16
 judged-all :
     (s : Setup) (v : ℕ) (queue : List Frame) (bytes : List ℕ) → Limits s → firstNo (judgeQuestions s v queue bytes) ≡ 0
     → Passed s v queue (decode (s .epsilon) bytes)
@@ -122,9 +122,9 @@ unfolding judgeQuestions placeQuestions askCounts
 judged-all s v queue bytes limits e =
     let f = decode (s .epsilon) bytes in
     let q = frame-passed s bytes (placeQuestions s v queue f) limits e in
-    let t = passed-times s v f (askCounts s v f ∷ askRepeat queue f ∷ askRoom s queue ∷ []) (q .1) in
-    let q15 = none-no (atMost (s .n - 1) (countsFrom (s .epsilon) (readingOf s v f) (f .stamp .kn) (s .modulus))) 14 (askRepeat queue f ∷ askRoom s queue ∷ []) (t .2) in
-    (record { frame = q .0; late = t .0; early = t .1; new = passed-new queue f (askRoom s queue ∷ []) (q15 .1) }, q15 .0)
+    let t = passed-times s v f (askCounts s v f ∷ askRepeat queue f ∷ []) (q .1) in
+    let q15 = none-no (atMost (s .n - 1) (countsFrom (s .epsilon) (readingOf s v f) (f .stamp .kn) (s .modulus))) 14 (askRepeat queue f ∷ []) (t .2) in
+    (record { frame = q .0; late = t .0; early = t .1; new = passed-new queue f [] (q15 .1) }, q15 .0)
 
 pub judged-passed : (s : Setup) (v : ℕ) (queue : List Frame) (bytes : List ℕ) → Limits s → firstNo (judgeQuestions s v queue bytes) ≡ 0 → Passed s v queue (decode (s .epsilon) bytes)
 judged-passed s v queue bytes limits e = judged-all s v queue bytes limits e .0
@@ -141,16 +141,16 @@ unfolding observerQuestions observerPlaceQuestions
 observed-passed s v queue bytes limits e =
     let f = decode (s .epsilon) bytes in
     let q = frame-passed s bytes (observerPlaceQuestions s v queue f) limits e in
-    let t = passed-times s v f (askRepeat queue f ∷ askRoom s queue ∷ []) (q .1) in
-    record { frame = q .0; late = t .0; early = t .1; new = passed-new queue f (askRoom s queue ∷ []) (t .2) }
+    let t = passed-times s v f (askRepeat queue f ∷ []) (q .1) in
+    record { frame = q .0; late = t .0; early = t .1; new = passed-new queue f [] (t .2) }
 
--- and the other way round, where there is room
+-- and the other way round
 pub passed-judged :
     (s : Setup) (v : ℕ) (queue : List Frame) (f : Frame) → Passed s v queue f
     → atMost (s .n - 1) (countsFrom (s .epsilon) (readingOf s v f) (f .stamp .kn) (s .modulus)) ≡ true
-    → length queue < depth (s .n) (s .epsilon) (s .delta) → firstNo (judgeQuestions s v queue (encode f)) ≡ 0
-unfolding judgeQuestions placeQuestions askLate askEarly askCounts askRepeat askRoom firstNo
-passed-judged s v queue f p counts room =
+    → firstNo (judgeQuestions s v queue (encode f)) ≡ 0
+unfolding judgeQuestions placeQuestions askLate askEarly askCounts askRepeat firstNo
+passed-judged s v queue f p counts =
     let d = decode-encode (s .epsilon) f (p .frame .sound .wide) in
     rw (
       frame-passes s f (placeQuestions s v queue (decode (s .epsilon) (encode f))) (p .frame),
@@ -159,12 +159,11 @@ passed-judged s v queue f p counts room =
       p .early,
       counts,
       p .new,
-      lt-ltb (length queue) (depth (s .n) (s .epsilon) (s .delta)) room,
     )
 
-pub passed-observed : (s : Setup) (v : ℕ) (queue : List Frame) (f : Frame) → Passed s v queue f → length queue < depth (s .n) (s .epsilon) (s .delta) → firstNo (observerQuestions s v queue (encode f)) ≡ 0
-unfolding observerQuestions observerPlaceQuestions askLate askEarly askRepeat askRoom firstNo
-passed-observed s v queue f p room =
+pub passed-observed : (s : Setup) (v : ℕ) (queue : List Frame) (f : Frame) → Passed s v queue f → firstNo (observerQuestions s v queue (encode f)) ≡ 0
+unfolding observerQuestions observerPlaceQuestions askLate askEarly askRepeat firstNo
+passed-observed s v queue f p =
     let d = decode-encode (s .epsilon) f (p .frame .sound .wide) in
     rw (
       frame-passes s f (observerPlaceQuestions s v queue (decode (s .epsilon) (encode f))) (p .frame),
@@ -172,12 +171,11 @@ passed-observed s v queue f p room =
       le-leb (s .modulus) (readingOf s v f + (s .delta + s .epsilon)) (p .late),
       p .early,
       p .new,
-      lt-ltb (length queue) (depth (s .n) (s .epsilon) (s .delta)) room,
     )
 
 -- a frame that passes all but 16
 pub repeat-judged : (s : Setup) (v : ℕ) (queue : List Frame) (f : Frame) → FrameOk s f → s .modulus ≤ readingOf s v f + (s .delta + s .epsilon) → notEarly s v f ≡ true → atMost (s .n - 1) (countsFrom (s .epsilon) (readingOf s v f) (f .stamp .kn) (s .modulus)) ≡ true → any (sameOrigin f) queue ≡ true → firstNo (judgeQuestions s v queue (encode f)) ≡ 16
-unfolding judgeQuestions placeQuestions askLate askEarly askCounts askRepeat askRoom firstNo
+unfolding judgeQuestions placeQuestions askLate askEarly askCounts askRepeat firstNo
 repeat-judged s v queue f ok late early counts old =
     let d = decode-encode (s .epsilon) f (ok .sound .wide) in
     rw (
@@ -190,7 +188,7 @@ repeat-judged s v queue f ok late early counts old =
     )
 
 pub repeat-observed : (s : Setup) (v : ℕ) (queue : List Frame) (f : Frame) → FrameOk s f → s .modulus ≤ readingOf s v f + (s .delta + s .epsilon) → notEarly s v f ≡ true → any (sameOrigin f) queue ≡ true → firstNo (observerQuestions s v queue (encode f)) ≡ 16
-unfolding observerQuestions observerPlaceQuestions askLate askEarly askRepeat askRoom firstNo
+unfolding observerQuestions observerPlaceQuestions askLate askEarly askRepeat firstNo
 repeat-observed s v queue f ok late early old =
     let d = decode-encode (s .epsilon) f (ok .sound .wide) in
     rw (
@@ -328,7 +326,7 @@ part-few s v least queue lo m limits below ok low high =
     (ok .single) (λ f g x y e h. reading-origin s v f g limits below (ok .frames f x) (ok .frames g y) e h) (λ f x. ok .frames f x .station-below)
     low high
 
--- 01: n(δ + 3ε − 1) frames at most where none is due before v, so 17 never gets a no
+-- 02, 2.7: n(δ + 3ε − 1) frames at most where none is due before v, so it is never full
 pub queue-bound : (s : Setup) (v least : ℕ) (queue : List Frame) → Limits s → v < s .modulus → s .modulus ≤ least → QueueOk s v least queue → length queue ≤ s .n * (s .delta + 3 * s .epsilon - 1)
 queue-bound s v least queue limits below late ok =
     part-few s v least queue (s .modulus + 1 - (s .delta + 2 * s .epsilon)) (s .delta + 3 * s .epsilon - 1) limits below ok

@@ -13,8 +13,8 @@ use Rattle.model.specs.Timestamp.{Timestamp, sum, widened, near, fresh}
 use Rattle.model.specs.Frame.{Frame, twoAt, encode, decode}
 use Rattle.model.specs.Order.{readingOf, before, decidedAt, dueNear}
 use Rattle.model.specs.Holdback.{heldBytes, held, sameOrigin, passes, notEarly, notOverdue, encodeHoldback}
-use Rattle.model.specs.Judge.{verdictNumber, judgeQuestions, judge}
-use Rattle.model.specs.Tick.{Input, Output, holdbackSize, leastDue, tick}
+use Rattle.model.specs.Judge.{verdictNumber, verdictPlace, judgeQuestions, judge}
+use Rattle.model.specs.Tick.{Input, Output, holdbackSize, leastDue, opening, tick}
 
 -- "n 2, ε 2, δ 1, B 14 unless said"
 abbrev usual : Setup
@@ -220,10 +220,17 @@ lower-six = alone 2 2 ∷ alone 3 1 ∷ alone 4 0 ∷ alone 5 0 ∷ alone 6 0 �
 abbrev upper-three : List Frame
 upper-three = alone 9 0 ∷ alone 10 0 ∷ alone 11 0 ∷ []
 
--- its tick at 9 with a step of 3, with these frames on the shelf and this batch: the mend, how many are taken, how many handed out
+-- its tick at 9 with a step of 3, with these frames on the shelf and this batch
+abbrev crowd : List Frame → List ℕ → Input
+crowd queue batch = call (wide 1) 9 (widened (fresh 3 6)) (encodeHoldback (holdbackSize (wide 1)) queue) false [] batch
+
+-- the mend, how many are taken, how many handed out
 abbrev crowded : List Frame → List ℕ → List ℕ
-crowded queue batch =
-    tallies (tick (call (wide 1) 9 (widened (fresh 3 6)) (encodeHoldback (holdbackSize (wide 1)) queue) false [] batch))
+crowded queue batch = tallies (tick (crowd queue batch))
+
+-- the frames on the shelf when that tick judges its first frame
+abbrev met : List Frame → List Frame
+met queue = opening (crowd queue silent) .queue
 
 -- the mend of such a tick, and the clauses of "It is sound if" that the shelf meets (1) or not (0): at most n(δ + 3ε) frames;
 -- 10 to 12; in order; no station and r twice; each sum not past v + ε − 1; each due clock past the clock of the tables
@@ -270,11 +277,20 @@ queues =
     ∷ says (holding 4 6 (A ∷ L ∷ []) .answer .delivered ∷ map (λ f. f .stamp .r) (held 2 (holding 4 6 (A ∷ L ∷ []) .delivery))) (2 ∷ 2 ∷ 3 ∷ [])
     -- "When the tables themselves are replaced, no due clock before v is accepted"
     ∷ says (mended (holding 3 6 (A ∷ [])) ++ mended (holding 3 6 (L ∷ []))) (3 ∷ 0 ∷ 0 ∷ 0 ∷ 1 ∷ 0 ∷ 0 ∷ 1 ∷ 0 ∷ 0 ∷ 0 ∷ 1 ∷ 0 ∷ 0 ∷ [])
-    -- "Frames whose due clock lies before v go out before the bundle is judged": a shelf of nine
-    -- leaves room for one that is heard. (A repeat of one of them gets 13 before 16, so 17 alone shows this.)
+    -- "at most n(δ + 3ε) frames": nine, and one that is heard
     ∷ says (crowded (lower-six ++ upper-three) (one (encode (alone 8 0)))) (0 ∷ 1 ∷ 5 ∷ [])
-    -- "at most n(δ + 3ε) frames": one more, in a shelf that meets every other clause
+    -- one more, in a shelf that meets every other clause
     ∷ says (crowded (lower-six ++ (alone 8 0 ∷ upper-three)) silent) (2 ∷ 0 ∷ 0 ∷ [])
+    -- "Frames whose due clock lies before v go out before the bundle is judged": of nine five are left, of which two come before the one
+    -- that is heard. (A repeat of one that went out gets 13 before 16, so the place alone shows this.)
+    ∷ says
+    (length (met (lower-six ++ upper-three))
+    ∷ verdictPlace (judge (wide 1) 9 (judgeQuestions (wide 1) 9) (met (lower-six ++ upper-three)) (encode (alone 8 0))) ∷ [])
+    (5 ∷ 2 ∷ [])
+    -- 02, 2.7: with r from 4 to 11 none is due before 9: n(δ + 3ε − 1) frames, and never more when a frame is judged
+    ∷ says (length (met (alone 4 2 ∷ alone 5 1 ∷ alone 6 0 ∷ alone 7 0 ∷ alone 8 0 ∷ upper-three)) ∷ []) (8 ∷ [])
+    -- "The shelf keeps its length": 2 + (39 + 2 × 2) × 2 × (1 + 3 × 2)
+    ∷ says (holdbackSize usual ∷ []) (604 ∷ [])
     -- mend 1: tables of another clock are replaced, and a sound shelf stays: A is still there. Mend, c, counts, the shelf's count
     ∷ says (mended (holding 3 1 (A ∷ []))) (1 ∷ 0 ∷ 0 ∷ 0 ∷ 1 ∷ 0 ∷ 1 ∷ [])
     -- mend 2: an unsound shelf is emptied, and sound tables keep their counts, one offset further down

@@ -2,10 +2,9 @@
 use Prim.Native.Nat.{ℕ, zero, suc, _+_, _-_}
 use mathlib.Core.Bool.{not}
 use mathlib.Core.List.{List, [], _∷_, _++_}
-use lib.Dec.{leb, ltb}
-use lib.ListN.{length}
+use lib.Dec.{leb}
 use Rattle.laws.specs.Lists.{any, leading, insertAt}
-use Rattle.model.specs.Setup.{Setup, depthOf}
+use Rattle.model.specs.Setup.{Setup}
 use Rattle.model.specs.Timestamp.{Timestamp, countsFrom, atMost, absorb}
 use Rattle.model.specs.Frame.{Frame, decode}
 use Rattle.model.specs.Order.{readingOf, before}
@@ -28,21 +27,17 @@ askCounts s v f = ask (atMost (s .n - 1) (countsFrom (s .epsilon) (readingOf s v
 unfoldable pub askRepeat : List Frame → Frame → Question
 askRepeat queue f = ask (not (any (sameOrigin f) queue)) 16
 
--- 01, 17: "Are fewer than n(δ + 3ε) frames shelved?"
-unfoldable pub askRoom : Setup → List Frame → Question
-askRoom s queue = ask (ltb (length queue) (depthOf s)) 17
-
--- 01: 13 to 17
+-- 01: 13 to 16. 02, 2.7: "17 leaves the questions"
 unfoldable pub placeQuestions : Setup → ℕ → List Frame → Frame → List Question
-placeQuestions s v queue f = askLate s v f ∷ askEarly s v f ∷ askCounts s v f ∷ askRepeat queue f ∷ askRoom s queue ∷ []
+placeQuestions s v queue f = askLate s v f ∷ askEarly s v f ∷ askCounts s v f ∷ askRepeat queue f ∷ []
 
--- 01: "Of each frame, in order": 10 to 17
+-- 01: "Of each frame, in order": 10 to 16
 unfoldable pub judgeQuestions : Setup → ℕ → List Frame → List ℕ → List Question
 judgeQuestions s v queue bytes = frameQuestions s bytes ++ placeQuestions s v queue (decode (s .epsilon) bytes)
 
--- 02, 2.6: "It judges frames by 10 to 14, 16 and 17, not 15: all n stations may be ahead of it"
+-- 02, 2.6: "It judges frames by 10 to 14, 16 and 17, not 15: all n stations may be ahead of it"; with 2.7 not by 17 either
 unfoldable pub observerPlaceQuestions : Setup → ℕ → List Frame → Frame → List Question
-observerPlaceQuestions s v queue f = askLate s v f ∷ askEarly s v f ∷ askRepeat queue f ∷ askRoom s queue ∷ []
+observerPlaceQuestions s v queue f = askLate s v f ∷ askEarly s v f ∷ askRepeat queue f ∷ []
 
 unfoldable pub observerQuestions : Setup → ℕ → List Frame → List ℕ → List Question
 observerQuestions s v queue bytes = frameQuestions s bytes ++ observerPlaceQuestions s v queue (decode (s .epsilon) bytes)

@@ -1,20 +1,20 @@
 -- One frame's verdict by the number of its first no, as the code finds it. Assumes nothing.
-use Prim.Native.Nat.{ℕ, zero, suc, _+_, _≤_, _<_}
+use Prim.Native.Nat.{ℕ, zero, suc, _+_, _≤_}
 use native.Mathlib.Omega.{arith}
 use mathlib.Core.Path.{_≡_, refl, sym, ap, _∙_}
 use mathlib.Core.Bool.{Bool, true, false, cond}
 use mathlib.Core.List.{List, [], _∷_, _++_}
 use lib.Dec.{leb, ltb, eqb}
-use lib.ListN.{length, getD}
-use borrow.Author.Tests.{lt-ltb, le-ltb, leb-true, eq-eqb}
+use lib.ListN.{getD}
+use borrow.Author.Tests.{leb-true, eq-eqb}
 use Rattle.laws.specs.Lists.{any, every}
 use Rattle.laws.proofs.Numbers.{and-intro}
-use Rattle.model.specs.Setup.{Setup, depth}
+use Rattle.model.specs.Setup.{Setup}
 use Rattle.model.specs.Frame.{Frame, decode}
 use Rattle.model.specs.Order.{readingOf}
 use Rattle.model.specs.Question.{Question, firstNo, frameQuestions, askForm, askRange, askStamp}
 use Rattle.model.specs.Holdback.{held, passes, sameOrigin, notEarly}
-use Rattle.model.specs.Judge.{Asking, Verdict, taken, refused, verdictNumber, verdictPlace, verdictBy, judge, judgeQuestions, placeQuestions, observerQuestions, observerPlaceQuestions, askLate, askEarly, askCounts, askRepeat, askRoom, placeFor}
+use Rattle.model.specs.Judge.{Asking, Verdict, taken, refused, verdictNumber, verdictPlace, verdictBy, judge, judgeQuestions, placeQuestions, observerQuestions, observerPlaceQuestions, askLate, askEarly, askCounts, askRepeat, placeFor}
 use Rattle.lemmas.proofs.Bounds.{Limits, FrameOk, QueueOk}
 use Rattle.lemmas.proofs.Questions.{limits-from, first-yes, other-yes, no-append, yes-append, front-append}
 use Rattle.lemmas.proofs.Queue.{InWindow, Passed, judged-passed, observed-passed, sound-queue, queue-window, overdue-to}
@@ -28,12 +28,12 @@ use Rattle.node.specs.declared.verdict.Verdict.the-variants.{Taken, Refu
 use Rattle.node.specs.Views.{verdictOf, Located, questionsFor, timeQuestions}
 use Rattle.node.specs.States.{Timed, Readable, Queued}
 
--- ---- the questions, as the code asks them: 10 to 12, 13 to 15, 16 and 17
+-- ---- the questions, as the code asks them: 10 to 12, 13 to 15, and 16
 
 asked-is :
     (listens : Bool) (s : Setup) (v : ℕ) (queue : List Frame) (bytes : List ℕ)
     → questionsFor listens s v queue bytes
-    ≡ frameQuestions s bytes ++ (timeQuestions listens s v (decode (s .epsilon) bytes) ++ (askRepeat queue (decode (s .epsilon) bytes) ∷ askRoom s queue ∷ []))
+    ≡ frameQuestions s bytes ++ (timeQuestions listens s v (decode (s .epsilon) bytes) ++ (askRepeat queue (decode (s .epsilon) bytes) ∷ []))
 unfolding questionsFor judgeQuestions observerQuestions placeQuestions observerPlaceQuestions timeQuestions
 asked-is true s v queue bytes = refl
 asked-is false s v queue bytes = refl
@@ -53,9 +53,9 @@ module _ (listens : Bool) (s : Setup) (v : ℕ) (queue : List Frame) (bytes : Li
   abbrev f : Frame
   f = decode (s .epsilon) bytes
 
-  -- 16 and 17
+  -- 16
   abbrev last : List Question
-  last = askRepeat queue f ∷ askRoom s queue ∷ []
+  last = askRepeat queue f ∷ []
 
   judge-by : (k : ℕ) → firstNo (questionsFor listens s v queue bytes) ≡ k → judge s v (questionsFor listens s v) queue bytes ≡ verdictBy k (placeFor s v queue f)
   unfolding judge
@@ -85,19 +85,9 @@ module _ (listens : Bool) (s : Setup) (v : ℕ) (queue : List Frame) (bytes : Li
       unfolding askRepeat firstNo
       repeat-no h = refused-by 16 (λ e. let z : _≡_ {A = ℕ} 16 0 = e in omega arith) (sym (from-repeat ∙ rw h))
 
-      module _ (new : any (sameOrigin f) queue ≡ false) where
-        from-room : firstNo (questionsFor listens s v queue bytes) ≡ firstNo (askRoom s queue ∷ [])
-        unfolding askRepeat firstNo
-        from-room = from-repeat ∙ rw new
-
-        pub room-no : depth (s .n) (s .epsilon) (s .delta) ≤ length queue → refused 17 ≡ judge s v (questionsFor listens s v) queue bytes
-        unfolding askRoom firstNo
-        room-no h =
-            refused-by 17 (λ e. let z : _≡_ {A = ℕ} 17 0 = e in omega arith) (sym (from-room ∙ rw (le-ltb (length queue) (depth (s .n) (s .epsilon) (s .delta)) h)))
-
-        pub all-yes : length queue < depth (s .n) (s .epsilon) (s .delta) → taken (placeFor s v queue f) ≡ judge s v (questionsFor listens s v) queue bytes
-        unfolding askRoom firstNo
-        all-yes h = sym (judge-by 0 (from-room ∙ rw (lt-ltb (length queue) (depth (s .n) (s .epsilon) (s .delta)) h)))
+      pub all-yes : any (sameOrigin f) queue ≡ false → taken (placeFor s v queue f) ≡ judge s v (questionsFor listens s v) queue bytes
+      unfolding askRepeat firstNo
+      all-yes new = sym (judge-by 0 (from-repeat ∙ rw new))
 
 -- and the other way round
 verdict-taken : (k place place′ : ℕ) → verdictBy k place ≡ taken place′ → (k ≡ 0) × (place ≡ place′)
@@ -160,7 +150,7 @@ asked-form listens s v queue bytes e =
     f = decode (s .epsilon) bytes
 
     last : List Question
-    last = askRepeat queue f ∷ askRoom s queue ∷ []
+    last = askRepeat queue f ∷ []
 
 pub taken-readable : (listens : Bool) (s : Setup) (v : ℕ) (queue : List Frame) (bytes : List ℕ) (place : ℕ) → Timed s v → judge s v (questionsFor listens s v) queue bytes ≡ taken place → Readable s v bytes
 taken-readable listens s v queue bytes place t e =

@@ -47,7 +47,7 @@ pub record Located (s : setups.Setup) (v : ℕ) (buffer bytes : List ℕ) (r : V
   pub stands : (placed : Placed) → r ≡ Taken placed → placed .place .at ≡ frameStart (s .epsilon) buffer (placed .place .index)
   pub reads : (placed : Placed) → r ≡ Taken placed → placed .reading ≡ readingOf s v (decode (s .epsilon) bytes)
 
--- what is asked of a frame: 10 to 17. 02, 2.6: "not 15" of one that only listens
+-- what is asked of a frame: 10 to 16. 02, 2.6: "not 15" of one that only listens
 unfoldable pub questionsFor : Bool → setups.Setup → ℕ → Asking
 questionsFor listens s v = cond listens (observerQuestions s v) (judgeQuestions s v)
 

@@ -1,4 +1,4 @@
-// 01, "Of each frame, in order": questions 10 to 17, and the verdict.
+// 01, "Of each frame, in order": questions 10 to 16, and the verdict.
 use crate::verdict::Placed;
 use crate::verdict::Verdict;
 use frame::c_of;
@@ -8,7 +8,6 @@ use holdback::place_for;
 use holdback::reading_of;
 use holdback::repeats;
 use setup::Setup;
-use setup::depth;
 use timestamp::counts_at_most;
 ghost use mathlib.Core.Path.{_≡_};
 ghost use Rattle.model.specs.Frame.{twoAt, decode};
@@ -74,15 +73,6 @@ pub fn judge(
     }
     if repeats(setup, clock, s, reading, seen) {
         return Verdict::Refused(16);
-    }
-    if depth(
-        setup.n as usize,
-        setup.epsilon as usize,
-        setup.delta as usize,
-    )
-        <= count
-    {
-        return Verdict::Refused(17);
     }
     let place = place_for(setup, clock, holdback, count, starts, s, reading);
     Verdict::Taken(Placed { place, reading })

@@ -1,16 +1,32 @@
 -- Demand 2 from any state: verdicts, figures and bounds of every accepted call, a station's and an observer's.
 -- Assumes nothing.
-use Prim.Native.Nat.{_+_}
+use Prim.Native.Nat.{ℕ, _+_}
 use mathlib.Core.Path.{_≡_, ap, _∙_, sym}
 use mathlib.Core.Bool.{cond}
-use lib.ListN.{length}
+use mathlib.Core.List.{List}
+use lib.ListN.{length, take}
+use Rattle.model.specs.Setup.{Setup}
 use Rattle.model.specs.Timestamp.{trimmed, soundClock, soundTables}
+use Rattle.model.specs.Batch.{batchEntries}
 use Rattle.model.specs.Holdback.{soundHoldback}
-use Rattle.model.specs.Tick.{Input, Output, tablesSound, leastDue, shelfSound, repairOf, heardOf, deliveredOf, takenCount, acceptance, tick}
-use Rattle.model.specs.Observer.{Listening, Listened, lastSound, observerLeast, observerRepair, observerHeard, observerDelivered, listened, listen}
+use Rattle.model.specs.Judge.{Asking, judgeQuestions, observerQuestions}
+use Rattle.model.specs.Tick.{Input, Output, tablesSound, leastDue, shelfSound, repairOf, openedQueue, heardOf, deliveredOf, takenCount, acceptance, tick}
+use Rattle.model.specs.Observer.{Listening, Listened, lastSound, observerLeast, observerRepair, observerOpened, observerHeard, observerDelivered, listened, listen}
+use Rattle.theory.specs.NeverFull.{NeverFull}
 use Rattle.theory.specs.Demand2.{heardBefore, Demand2Any, observedBefore, Demand2Observer}
-use Rattle.lemmas.proofs.OneTick.{Accepted, accepted-call, tables-next, shelf-sound, verdict-byte, verdicts-front, sent-is, delivered-bytes, sent-bytes}
-use Rattle.lemmas.proofs.OneListening.{Heeded, listen-accepted, last-is, last-next, listen-shelf, listen-bytes, listen-verdict, listen-front}
+use Rattle.lemmas.proofs.Board.{Board, boardHeard, board-bound, board-room}
+use Rattle.lemmas.proofs.OneTick.{Accepted, accepted-call, tick-board, tables-next, shelf-sound, verdict-byte, verdicts-front, sent-is, delivered-bytes, sent-bytes}
+use Rattle.lemmas.proofs.OneListening.{Heeded, listen-accepted, listen-board, last-is, last-next, listen-shelf, listen-bytes, listen-verdict, listen-front}
+
+-- 02, 2.7: by whatever is asked, the queue before each entry is never full
+never-full :
+    (s : Setup) (v least : ℕ) (asking : Asking) (holdback : List ℕ) (entries : List (List ℕ)) → Board s v least asking
+    → NeverFull s (λ k. boardHeard s v least asking holdback (take k entries))
+never-full s v least asking holdback entries board =
+    record {
+      spare = λ k. board-room s v least asking holdback (take k entries) board;
+      most = λ k. board-bound s v least asking holdback (take k entries) board;
+    }
 
 taken-is : (i : Input) → Accepted i → tick i .answer .taken ≡ takenCount (heardOf i .verdicts)
 unfolding acceptance
@@ -29,7 +45,7 @@ unfolding acceptance
 delivered-is i a = ap (λ (o : Output). o .answer .delivered) (a .accepted)
 
 pub demand2-any : Demand2Any
-unfolding heardBefore tablesSound
+unfolding heardBefore tablesSound openedQueue
 demand2-any i h =
     let a = accepted-call i h in
     record {
@@ -42,6 +58,9 @@ demand2-any i h =
       outgoing = sent-bytes i a;
       bounded = λ k pos few. tables-next i k a pos few;
       boundedQueue = λ k pos few. shelf-sound i k a few;
+      neverFull =
+          never-full (i .setup) (i .clock) (leastDue (i .setup) (i .clock) (i .tables)) (judgeQuestions (i .setup) (i .clock)) (i .holdback)
+          (batchEntries (i .batch)) (tick-board i a);
     }
 
 -- 02, 2.6: an observer's
@@ -62,7 +81,7 @@ unfolding listened
 delivered-listened i a = ap (λ (o : Listened). o .delivered) (a .accepted)
 
 pub demand2-observer : Demand2Observer
-unfolding observedBefore
+unfolding observedBefore observerOpened
 demand2-observer i h =
     let a = listen-accepted i h in
     record {
@@ -74,4 +93,7 @@ demand2-observer i h =
       last = last-is i a;
       bounded = λ k pos few. last-next i k a pos few;
       boundedQueue = λ k pos few. listen-shelf i k a few;
+      neverFull =
+          never-full (i .setup) (i .clock) (observerLeast i) (observerQuestions (i .setup) (i .clock)) (i .holdback) (batchEntries (i .batch))
+          (listen-board i a);
     }

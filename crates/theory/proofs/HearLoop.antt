@@ -27,7 +27,7 @@ use Rattle.theory.specs.Demand3.{covered, isFrom}
 use Rattle.lemmas.proofs.Bounds.{Limits, QueueOk}
 use Rattle.lemmas.proofs.Counts.{count-moved, sound-top, at-most-past-to, absorb-wide}
 use Rattle.lemmas.proofs.RoundTrip.{decode-encode}
-use Rattle.lemmas.proofs.Queue.{early-from, early-to, reading-high, Passed, Places, judged-passed, passed-judged, repeat-judged, observed-passed, passed-observed, repeat-observed, queue-take, queue-room}
+use Rattle.lemmas.proofs.Queue.{early-from, early-to, reading-high, Passed, Places, judged-passed, passed-judged, repeat-judged, observed-passed, passed-observed, repeat-observed, queue-take}
 use Rattle.lemmas.proofs.OneTick.{Absorbing, absorbing-one}
 use Rattle.theory.proofs.Event.{event-reads}
 use Rattle.theory.proofs.Stamps.{early-bounded, absorb-bounded, absorb-under, under-absorb}
@@ -197,7 +197,7 @@ module _ (s : Setup) (floor from : ℕ) (settles : Settles s floor from) (nodes 
         (heard : ℕ → Bool) (queue : List Frame) → QueueLoop s from past v heard queue → (k : ℕ) (m : Done) → Arrival s floor nodes past v k m
         → covered from m ≡ true → firstNo (asking queue (messageBytes m)) ≡ cond (heard k) 16 0
 
-  -- 10 to 17 are such questions, where 15 can be answered
+  -- 10 to 16 are such questions, where 15 can be answered
   module _ (unreached : Unreached s nodes v) where
     -- 15
     pub arrival-room :
@@ -231,7 +231,6 @@ module _ (s : Setup) (floor from : ℕ) (settles : Settles s floor from) (nodes 
             (any-of-mem (sameOrigin (eventFrame s m)) (loop .present k m (a .at) f e (arrival-undue k m a)) (same-self (eventFrame s m)))
         go false e =
             passed-judged s (v % s .modulus) queue (eventFrame s m) (arrival-passes heard queue (loop .members) k m a f e) (arrival-room k m a f)
-            (queue-room s (v % s .modulus) (s .modulus) queue (around .limits) arrival-below (omega arith) (loop .sound))
 
     pub judged-once : TakesOnce (judgeQuestions s (v % s .modulus))
     judged-once = record { places = λ queue bytes e. judged-passed s (v % s .modulus) queue bytes (around .limits) e; verdict = loop-verdict }
@@ -248,7 +247,6 @@ module _ (s : Setup) (floor from : ℕ) (settles : Settles s floor from) (nodes 
           (any-of-mem (sameOrigin (eventFrame s m)) (loop .present k m (a .at) f e (arrival-undue k m a)) (same-self (eventFrame s m)))
       go false e =
           passed-observed s (v % s .modulus) queue (eventFrame s m) (arrival-passes heard queue (loop .members) k m a f e)
-          (queue-room s (v % s .modulus) (s .modulus) queue (around .limits) arrival-below (omega arith) (loop .sound))
 
   pub observed-once : TakesOnce (observerQuestions s (v % s .modulus))
   observed-once = record { places = λ queue bytes e. observed-passed s (v % s .modulus) queue bytes (around .limits) e; verdict = observed-verdict }

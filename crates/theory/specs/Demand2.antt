@@ -19,6 +19,7 @@ use Rattle.model.specs.Tick.{Input, holdbackSize, leastDue, opening, openingIn,
 use Rattle.model.specs.Observer.{Listening, observerLeast, observerOpened, observerDelivered, listen}
 use Rattle.model.specs.Published.{Event, Message, Process, Condition, deliverable, deliverableBy, inOrder, sameMessage, newOnes, eventOf, messageOf, deliveredAt, advanced, started}
 use Rattle.model.specs.Run.{Node, Source, sentBy, stale, Call, Done, isEvent, runFrom, atStart}
+use Rattle.theory.specs.NeverFull.{NeverFull}
 use Rattle.theory.specs.Premises.{goodStart, largestClock, keeps, allFresh, noneStale, stepsOfOne}
 
 -- what a tick has heard before its entry k
@@ -54,6 +55,8 @@ pub record AnyState (i : Input) : Type 0 where
   pub boundedQueue :
       (k : ℕ) → 1 ≤ k → k ≤ i .setup .epsilon
       → soundHoldback (i .setup) ((i .clock + k) % i .setup .modulus) (i .setup .modulus + 1 - k) (tick i .holdback) ≡ true
+  -- 02, 2.7: it has a place for every frame that is judged
+  pub neverFull : NeverFull (i .setup) (heardBefore i)
 
 -- Demand 2 from any state, of every accepted call
 abbrev pub Demand2Any : Type 0
@@ -86,6 +89,7 @@ pub record AnyObserver (i : Listening) : Type 0 where
   pub boundedQueue :
       (k : ℕ) → 1 ≤ k → k ≤ i .setup .epsilon
       → soundHoldback (i .setup) ((i .clock + k) % i .setup .modulus) (i .setup .modulus + 1 - k) (listen i .holdback) ≡ true
+  pub neverFull : NeverFull (i .setup) (observedBefore i)
 
 -- of every accepted call of an observer
 abbrev pub Demand2Observer : Type 0

@@ -1,4 +1,5 @@
 pub mod Premises
+pub mod NeverFull
 pub mod Demand1
 pub mod Demand2
 pub mod Demand3

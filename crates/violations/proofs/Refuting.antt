@@ -12,22 +12,25 @@ use mathlib.Core.List.{List·Memᴰ, List·Memᴰ·not-nil, List·Memᴰ·cases-
 use mathlib.Core.Option.{Option, none, some}
 use lib.Dec.{ltb, eqb}
 use lib.ListN.{take, getD, getElem?}
-use borrow.Author.Tests.{eqb-true, eq-eqb, ltb-true}
+use borrow.Author.Tests.{eqb-true, eq-eqb, ltb-true, lt-ltb, le-leb}
 use Rattle.laws.specs.Lists.{any}
 use Rattle.laws.proofs.Numbers.{true-or-false, clash, and-intro, and-left, and-right, or-cases, cond-true, cond-false}
 use Rattle.laws.proofs.Lists.{every-of-mem, every-tab, any-mem, mem-getElem?, sameList-refl, sameList-eq}
 use Rattle.model.specs.Setup.{Setup}
 use Rattle.model.specs.Timestamp.{Timestamp}
+use Rattle.model.specs.Batch.{batchEntries}
+use Rattle.model.specs.Judge.{Heard}
 use Rattle.model.specs.Published.{Condition, deliverable, deliverableBy}
 use Rattle.model.specs.Tick.{Input, tick}
 use Rattle.model.specs.Observer.{Listening, listen}
 use Rattle.model.specs.Run.{Node, Source, sentBy, stale, Call, Done, isAccepted, isEvent, runFrom, atStart}
+use Rattle.theory.specs.NeverFull.{NeverFull}
 use Rattle.theory.specs.Premises.{goodStart, largestClock, keeps, sameTimestamp, allFresh, noneStale, stepsOfOne}
-use Rattle.theory.specs.Demand2.{AnyState, Demand2Any, AnyObserver, Demand2Observer, Published, Outcome, outcomeOf, publish, publishAll, publishedStart, SameAs, Matched, Demand2Fresh, Demand2Ones}
+use Rattle.theory.specs.Demand2.{heardBefore, AnyState, Demand2Any, observedBefore, AnyObserver, Demand2Observer, Published, Outcome, outcomeOf, publish, publishAll, publishedStart, SameAs, Matched, Demand2Fresh, Demand2Ones}
 use Rattle.theory.specs.Demand3.{coveredFrom, covered, isFrom, Leads, later, takes, on, Promised, Demand3, Demand3Fresh}
 use Rattle.violations.specs.Tests.{everyFrom, anyFrom, implies, sameFrames, sendsRight, sendingTest, verdictRight, entryRight, hearingTest, deliversRight, deliveringTest, laterThan, takesFrom, stepTo, causesRight, causalityTest}
-use Rattle.violations.specs.Tests.{verdictTest, takenTest, deliveredTest, deliveryTest, sentTest, outgoingTest, repairTest, everyStep, boundedTest, boundedQueueTest}
-use Rattle.violations.specs.Tests.{observedTest, observerTakenTest, observerDeliveredTest, observerDeliveryTest, observerRepairTest, lastTest, lastBoundedTest, observerQueueTest}
+use Rattle.violations.specs.Tests.{verdictTest, takenTest, deliveredTest, deliveryTest, sentTest, outgoingTest, repairTest, everyStep, boundedTest, boundedQueueTest, roomBefore, neverFullTest}
+use Rattle.violations.specs.Tests.{observedTest, observerTakenTest, observerDeliveredTest, observerDeliveryTest, observerRepairTest, lastTest, lastBoundedTest, observerQueueTest, observerNeverFullTest}
 use Rattle.violations.specs.Tests.{FreshTest, sameTables, sameRepair, sameTaken, sameVerdicts, sameHoldback, sameOutgoing, sameSent, sameDelivery, sameDelivered, matchedBy, freshTest}
 
 implies-intro : (a b : Bool) → (a ≡ true → b ≡ true) → implies a b ≡ true
@@ -208,6 +211,10 @@ module _ (test : Setup → ℕ → List Done → Bool) (right : (s : Setup) (fro
 every-step : (p : ℕ → Bool) (epsilon : ℕ) → ((k : ℕ) → 1 ≤ k → k ≤ epsilon → p k ≡ true) → everyStep p epsilon ≡ true
 every-step p epsilon h = every-tab p epsilon (λ k. k + 1) (λ k below. h (k + 1) (omega arith) (omega arith))
 
+-- 02, 2.7: what holds before each entry is true before all of them
+room-true : (s : Setup) (entries : List (List ℕ)) (before : ℕ → Heard) → NeverFull s before → roomBefore s entries before ≡ true
+room-true s entries before p = every-tab _ _ (λ k. k) (λ k below. and-intro (lt-ltb _ _ (p .spare k)) (le-leb _ _ (p .most k)))
+
 -- Demand 2 from any state: the promises make their tests true
 module _ (i : Input) (p : AnyState i) where
   pub verdict-true : verdictTest i ≡ true
@@ -245,6 +252,10 @@ module _ (i : Input) (p : AnyState i) where
   pub boundedQueue-true : boundedQueueTest i ≡ true
   unfolding boundedQueueTest
   boundedQueue-true = every-step _ (i .setup .epsilon) (p .boundedQueue)
+
+  pub neverFull-true : neverFullTest i ≡ true
+  unfolding neverFullTest
+  neverFull-true = room-true (i .setup) (batchEntries (i .batch)) (heardBefore i) (p .neverFull)
 
 pub refute-any :
     (test : Input → Bool) → ((i : Input) → AnyState i → test i ≡ true) → (i : Input) → tick i .answer .number ≡ 0
@@ -284,6 +295,10 @@ module _ (i : Listening) (p : AnyObserver i) where
   pub observer-queue-true : observerQueueTest i ≡ true
   unfolding observerQueueTest
   observer-queue-true = every-step _ (i .setup .epsilon) (p .boundedQueue)
+
+  pub observer-never-full-true : observerNeverFullTest i ≡ true
+  unfolding observerNeverFullTest
+  observer-never-full-true = room-true (i .setup) (batchEntries (i .batch)) (observedBefore i) (p .neverFull)
 
 pub refute-observer :
     (test : Listening → Bool) → ((i : Listening) → AnyObserver i → test i ≡ true) → (i : Listening) → listen i .number ≡ 0

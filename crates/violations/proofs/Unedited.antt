@@ -4,19 +4,20 @@ use Prim.Native.Nat.{ℕ}
 use mathlib.Core.Path.{_≡_, refl}
 use mathlib.Core.Bool.{Bool, true, false, _&&_}
 use mathlib.Core.List.{List, [], _∷_, map}
-use lib.ListN.{replicate}
+use lib.ListN.{length, replicate}
 use Rattle.laws.specs.Lists.{every}
 use Rattle.model.specs.Setup.{Setup}
+use Rattle.model.specs.Holdback.{held}
 use Rattle.model.specs.Codec.{read, write}
 use Rattle.model.specs.Published.{Condition, deliverable, deliverableBy}
 use Rattle.model.specs.Tick.{tick}
 use Rattle.model.specs.Observer.{listen}
 use Rattle.model.specs.Run.{Node, Call, Done, atStart}
 use Rattle.theory.specs.Premises.{goodStart, largestClock, keeps, allFresh, noneStale, stepsOfOne}
-use Rattle.theory.specs.Demand2.{publishedStart}
+use Rattle.theory.specs.Demand2.{heardBefore, observedBefore, publishedStart}
 use Rattle.theory.specs.Demand3.{coveredFrom}
 use Rattle.violations.specs.Tests.{sendingTest, hearingTest, deliveringTest, causalityTest, anyStateTest, anyObserverTest, sameAll, freshTest}
-use Rattle.violations.specs.Stories.{group, Scene, freshTables, freshNodes, callsOf, pastOf, causeAndEffect, heardTooLate, driftedApart, hauntedAt10, hauntedAt8, staleHeard, holdingNodes, wideGroup, wideNodes, wideCalls, widePast, steppedTooFar, notStepped, inputsFrom, inputsOf, unsoundTables, unsoundQueue}
+use Rattle.violations.specs.Stories.{group, Scene, freshTables, freshNodes, callsOf, pastOf, causeAndEffect, heardTooLate, driftedApart, hauntedAt10, hauntedAt8, staleHeard, holdingNodes, wideGroup, wideNodes, wideCalls, widePast, steppedTooFar, notStepped, inputsFrom, inputsOf, unsoundTables, unsoundQueue, packed, packedAlone, packedEarly}
 use Rattle.violations.specs.Stories.{watchedNodes, watchedCalls, watchedPast, allAhead, leftBehind, forestalled, holdingWatched, wideWatched, watchedSteps, watchedStepped, listeningsFrom, unsoundShelf}
 use Rattle.violations.proofs.Telling.{telling}
 
@@ -176,3 +177,17 @@ watched-not-kept = refl
 pub watched-not-fresh : (goodStart group holdingWatched ∷ allFresh group holdingWatched ∷ []) ≡ true ∷ false ∷ []
 unfolding telling
 watched-not-fresh = refl
+
+-- 02, 2.7: shelves with all n(δ + 3ε − 1) frames that they can have when a frame is judged: six of two stations, and three of one, at ε 1 and δ 1
+pub packed-tight : (length (heardBefore packed 6 .queue) ∷ length (observedBefore packedAlone 3 .queue) ∷ []) ≡ 6 ∷ 3 ∷ []
+unfolding telling
+packed-tight = refl
+
+-- as it was found a sound shelf may have n(δ + 3ε); but those due before v leave it before a frame is judged
+pub packed-early : (listen packedEarly .repair ∷ length (held 2 (packedEarly .holdback)) ∷ length (observedBefore packedEarly 0 .queue) ∷ []) ≡ 0 ∷ 7 ∷ 5 ∷ []
+unfolding telling
+packed-early = refl
+
+pub packed-figures : (anyStateTest packed && every anyObserverTest (packedAlone ∷ packedEarly ∷ [])) ≡ true
+unfolding telling
+packed-figures = refl

@@ -1,11 +1,11 @@
 -- Stories: short lists of calls, told so that they are the same under any definition of the tick. A scene names its node and what it sends and
 -- hears, and by how many ticks its clock moves; a message is heard by the bytes that its call sent.
-use Prim.Native.Nat.{ℕ, _+_, _-_, _%_}
+use Prim.Native.Nat.{ℕ, _+_, _-_, _*_, _/_, _%_}
 use mathlib.Core.Bool.{Bool, true, false, cond}
 use mathlib.Core.List.{List, [], _∷_, _++_, map}
 use mathlib.Core.Option.{Option, none, some}
 use lib.ListN.{length, replicate, getD, getElem?}
-use Rattle.laws.specs.Lists.{joined}
+use Rattle.laws.specs.Lists.{joined, tab}
 use Rattle.model.specs.Setup.{Setup}
 use Rattle.model.specs.Timestamp.{Timestamp}
 use Rattle.model.specs.Frame.{encode}
@@ -319,6 +319,32 @@ unsoundQueue =
   where
     twice : List ℕ
     twice = bytesOf 1 6 0 (0 ∷ 1 ∷ []) (9 ∷ [])
+
+-- 02, 2.7: a call for clock 7 that hears a frame of each of n stations at 5, 6 and 7
+abbrev pub packing : ℕ → List (List ℕ)
+packing n = tab (3 * n) (λ k. bytesOf (k / 3) (5 + k % 3) 0 (0 ∷ 1 ∷ []) [])
+
+abbrev pub packedCall : Setup → Call
+packedCall s = calling s 0 1 7 false [] (packing (s .n)) (map (λ bytes. stale) (packing (s .n)))
+
+-- of a node: its shelf, which is for eight, then has all six that it can have
+abbrev pub packed : Input
+packed = inputOf (freshNode 0 6) (packedCall group)
+
+-- a group of one
+abbrev pub aloneGroup : ℕ → Setup
+aloneGroup epsilon = record { n = 1; epsilon = epsilon; delta = 1; modulus = 6 * epsilon + 2 }
+
+-- of an observer there: its shelf, which is for four, then has all three that it can have
+abbrev pub packedAlone : Listening
+packedAlone = listeningOf (observerWith (aloneGroup 1) 6 (0 ∷ 0 ∷ [])) (packedCall (aloneGroup 1))
+
+-- a call for clock 7, after 5, of an observer there with ε 2: its shelf has all seven frames that it is for, and the first two are due at 6
+abbrev pub packedEarly : Listening
+packedEarly = listeningOf (observerWith (aloneGroup 2) 5 (7 ∷ 0 ∷ frames)) (calling (aloneGroup 2) 0 2 7 false [] [] [])
+  where
+    frames : List ℕ
+    frames = bytesOf 0 2 1 (0 ∷ 0 ∷ 0 ∷ 1 ∷ []) [] ++ joined (λ r. bytesOf 0 r 0 (0 ∷ 0 ∷ 1 ∷ 0 ∷ []) []) (3 ∷ 4 ∷ 5 ∷ 6 ∷ 7 ∷ 8 ∷ [])
 
 -- the input of one call of the story that most of them break
 abbrev pub inputAt : ℕ → Input

@@ -1,19 +1,19 @@
 -- The promises as tests: what demands 2 and 3 say of a concrete list of calls, or of one call, tried by computation. A test for each clause;
 -- proofs/Refuting shows that a promise makes its tests true, so that a test that computes to false refutes the promise.
-use Prim.Native.Nat.{ℕ, suc, _+_, _-_, _%_}
+use Prim.Native.Nat.{ℕ, suc, _+_, _-_, _*_, _%_}
 use mathlib.Core.Bool.{Bool, true, false, _&&_, _||_, cond}
 use mathlib.Core.List.{List, [], _∷_, map}
 use mathlib.Core.Option.{Option, none, some}
-use lib.Dec.{ltb, eqb}
+use lib.Dec.{leb, ltb, eqb}
 use lib.ListN.{length, take, getD, getElem?}
 use Rattle.laws.specs.Lists.{tab, every, any, select, sortBy, overlay, sameList}
-use Rattle.model.specs.Setup.{Setup}
+use Rattle.model.specs.Setup.{Setup, depthOf}
 use Rattle.model.specs.Timestamp.{trimmed, widened, soundClock, soundTables}
 use Rattle.model.specs.Frame.{encode}
 use Rattle.model.specs.Batch.{batchEntries}
 use Rattle.model.specs.Holdback.{heldBytes, soundHoldback, encodeFrames, encodeHoldback}
 use Rattle.model.specs.Question.{firstNo}
-use Rattle.model.specs.Judge.{judgeQuestions, observerQuestions}
+use Rattle.model.specs.Judge.{Heard, judgeQuestions, observerQuestions}
 use Rattle.model.specs.Published.{Process, Condition, inOrder}
 use Rattle.model.specs.Tick.{Input, holdbackSize, leastDue, sentBytes, deliveredOf, takenCount, tick}
 use Rattle.model.specs.Observer.{Listening, observerLeast, observerDelivered, listen}
@@ -142,6 +142,15 @@ boundedQueueTest i =
     everyStep (λ k. soundHoldback (i .setup) ((i .clock + k) % i .setup .modulus) (i .setup .modulus + 1 - k) (tick i .holdback))
     (i .setup .epsilon)
 
+-- 02, 2.7: before each entry, and after the last one
+abbrev pub roomBefore : Setup → List (List ℕ) → (ℕ → Heard) → Bool
+roomBefore s entries before =
+    every (λ k. ltb (length (before k .queue)) (depthOf s) && leb (length (before k .queue)) (s .n * (s .delta + 3 * s .epsilon - 1)))
+    (tab (length entries + 1) (λ k. k))
+
+unfoldable pub neverFullTest : Input → Bool
+neverFullTest i = roomBefore (i .setup) (batchEntries (i .batch)) (heardBefore i)
+
 unfoldable pub repairTest : Input → Bool
 repairTest i =
     eqb (tick i .answer .repair)
@@ -151,7 +160,7 @@ repairTest i =
 unfoldable pub anyStateTest : Input → Bool
 anyStateTest i =
     verdictTest i && (takenTest i && (deliveredTest i && (deliveryTest i && (sentTest i && (outgoingTest i && (repairTest i
-    && (boundedTest i && boundedQueueTest i)))))))
+    && (boundedTest i && (boundedQueueTest i && neverFullTest i))))))))
 
 -- 02, 2.6: the same of an observer's call
 unfoldable pub observedTest : Listening → Bool
@@ -186,10 +195,13 @@ observerQueueTest i =
     everyStep (λ k. soundHoldback (i .setup) ((i .clock + k) % i .setup .modulus) (i .setup .modulus + 1 - k) (listen i .holdback))
     (i .setup .epsilon)
 
+unfoldable pub observerNeverFullTest : Listening → Bool
+observerNeverFullTest i = roomBefore (i .setup) (batchEntries (i .batch)) (observedBefore i)
+
 unfoldable pub anyObserverTest : Listening → Bool
 anyObserverTest i =
     observedTest i && (observerTakenTest i && (observerDeliveredTest i && (observerDeliveryTest i && (observerRepairTest i && (lastTest i
-    && (lastBoundedTest i && observerQueueTest i))))))
+    && (lastBoundedTest i && (observerQueueTest i && observerNeverFullTest i)))))))
 
 -- Demand 2 from fresh stations, of an accepted call and its outcome in the published program
 abbrev pub FreshTest : Type 0

@@ -1,4 +1,4 @@
--- The numbers that a judgement gives: 0, and 10 to 17. Assumes nothing.
+-- The numbers that a judgement gives: 0, and 10 to 16. Assumes nothing.
 use Prim.Native.Nat.{ℕ, zero, suc, _+_, _-_, _≤_, _<_}
 use mathlib.Core.Path.{_≡_, refl, sym, subst}
 use mathlib.Core.Bool.{Bool, true, false, cond}
@@ -16,11 +16,11 @@ use Rattle.laws.proofs.Lists.{every-index, every-append-intro}
 use Rattle.model.specs.Setup.{Setup}
 use Rattle.model.specs.Frame.{Frame}
 use Rattle.model.specs.Question.{Question, firstNo, frameQuestions, askForm, askRange, askStamp}
-use Rattle.model.specs.Judge.{judgeQuestions, placeQuestions, askLate, askEarly, askCounts, askRepeat, askRoom}
+use Rattle.model.specs.Judge.{judgeQuestions, placeQuestions, askLate, askEarly, askCounts, askRepeat}
 use Rattle.words.specs.Words.{given}
 
-module _ (P : ℕ → Type 0) (p₀ : P 0) (p₁₀ : P 10) (p₁₁ : P 11) (p₁₂ : P 12) (p₁₃ : P 13) (p₁₄ : P 14) (p₁₅ : P 15) (p₁₆ : P 16) (p₁₇ : P 17) where
-  from-ten : (d : ℕ) → d ≤ 7 → P (10 + d)
+module _ (P : ℕ → Type 0) (p₀ : P 0) (p₁₀ : P 10) (p₁₁ : P 11) (p₁₂ : P 12) (p₁₃ : P 13) (p₁₄ : P 14) (p₁₅ : P 15) (p₁₆ : P 16) where
+  from-ten : (d : ℕ) → d ≤ 6 → P (10 + d)
   from-ten zero h = p₁₀
   from-ten (suc zero) h = p₁₁
   from-ten (suc (suc zero)) h = p₁₂
@@ -28,8 +28,7 @@ module _ (P : ℕ → Type 0) (p₀ : P 0) (p₁₀ : P 10) (p₁₁ : P 11) (p�
   from-ten (suc (suc (suc (suc zero)))) h = p₁₄
   from-ten (suc (suc (suc (suc (suc zero))))) h = p₁₅
   from-ten (suc (suc (suc (suc (suc (suc zero)))))) h = p₁₆
-  from-ten (suc (suc (suc (suc (suc (suc (suc zero))))))) h = p₁₇
-  from-ten (suc (suc (suc (suc (suc (suc (suc (suc d)))))))) h = absurd (omega arith)
+  from-ten (suc (suc (suc (suc (suc (suc (suc d))))))) h = absurd (omega arith)
 
   -- what holds of each of them holds of all
   pub given-all : (number : ℕ) → given number ≡ true → P number
@@ -37,11 +36,11 @@ module _ (P : ℕ → Type 0) (p₀ : P 0) (p₁₀ : P 10) (p₁₁ : P 11) (p�
   given-all number g =
       ⊎-elim (λ taken. subst P (sym (eqb-true number 0 taken)) p₀)
       (λ refused.
-      let low : 10 ≤ number = within-low 10 17 number refused in
-      let high : number ≤ 17 = within-high 10 17 number refused in
+      let low : 10 ≤ number = within-low 10 16 number refused in
+      let high : number ≤ 16 = within-high 10 16 number refused in
       let e : 10 + (number - 10) ≡ number = omega arith in
       subst P e (from-ten (number - 10) (omega arith)))
-      (or-cases (eqb number 0) (within 10 17 number) g)
+      (or-cases (eqb number 0) (within 10 16 number) g)
 
 -- the first no has the number of a question
 given-first : (qs : List Question) → every (λ q. given (q .number)) qs ≡ true → given (firstNo qs) ≡ true
@@ -55,7 +54,7 @@ given-first (q ∷ qs) h = go (q .holds) (given-first qs (and-right (given (q .n
 
 -- every judgement gives one of them
 pub judged-given : (s : Setup) (v : ℕ) (queue : List Frame) (bytes : List ℕ) → given (firstNo (judgeQuestions s v queue bytes)) ≡ true
-unfolding judgeQuestions frameQuestions placeQuestions askForm askRange askStamp askLate askEarly askCounts askRepeat askRoom every given within
+unfolding judgeQuestions frameQuestions placeQuestions askForm askRange askStamp askLate askEarly askCounts askRepeat every given within
 judged-given s v queue bytes = given-first (judgeQuestions s v queue bytes) refl
 
 -- ---- a test of the first elements, one by one

@@ -1,18 +1,17 @@
 -- 02: "A line is at most 29 bytes". Assumes nothing.
-use Prim.Native.Nat.{ℕ, _+_, _*_, _-_, _≤_}
+use Prim.Native.Nat.{ℕ, _+_, _-_, _≤_}
 use mathlib.Core.Path.{_≡_}
 use mathlib.Core.Bool.{Bool, true, false, cond}
 use mathlib.Core.List.{List, [], _∷_, map}
-use native.Mathlib.Nat.{mul-le-mul}
 use native.Mathlib.Omega.{arith}
 use lib.Dec.{eqb}
 use lib.ListN.{length, length-append}
-use Rattle.model.specs.Setup.{Setup, depth}
+use Rattle.model.specs.Setup.{Setup}
 use Rattle.lemmas.proofs.Bounds.{Limits}
 use Rattle.lemmas.proofs.Questions.{limits-from}
 use Rattle.text.specs.Text.{decimal, digitCount}
 use Rattle.text.proofs.Numerals.{length-decimal, digitCount-le}
-use Rattle.words.specs.Words.{given, rangeWord, stampWord, lateWord, earlyWord, countWord, fullWord, dash, ruleWord, wordOf, limitsOf, orDash, partsOf, spaced, lineOf}
+use Rattle.words.specs.Words.{given, rangeWord, stampWord, lateWord, earlyWord, countWord, dash, ruleWord, wordOf, limitsOf, orDash, partsOf, spaced, lineOf}
 use Rattle.words.specs.Statements.{ShortLines}
 use Rattle.words.proofs.Given.{given-all}
 
@@ -39,12 +38,6 @@ module _ (s : Setup) (lim : Limits s) where
   abbrev tail : ℕ → ℕ
   tail number = length (spaced (wordOf number ∷ map decimal (limitsOf s number)))
 
-  depth-most : depth (s .n) (s .epsilon) (s .delta) ≤ 16 * (64 + 3 * 16)
-  unfolding depth
-  depth-most =
-      let wide : s .delta + 3 * s .epsilon ≤ 64 + 3 * 16 = omega (arith, lim .delta-most, lim .epsilon-most) in
-      mul-le-mul (lim .n-most) wide
-
   two-limits : (word : List ℕ) (x y : ℕ) → length word ≤ 5 → digitCount x ≤ 2 → digitCount y ≤ 5 → length (spaced (word ∷ decimal x ∷ decimal y ∷ [])) ≤ 16
   unfolding spaced
   two-limits word x y h p q =
@@ -66,7 +59,6 @@ module _ (s : Setup) (lim : Limits s) where
       (one-limit earlyWord (s .epsilon - 1) (omega arith) (digitCount-le 3 (s .epsilon - 1) (omega (arith, lim .epsilon-most))))
       (one-limit countWord (s .n - 1) (omega arith) (digitCount-le 3 (s .n - 1) (omega (arith, lim .n-most))))
       (omega arith)
-      (one-limit fullWord (depth (s .n) (s .epsilon) (s .delta)) (omega arith) (digitCount-le 3 (depth (s .n) (s .epsilon) (s .delta)) (omega (arith, depth-most))))
       number
       g
 

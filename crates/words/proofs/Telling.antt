@@ -13,7 +13,7 @@ use Rattle.model.specs.Setup.{Setup}
 use Rattle.model.specs.Frame.{Frame}
 use Rattle.text.specs.Text.{decimal}
 use Rattle.text.proofs.Decimals.{decimal-injective, decimal-plain}
-use Rattle.words.specs.Words.{given, takenWord, formWord, rangeWord, stampWord, lateWord, earlyWord, countWord, repeatWord, dash, ruleWord, wordOf, limitsOf, orDash, partsOf, spaced, lineOf}
+use Rattle.words.specs.Words.{given, takenWord, formWord, rangeWord, stampWord, lateWord, earlyWord, countWord, dash, ruleWord, wordOf, limitsOf, orDash, partsOf, spaced, lineOf}
 use Rattle.words.specs.Statements.{TellingLines}
 use Rattle.words.proofs.Given.{given-all}
 
@@ -64,7 +64,7 @@ parts-same (p ∷ ps) (q ∷ qs) h k e =
 
 plain-word : (number : ℕ) → given number ≡ true → plain (wordOf number) ≡ true
 unfolding wordOf ruleWord every
-plain-word number g = given-all (λ x. plain (wordOf x) ≡ true) refl refl refl refl refl refl refl refl refl number g
+plain-word number g = given-all (λ x. plain (wordOf x) ≡ true) refl refl refl refl refl refl refl refl number g
 
 plain-or-dash : (number x : ℕ) → plain (orDash number x) ≡ true
 unfolding orDash every
@@ -92,11 +92,11 @@ numberBy : List ℕ → ℕ
 numberBy word =
     cond (sameList word takenWord) 0 (cond (sameList word formWord) 10 (cond (sameList word rangeWord) 11
     (cond (sameList word stampWord) 12 (cond (sameList word lateWord) 13 (cond (sameList word earlyWord) 14
-    (cond (sameList word countWord) 15 (cond (sameList word repeatWord) 16 17)))))))
+    (cond (sameList word countWord) 15 16))))))
 
 number-back : (number : ℕ) → given number ≡ true → numberBy (wordOf number) ≡ number
 unfolding numberBy wordOf ruleWord sameList
-number-back number g = given-all (λ x. numberBy (wordOf x) ≡ x) refl refl refl refl refl refl refl refl refl number g
+number-back number g = given-all (λ x. numberBy (wordOf x) ≡ x) refl refl refl refl refl refl refl refl number g
 
 -- past 10 a number tells itself
 or-dash-tells : (number x y : ℕ) → (number ≡ 10 → ⊥) → orDash number x ≡ orDash number y → x ≡ y

@@ -19,17 +19,17 @@ use Rattle.batch.specs.Walk.{countOf, entryAt, nextAt}
 use Rattle.batch.proofs.Walk.{walked, batch-walked, batch-count}
 use Rattle.text.specs.Text.{Put, decimal, space}
 use Rattle.text.proofs.Putting.{put-nothing, put-then, put-as, put-length}
-use Rattle.words.specs.Words.{given, ruleWord, fullWord, wordOf, limitsOf, orDash, partsOf, spaced, lineOf, lineAt, wordLines, textOf, longestLine}
+use Rattle.words.specs.Words.{given, repeatWord, ruleWord, wordOf, limitsOf, orDash, partsOf, spaced, lineOf, lineAt, wordLines, textOf, longestLine}
 use Rattle.words.specs.Answers.{Answered}
 
 -- ---- the parts
 
 -- the word of the last rule, where it is none of the others
-pub full-word : (number : ℕ) → (number ≡ 10 → ⊥) → (number ≡ 11 → ⊥) → (number ≡ 12 → ⊥) → (number ≡ 13 → ⊥) → (number ≡ 14 → ⊥) → (number ≡ 15 → ⊥)
-    → (number ≡ 16 → ⊥) → fullWord ≡ ruleWord number
+pub repeat-word : (number : ℕ) → (number ≡ 10 → ⊥) → (number ≡ 11 → ⊥) → (number ≡ 12 → ⊥) → (number ≡ 13 → ⊥) → (number ≡ 14 → ⊥) → (number ≡ 15 → ⊥)
+    → repeatWord ≡ ruleWord number
 unfolding ruleWord
-full-word number a b c d e f g =
-    rw (ne-eqb number 10 a, ne-eqb number 11 b, ne-eqb number 12 c, ne-eqb number 13 d, ne-eqb number 14 e, ne-eqb number 15 f, ne-eqb number 16 g)
+repeat-word number a b c d e f =
+    rw (ne-eqb number 10 a, ne-eqb number 11 b, ne-eqb number 12 c, ne-eqb number 13 d, ne-eqb number 14 e, ne-eqb number 15 f)
 
 pub rule-word : (number : ℕ) → (number ≡ 0 → ⊥) → ruleWord number ≡ wordOf number
 unfolding wordOf
@@ -39,11 +39,11 @@ pub no-dash : (number x : ℕ) → (number ≡ 10 → ⊥) → decimal x ≡ orD
 unfolding orDash
 no-dash number x h = rw (ne-eqb number 10 h)
 
-pub no-limits : (s : Setup) (number : ℕ) → (number ≡ 11 → ⊥) → (number ≡ 12 → ⊥) → (number ≡ 13 → ⊥) → (number ≡ 14 → ⊥) → (number ≡ 15 → ⊥) → (number ≡ 17 → ⊥)
+pub no-limits : (s : Setup) (number : ℕ) → (number ≡ 11 → ⊥) → (number ≡ 12 → ⊥) → (number ≡ 13 → ⊥) → (number ≡ 14 → ⊥) → (number ≡ 15 → ⊥)
     → [] ≡ limitsOf s number
 unfolding limitsOf
-no-limits s number b c d e f h =
-    rw (ne-eqb number 11 b, ne-eqb number 12 c, ne-eqb number 13 d, ne-eqb number 14 e, ne-eqb number 15 f, ne-eqb number 17 h)
+no-limits s number b c d e f =
+    rw (ne-eqb number 11 b, ne-eqb number 12 c, ne-eqb number 13 d, ne-eqb number 14 e, ne-eqb number 15 f)
 
 -- a line of the parts that were written
 pub line-made :

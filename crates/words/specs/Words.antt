@@ -5,17 +5,17 @@ use mathlib.Core.List.{List, [], _∷_, _++_, map}
 use lib.Dec.{leb, eqb}
 use lib.ListN.{length, take, getD}
 use Rattle.laws.specs.Lists.{tab, within, every, joined, overlay}
-use Rattle.model.specs.Setup.{Setup, depth}
+use Rattle.model.specs.Setup.{Setup}
 use Rattle.model.specs.Frame.{Frame, decode}
 use Rattle.model.specs.Batch.{exactBatch, batchEntries}
 use Rattle.model.specs.Question.{Question, ask, firstNo, askSetup}
 use Rattle.text.specs.Text.{decimal, space, newline}
 
--- the numbers that a judgement gives. 01: "the verdict buffer gets 0 or the number", one of 10 to 17
+-- the numbers that a judgement gives. 01: "the verdict buffer gets 0 or the number", one of 10 to 16
 unfoldable pub given : ℕ → Bool
-given number = eqb number 0 || within 10 17 number
+given number = eqb number 0 || within 10 16 number
 
--- "taken", "form", "range", "stamp", "late", "early", "count", "repeat", "full", and "-"
+-- "taken", "form", "range", "stamp", "late", "early", "count", "repeat", and "-"
 abbrev pub takenWord : List ℕ
 takenWord = 116 ∷ 97 ∷ 107 ∷ 101 ∷ 110 ∷ []
 
@@ -40,29 +40,26 @@ countWord = 99 ∷ 111 ∷ 117 ∷ 110 ∷ 116 ∷ []
 abbrev pub repeatWord : List ℕ
 repeatWord = 114 ∷ 101 ∷ 112 ∷ 101 ∷ 97 ∷ 116 ∷ []
 
-abbrev pub fullWord : List ℕ
-fullWord = 102 ∷ 117 ∷ 108 ∷ 108 ∷ []
-
 abbrev pub dash : List ℕ
 dash = 45 ∷ []
 
--- 02: "the rule it failed (`form`, `range`, `stamp`, `late`, `early`, `count`, `repeat`, `full` for 10 to 17)"
+-- 02: "the rule it failed (`form`, `range`, `stamp`, `late`, `early`, `count`, `repeat`, `full` for 10 to 17)"; with 2.7 for 10 to 16:
+-- "17 leaves … the words of 2.1"
 unfoldable pub ruleWord : ℕ → List ℕ
 ruleWord number =
     cond (eqb number 10) formWord (cond (eqb number 11) rangeWord (cond (eqb number 12) stampWord
-    (cond (eqb number 13) lateWord (cond (eqb number 14) earlyWord (cond (eqb number 15) countWord
-    (cond (eqb number 16) repeatWord fullWord))))))
+    (cond (eqb number 13) lateWord (cond (eqb number 14) earlyWord (cond (eqb number 15) countWord repeatWord)))))
 
 -- 02: "either `taken` or the rule it failed"
 unfoldable pub wordOf : ℕ → List ℕ
 wordOf number = cond (eqb number 0) takenWord (ruleWord number)
 
--- 02: "that rule's limits (n and B for 11, n and ε − 1 for 12, δ + ε for 13, ε − 1 for 14, n − 1 for 15, n(δ + 3ε) for 17, none for the others)"
+-- 02: "that rule's limits (n and B for 11, n and ε − 1 for 12, δ + ε for 13, ε − 1 for 14, n − 1 for 15, …, none for the others)"
 unfoldable pub limitsOf : Setup → ℕ → List ℕ
 limitsOf s number =
     cond (eqb number 11) (s .n ∷ s .modulus ∷ []) (cond (eqb number 12) (s .n ∷ (s .epsilon - 1) ∷ [])
     (cond (eqb number 13) ((s .delta + s .epsilon) ∷ []) (cond (eqb number 14) ((s .epsilon - 1) ∷ [])
-    (cond (eqb number 15) ((s .n - 1) ∷ []) (cond (eqb number 17) (depth (s .n) (s .epsilon) (s .delta) ∷ []) [])))))
+    (cond (eqb number 15) ((s .n - 1) ∷ []) []))))
 
 -- 02: "For frames refused by 10 the station and r are a dash each"
 unfoldable pub orDash : ℕ → ℕ → List ℕ

@@ -2,7 +2,6 @@
 use frame::r_of;
 use frame::station_of;
 use setup::Setup;
-use setup::depth;
 use text::put_decimal;
 use text::put_field;
 use text::put_word;
@@ -29,7 +28,7 @@ fn put_or_dash(buf: &mut [u8], at: usize, number: u8, x: usize) -> usize
     put_field(buf, at, b" ", x)
 }
 
-// 02: "the rule it failed (`form`, `range`, `stamp`, `late`, `early`, `count`, `repeat`, `full` for 10 to 17)".
+// 02: "the rule it failed (`form`, `range`, `stamp`, `late`, `early`, `count`, `repeat`, `full` for 10 to 17)"; with 2.7 for 10 to 16.
 fn put_rule(buf: &mut [u8], at: usize, number: u8) -> usize
     requires { ⌜ at + length (space ++ ruleWord number) ≤ length (now buf) ⌝ }
     ensures { λ r. ⌜ Put (now (buf .entry)) at (space ++ ruleWord number) (now (buf .exit)) r ⌝ }
@@ -52,10 +51,7 @@ fn put_rule(buf: &mut [u8], at: usize, number: u8) -> usize
     if number == 15 {
         return put_word(buf, at, b" count");
     }
-    if number == 16 {
-        return put_word(buf, at, b" repeat");
-    }
-    put_word(buf, at, b" full")
+    put_word(buf, at, b" repeat")
 }
 
 // 02: "either `taken` or the rule it failed".
@@ -98,8 +94,7 @@ fn one(first: usize) -> RuleLimits
     }
 }
 
-// 02: "that rule's limits (n and B for 11, n and ε − 1 for 12, δ + ε for 13, ε − 1 for 14, n − 1 for 15, n(δ + 3ε) for 17, none
-// for the others)".
+// 02: "that rule's limits (n and B for 11, n and ε − 1 for 12, δ + ε for 13, ε − 1 for 14, n − 1 for 15, …, none for the others)".
 fn limits_of(setup: Setup, number: u8) -> RuleLimits
     requires { ⌜ inLimits (setupOf setup) ≡ true ⌝ }
     ensures { λ r. ⌜ shown r ≡ limitsOf (setupOf setup) number ⌝ }
@@ -121,9 +116,6 @@ fn limits_of(setup: Setup, number: u8) -> RuleLimits
     }
     if number == 15 {
         return one(n - 1);
-    }
-    if number == 17 {
-        return one(depth(n, epsilon, delta));
     }
     RuleLimits {
         count: 0,

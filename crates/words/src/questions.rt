@@ -24,7 +24,7 @@ fn is_given(number: u8) -> bool
     if number < 10 {
         return false;
     }
-    number <= 17
+    number <= 16
 }
 
 // Whether a judgement gives each of the first `count` verdicts.

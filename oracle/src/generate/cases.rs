@@ -8,7 +8,10 @@ use crate::{Answer, Buffers, Call, ClockState, Setup, Timestamp};
 const FAR: [i64; 2] = [256, 65_536];
 
 /// The numbers that a judgement gives.
-const NUMBERS: [u8; 9] = [0, 10, 11, 12, 13, 14, 15, 16, 17];
+const NUMBERS: [u8; 8] = [0, 10, 11, 12, 13, 14, 15, 16];
+
+/// Some that none gives. 17 had a line of words before 02's 2.7.
+const OTHERS: [u8; 5] = [1, 9, 17, 18, 255];
 
 /// A call of the tick.
 #[derive(Clone, Debug, PartialEq, Eq)]
@@ -170,11 +173,17 @@ impl WordsCase {
             3 => super::spoil::shorten(rng, &mut self.text, LINE * count),
             4 => {
                 let at = rng.place(count.min(self.verdicts.len() - 1) + 1);
-                self.verdicts[at] = rng.pick(&[1, 9, 18, 255]);
+                self.verdicts[at] = rng.pick(&OTHERS);
             }
             _ => self.verdicts.iter_mut().for_each(|number| *number = rng.pick(&NUMBERS)),
         }
         self
+    }
+
+    /// The first of the frames' verdicts that no judgement gives, if there is one.
+    pub fn no_verdict(&self) -> Option<u8> {
+        let verdicts = self.verdicts.get(..self.batch[0].into())?;
+        verdicts.iter().copied().find(|number| !NUMBERS.contains(number))
     }
 }
 

@@ -2,9 +2,9 @@
 
 use crate::common::{frame, frame_a, fresh_case, holdback, run, state, verdict, FILL, SETUP};
 use oracle::board::{judge, Owner};
-use oracle::generate::TickCase;
-use oracle::holdback::{Entry, Holdback};
-use oracle::{read, write, Answer, ClockState, Frame, Setup, Timestamp};
+use oracle::generate::{self, frames, memory, Prng, TickCase};
+use oracle::holdback::Holdback;
+use oracle::{read, write, Answer, ClockState, Setup, Timestamp};
 
 /// A good call with everything in it.
 fn good_call() -> TickCase {
@@ -156,23 +156,32 @@ fn check_16_repeats_in_the_queue_and_in_the_batch() {
 }
 
 #[test]
-fn check_17_a_full_queue() {
-    // No call can fill a queue, so this one is full by the limits of a smaller setup.
-    let small = Setup { n: 1, epsilon: 1, delta: 0, modulus: 50, own: 0 };
-    let wide = Setup { delta: 40, ..small };
-    let frames: Vec<_> = (10..13).map(|r| frame(0, r, 0, &[0, 1], &[])).collect();
-    let mut queue = Holdback::empty();
-    let newcomer = frame(0, 19, 0, &[0, 1], &[]);
-    let judged = |queue: &Holdback| {
-        [Owner::Node, Owner::Observer].map(|owner| judge(&small, 20, owner, queue, &newcomer).err())
-    };
-    for (place, bytes) in frames.iter().enumerate() {
-        assert_eq!(judged(&queue), [None; 2]);
-        let entry = Entry::near(&wide, 20, Frame::parse(&wide, bytes).unwrap());
-        assert_eq!(queue.place(&wide, entry), place);
+fn a_frame_that_passes_10_to_16_finds_room() {
+    let mut rng = Prng::new(11);
+    let mut most_met = 0;
+    for _ in 0..2_000 {
+        let setup = generate::setup(&mut rng);
+        let (v, step) = (rng.below(setup.modulus), rng.range(1, setup.epsilon));
+        let held = memory::sound_frames(&mut rng, &setup, v, 1 - step);
+        let held = memory::assemble(&mut rng, &setup, &held);
+        let heard: Vec<_> = (0..setup.n)
+            .flat_map(|node| (-setup.delta - setup.epsilon..setup.epsilon).map(move |r| (node, r)))
+            .map(|(node, ahead)| frames::sound(&mut rng, &setup, v, node, ahead, 0))
+            .collect();
+        let most = setup.capacity() - setup.n as usize;
+        for owner in [Owner::Node, Owner::Observer] {
+            let mut queue = Holdback::decode(&setup, v, 1 - step, &held).expect("a sound queue");
+            queue.take_early(&setup);
+            for bytes in &heard {
+                if let Ok(entry) = judge(&setup, v, owner, &queue, bytes) {
+                    queue.place(&setup, entry);
+                }
+            }
+            assert!(queue.len() <= most, "n(δ + 3ε − 1) at the most");
+            most_met += u32::from(queue.len() == most);
+        }
     }
-    assert_eq!(queue.len(), small.capacity());
-    assert_eq!(judged(&queue), [Some(17); 2]);
+    assert!(most_met > 100, "only {most_met} queues with as many as there can be");
 }
 
 #[test]

@@ -14,10 +14,10 @@ fn lines(setup: &Setup, entries: &[Vec<u8>], verdicts: &[u8]) -> Result<String, 
 
 #[test]
 fn each_number_has_its_word_and_its_limits() {
-    let numbers = [0, 10, 11, 12, 13, 14, 15, 16, 17];
+    let numbers = [0, 10, 11, 12, 13, 14, 15, 16];
     let text = "0 1 2 taken\n1 - - form\n2 1 2 range 2 14\n3 1 2 stamp 2 1\n4 1 2 late 3\n\
-                5 1 2 early 1\n6 1 2 count 1\n7 1 2 repeat\n8 1 2 full 14\n";
-    assert_eq!(lines(&SETUP, &vec![frame_a(); 9], &numbers), Ok(text.into()));
+                5 1 2 early 1\n6 1 2 count 1\n7 1 2 repeat\n";
+    assert_eq!(lines(&SETUP, &vec![frame_a(); 8], &numbers), Ok(text.into()));
 }
 
 #[test]
@@ -49,8 +49,8 @@ fn wrong_arguments_get_their_number_and_nothing_is_written() {
     assert_eq!(refusal(&SETUP, &one[..one.len() - 1], &[0], 29), 5);
     assert_eq!(refusal(&SETUP, &one, &[], 29), 6);
     assert_eq!(refusal(&SETUP, &one, &[0], 28), 6);
-    for number in [1, 9, 18, 255] {
-        assert_eq!(refusal(&SETUP, &one, &[number], 29), 6);
+    for number in (1..10).chain(17..=255) {
+        assert_eq!(refusal(&SETUP, &one, &[number], 29), 6, "{number}");
     }
 }
 

@@ -11,12 +11,11 @@ const LEAST: u64 = 100;
 /// In a run of few traces one in so many is enough for what only traces meet.
 const TRACES: u64 = 40;
 
-/// Of calls. 17 is not among the numbers of frames: no queue ever gets full; it is
-/// among those of lines, where verdicts that are not the frames' own are given too. For `sent` and
+/// Of calls. The numbers of `no line` are verdicts for which the words answered 6. For `sent` and
 /// `gave` (was a frame sent, was one handed out) 1 is yes. The numbers of `early`, `overdue` and
 /// `step` are kinds: see `nudges`; so are those of `count`: see `reasons`; those of the rows of polls
 /// but the first: see `polls`; and those of the rows of observers: see `observers`.
-const OF_CALLS: [Row; 31] = [
+const OF_CALLS: [Row; 32] = [
     ("call", &[0, 1, 2, 3, 4, 5, 6]),
     ("compare", &[0, 1, 2, 10, 11, 12]),
     ("count", &[0, 1, 2]),
@@ -24,7 +23,7 @@ const OF_CALLS: [Row; 31] = [
     ("first", &[10, 11, 12]),
     ("frame", &[0, 10, 11, 12, 13, 14, 15, 16]),
     ("gave", &[0, 1]),
-    ("line", &[0, 10, 11, 12, 13, 14, 15, 16, 17]),
+    ("line", &[0, 10, 11, 12, 13, 14, 15, 16]),
     ("listen", &[0, 1, 2, 3, 5, 6]),
     ("listen 15", &[0, 1]),
     ("listen early", &[0, 1, 2]),
@@ -34,6 +33,7 @@ const OF_CALLS: [Row; 31] = [
     ("listen mend", &[0, 1, 2, 3]),
     ("listen overdue", &[1, 2, 3]),
     ("mend", &[0, 1, 2, 3]),
+    ("no line", &[1, 9, 17, 18, 255]),
     ("order", &[0, 1, 2]),
     ("overdue", &[1, 2, 3]),
     ("poll", &[0, 1, 2, 3]),

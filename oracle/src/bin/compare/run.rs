@@ -269,11 +269,15 @@ impl<'s> Comparison<'s> {
 
     fn words(&mut self, case: WordsCase) -> Result<(), String> {
         let (case, word) = self.case(case)?;
-        self.coverage.meet("words", abi::number(word));
-        if abi::number(word) == 0 {
+        let answer = abi::number(word);
+        self.coverage.meet("words", answer);
+        if answer == 0 {
             for &number in &case.verdicts[..case.batch[0].into()] {
                 self.coverage.meet("line", number);
             }
+        }
+        if answer == 6 {
+            case.no_verdict().into_iter().for_each(|number| self.coverage.meet("no line", number));
         }
         Ok(())
     }

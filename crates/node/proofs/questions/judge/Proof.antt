@@ -1,28 +1,21 @@
 -- `node::questions::judge` meets its contract. Assumes nothing.
-use Prim.Native.Nat.{_≤_, _<_}
-use native.Mathlib.Omega.{arith}
 use mathlib.Core.Path.{_≡_, sym, _∙_, ap}
 use mathlib.Core.Bool.{true}
 use mathlib.Core.List.{List}
 use lib.ListN.{length}
-use borrow.Author.Needs.{needs}
 use Rattle.laws.specs.Lists.{any}
-use Rattle.model.specs.Setup.{depth}
 use Rattle.model.specs.Frame.{Frame, decode}
 use Rattle.model.specs.Question.{firstNo, frameQuestions}
 use Rattle.model.specs.Holdback.{held, sameOrigin}
 use Rattle.model.specs.Judge.{taken}
-use Rattle.lemmas.proofs.Bounds.{Limits}
-use Rattle.lemmas.proofs.Questions.{limits-from}
 use Rattle.holdback.specs.Seen.{Placeable}
 use Rattle.holdback.specs.Sound.{fits}
-use Rattle.holdback.proofs.Changes.{length-held}
 use Rattle.holdback.proofs.Seen.{length-seen}
 use Rattle.setup.specs.Views.{setupOf}
 use Rattle.node.specs.Views.{timeQuestions}
 use Rattle.node.specs.States.{Readable}
 use Rattle.node.proofs.Times.{given}
-use Rattle.node.proofs.Verdicts.{form-no, time-no, repeat-no, room-no, all-yes, fits-when, late-placeable, time-late, time-early, marked-is, refused-located, taken-located}
+use Rattle.node.proofs.Verdicts.{form-no, time-no, repeat-no, all-yes, fits-when, late-placeable, time-late, time-early, marked-is, refused-located, taken-located}
 use Rattle.node.proofs.Places.{size-two}
 use Rattle.node.proofs.questions.judge.Statement.{statement}
 use Rattle.node.proofs.questions.judge.Tie as tie
@@ -32,13 +25,6 @@ queue c = held (c .args .setup .epsilon) (c .args .holdback .now)
 
 abbrev frame : tie.Start → Frame
 frame c = decode (c .args .setup .epsilon) (c .args .s .now)
-
-limits : (c : tie.Start) → Limits (setupOf (c .args .setup))
-limits c = limits-from (setupOf (c .args .setup)) (c .pre .0 .limits)
-
--- the count is that of the queue's frames
-long : (c : tie.Start) → length (queue c) ≡ c .args .count
-long c = length-held (c .args .setup .epsilon) (c .args .holdback .now) ∙ sym (c .pre .1 .1)
 
 check-requires : tie.Need-check-requires
 check-requires c κs = c .before .before .before .before .pre .0 .limits
@@ -93,29 +79,6 @@ returns-3 c =
     let start = c .before .before .before .before .before .before .before .before .before .before .before in
     (repeat-no (start .args .listens) (setupOf (start .args .setup)) (start .args .clock) (queue start) (start .args .s .now) (passed (c .before .before .before .before .before)) (timely (c .before .before)) (sym (repeated (c .before)) ∙ c .if3 .taken), refused-located)
 
-cast-depth : tie.Need-cast-depth
-cast-depth c = search needs
-
-cast-depth-2 : tie.Need-cast-depth-2
-cast-depth-2 c = search needs
-
-cast-depth-3 : tie.Need-cast-depth-3
-cast-depth-3 c = search needs
-
-depth-requires : tie.Need-depth-requires
-depth-requires c κs = let lim = limits (c .before .before .before .before .before .before .before .before .before .before .before .before .before .before) in (lim .n-most, (lim .epsilon-most, lim .delta-most))
-
-full : (c : tie.Then4) → depth (c .before .before .before .before .before .before .before .before .before .before .before .before .before .before .before .before .args .setup .n) (c .before .before .before .before .before .before .before .before .before .before .before .before .before .before .before .before .args .setup .epsilon) (c .before .before .before .before .before .before .before .before .before .before .before .before .before .before .before .before .args .setup .delta) ≤ length (queue (c .before .before .before .before .before .before .before .before .before .before .before .before .before .before .before .before))
-full c = omega (arith, c .before .depth .ensures, long (c .before .before .before .before .before .before .before .before .before .before .before .before .before .before .before .before))
-
-returns-4 : tie.Need-returns-4
-returns-4 c =
-    let start = c .before .before .before .before .before .before .before .before .before .before .before .before .before .before .before .before in
-    (room-no (start .args .listens) (setupOf (start .args .setup)) (start .args .clock) (queue start) (start .args .s .now) (passed (c .before .before .before .before .before .before .before .before .before .before)) (timely (c .before .before .before .before .before .before .before)) (sym (repeated (c .before .before .before .before .before .before)) ∙ c .before .before .before .before .before .if3 .left) (full c), refused-located)
-
-room : (c : tie.Else4) → length (queue (c .before .before .before .before .before .before .before .before .before .before .before .before .before .before .before .before)) < depth (c .before .before .before .before .before .before .before .before .before .before .before .before .before .before .before .before .args .setup .n) (c .before .before .before .before .before .before .before .before .before .before .before .before .before .before .before .before .args .setup .epsilon) (c .before .before .before .before .before .before .before .before .before .before .before .before .before .before .before .before .args .setup .delta)
-room c = omega (arith, c .before .depth .ensures, long (c .before .before .before .before .before .before .before .before .before .before .before .before .before .before .before .before))
-
 fit : (c : tie.Else2) → fits (setupOf (c .before .before .before .before .before .before .before .before .before .args .setup)) (c .before .before .before .before .before .before .before .before .before .args .clock) (c .before .before .before .before .before .before .before .before .before .args .setup .modulus) (c .before .before .before .before .before .before .before .before .before .args .s .now) ≡ true
 fit c =
     let start = c .before .before .before .before .before .before .before .before .before in
@@ -123,20 +86,20 @@ fit c =
 
 place-for-requires : tie.Need-place-for-requires
 place-for-requires c κs =
-    let start = c .before .before .before .before .before .before .before .before .before .before .before .before .before .before .before .before in (
+    let start = c .before .before .before .before .before .before .before .before .before .before .before in (
       (start .pre .0 .limits, start .pre .0 .below),
       (
         (start .pre .1 .0 .sound, (size-two (setupOf (start .args .setup)) (length (start .args .holdback .now)) (start .pre .1 .0 .size), start .pre .1 .1)),
-        (start .pre .1 .0 .starts-is, (fit (c .before .before .before .before .before .before .before), c .before .before .before .before .before .before .before .before .before .reading-of .ensures)),
+        (start .pre .1 .0 .starts-is, (fit (c .before .before), c .before .before .before .before .reading-of .ensures)),
       ),
     )
 
-returns-5 : tie.Need-returns-5
-returns-5 c =
-    let start = c .before .before .before .before .before .before .before .before .before .before .before .before .before .before .before .before .before in (
+returns-4 : tie.Need-returns-4
+returns-4 c =
+    let start = c .before .before .before .before .before .before .before .before .before .before .before .before in (
       ap taken (c .place-for .ensures .frames)
-          ∙ all-yes (start .args .listens) (setupOf (start .args .setup)) (start .args .clock) (queue start) (start .args .s .now) (passed (c .before .before .before .before .before .before .before .before .before .before .before)) (timely (c .before .before .before .before .before .before .before .before)) (sym (repeated (c .before .before .before .before .before .before .before)) ∙ c .before .before .before .before .before .before .if3 .left) (room (c .before)),
-      taken-located (c .place-for .ensures .starts) (c .before .before .before .before .before .before .before .before .before .before .reading-of .ensures),
+          ∙ all-yes (start .args .listens) (setupOf (start .args .setup)) (start .args .clock) (queue start) (start .args .s .now) (passed (c .before .before .before .before .before .before)) (timely (c .before .before .before)) (sym (repeated (c .before .before)) ∙ c .before .if3 .left),
+      taken-located (c .place-for .ensures .starts) (c .before .before .before .before .before .reading-of .ensures),
     )
 
 pub judge-spec : {M : Type 1} → statement M
@@ -150,10 +113,5 @@ judge-spec =
     returns-2
     repeats-requires
     returns-3
-    cast-depth
-    cast-depth-2
-    cast-depth-3
-    depth-requires
-    returns-4
     place-for-requires
-    returns-5)
+    returns-4)

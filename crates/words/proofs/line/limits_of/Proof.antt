@@ -1,7 +1,5 @@
 -- `words::line::limits_of` meets its contract. Assumes nothing.
 use mathlib.Core.Path.{sym, ap, _∙_}
-use Prim.Native.Nat.{ℕ}
-use mathlib.Core.List.{[], _∷_}
 use borrow.Author.Needs.{needs}
 use native.Mathlib.Omega.{arith}
 use Rattle.lemmas.proofs.Bounds.{Limits}
@@ -75,18 +73,8 @@ returns-5 : tie.Need-returns-5
 unfolding limitsOf
 returns-5 c = c .one3 .ensures ∙ ap (limitsOf (setupOf (c .before .before .before .before .before .before .before .before .before .args .setup))) (sym (c .before .if5 .taken))
 
-depth-requires : tie.Need-depth-requires
-depth-requires c κs = let l = limited (c .before .before .before .before .before .before .before .before .before) in (l .n-most, (l .epsilon-most, l .delta-most))
-
-one-requires-4 : tie.Need-one-requires-4
-one-requires-4 c κs = search needs
-
 returns-6 : tie.Need-returns-6
-unfolding limitsOf
-returns-6 c = c .one4 .ensures ∙ (ap (λ (x : ℕ). x ∷ []) (c .before .depth .ensures) ∙ ap (limitsOf (setupOf (c .before .before .before .before .before .before .before .before .before .before .before .args .setup))) (sym (c .before .before .if6 .taken)))
-
-returns-7 : tie.Need-returns-7
-returns-7 c = no-limits (setupOf (c .before .before .before .before .before .before .before .before .before .args .setup)) (c .before .before .before .before .before .before .before .before .before .args .number) (c .before .before .before .before .before .if1 .left) (c .before .before .before .before .if2 .left) (c .before .before .before .if3 .left) (c .before .before .if4 .left) (c .before .if5 .left) (c .if6 .left)
+returns-6 c = no-limits (setupOf (c .before .before .before .before .before .before .before .before .args .setup)) (c .before .before .before .before .before .before .before .before .args .number) (c .before .before .before .before .if1 .left) (c .before .before .before .if2 .left) (c .before .before .if3 .left) (c .before .if4 .left) (c .if5 .left)
 
 pub limits-of-spec : {M : Type 1} → statement M
 limits-of-spec =
@@ -110,7 +98,4 @@ limits-of-spec =
     sub-one-2
     one-requires-3
     returns-5
-    depth-requires
-    one-requires-4
-    returns-6
-    returns-7)
+    returns-6)

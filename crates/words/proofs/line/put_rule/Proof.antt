@@ -6,7 +6,7 @@ use borrow.Author.Needs.{needs}
 use Rattle.text.proofs.Putting.{put-as, room-as}
 use Rattle.text.specs.Text.{space}
 use Rattle.words.specs.Words.{ruleWord}
-use Rattle.words.proofs.Writing.{full-word}
+use Rattle.words.proofs.Writing.{repeat-word}
 use Rattle.words.proofs.line.put_rule.Statement.{statement}
 use Rattle.words.proofs.line.put_rule.Tie as tie
 
@@ -98,27 +98,13 @@ slice-aggregate-put-word-7 : tie.Need-slice-aggregate-put-word-7
 slice-aggregate-put-word-7 c = search needs
 
 put-word-requires-7 : tie.Need-put-word-requires-7
-unfolding ruleWord
-put-word-requires-7 c κs = room-as (c .before .before .before .before .before .before .before .before .before .before .args .buf .now) (c .before .before .before .before .before .before .before .before .before .before .args .at) (ap (λ (k : ℕ). space ++ ruleWord k) (sym (c .before .before .if7 .taken))) (c .before .before .before .before .before .before .before .before .before .before .pre)
+put-word-requires-7 c κs = room-as (c .before .before .before .before .before .before .before .before .before .args .buf .now) (c .before .before .before .before .before .before .before .before .before .args .at) (ap (λ (l : List ℕ). space ++ l) (repeat-word (c .before .before .before .before .before .before .before .before .before .args .number) (c .before .before .before .before .before .before .before .if1 .left) (c .before .before .before .before .before .before .if2 .left) (c .before .before .before .before .before .if3 .left) (c .before .before .before .before .if4 .left) (c .before .before .before .if5 .left) (c .before .before .if6 .left))) (c .before .before .before .before .before .before .before .before .before .pre)
 
 same-length-7 : tie.Need-same-length-7
 same-length-7 c = search needs
 
 returns-7 : tie.Need-returns-7
-unfolding ruleWord
-returns-7 c = put-as (ap (λ (k : ℕ). space ++ ruleWord k) (sym (c .before .before .before .before .before .if7 .taken))) (c .before .before .put-word7 .ensures)
-
-slice-aggregate-put-word-8 : tie.Need-slice-aggregate-put-word-8
-slice-aggregate-put-word-8 c = search needs
-
-put-word-requires-8 : tie.Need-put-word-requires-8
-put-word-requires-8 c κs = room-as (c .before .before .before .before .before .before .before .before .before .before .args .buf .now) (c .before .before .before .before .before .before .before .before .before .before .args .at) (ap (λ (l : List ℕ). space ++ l) (full-word (c .before .before .before .before .before .before .before .before .before .before .args .number) (c .before .before .before .before .before .before .before .before .if1 .left) (c .before .before .before .before .before .before .before .if2 .left) (c .before .before .before .before .before .before .if3 .left) (c .before .before .before .before .before .if4 .left) (c .before .before .before .before .if5 .left) (c .before .before .before .if6 .left) (c .before .before .if7 .left))) (c .before .before .before .before .before .before .before .before .before .before .pre)
-
-same-length-8 : tie.Need-same-length-8
-same-length-8 c = search needs
-
-returns-8 : tie.Need-returns-8
-returns-8 c = put-as (ap (λ (l : List ℕ). space ++ l) (full-word (c .before .before .before .before .before .before .before .before .before .before .before .before .before .args .number) (c .before .before .before .before .before .before .before .before .before .before .before .if1 .left) (c .before .before .before .before .before .before .before .before .before .before .if2 .left) (c .before .before .before .before .before .before .before .before .before .if3 .left) (c .before .before .before .before .before .before .before .before .if4 .left) (c .before .before .before .before .before .before .before .if5 .left) (c .before .before .before .before .before .before .if6 .left) (c .before .before .before .before .before .if7 .left))) (c .before .before .put-word8 .ensures)
+returns-7 c = put-as (ap (λ (l : List ℕ). space ++ l) (repeat-word (c .before .before .before .before .before .before .before .before .before .before .before .before .args .number) (c .before .before .before .before .before .before .before .before .before .before .if1 .left) (c .before .before .before .before .before .before .before .before .before .if2 .left) (c .before .before .before .before .before .before .before .before .if3 .left) (c .before .before .before .before .before .before .before .if4 .left) (c .before .before .before .before .before .before .if5 .left) (c .before .before .before .before .before .if6 .left))) (c .before .before .put-word7 .ensures)
 
 pub put-rule-spec : {M : Type 1} → statement M
 put-rule-spec =
@@ -151,8 +137,4 @@ put-rule-spec =
     slice-aggregate-put-word-7
     put-word-requires-7
     same-length-7
-    returns-7
-    slice-aggregate-put-word-8
-    put-word-requires-8
-    same-length-8
-    returns-8)
+    returns-7)
