@@ -66,15 +66,9 @@ pub fn attend(
         verdicts,
     );
     let absorbed = heard.stamp;
-    let delivered = deliver(
-        setup,
-        clock,
-        heard.count,
-        heard.end,
-        early,
-        holdback,
-        delivery,
-    );
+    let count = heard.count;
+    let end = heard.end;
+    let delivered = deliver(setup, clock, count, end, early, holdback, delivery);
     Attended {
         stamp: absorbed,
         repair: opened.repair,
