@@ -1,4 +1,4 @@
-//! Thirty-eight small faults that can be planted in the oracle, to show that a comparison finds them.
+//! Forty-seven small faults that can be planted in the oracle, to show that a comparison finds them.
 //! Without the feature `plant` nothing of this is left in the code.
 //!
 //!  1. the writer alone refuses a buffer of exactly the frame's length
@@ -39,9 +39,20 @@
 //! 36. an observer is asked for an own number
 //! 37. with an observer a shelved frame due at the last clock passes as sound
 //! 38. a refused call moves an observer's last clock
+//! 39. yard numbers the steps from 0
+//! 40. the figures of yard are one too low
+//! 41. a step of yard may name its own frame, and does not hear it
+//! 42. all nodes of yard start before the first step's clock
+//! 43. yard goes on after a step that is refused
+//! 44. a step of yard is a tick of another node too
+//! 45. the give lines of yard are without the node
+//! 46. yard takes 1,001 steps
+//! 47. yard lets an overlong trace pass
 
 /// How many faults there are.
-pub const COUNT: u8 = 38;
+pub const COUNT: u8 = 47;
+/// From this one on they are in the program `yard` alone.
+pub const FIRST_OF_YARD: u8 = 39;
 
 #[cfg(feature = "plant")]
 mod switch {

@@ -12,7 +12,9 @@ pub mod generate;
 pub mod holdback;
 pub mod node;
 pub mod observer;
+pub mod playing;
 pub mod poll;
+mod reading;
 pub mod reason;
 pub mod replay;
 pub mod setup;
@@ -20,6 +22,8 @@ pub mod streaming;
 pub mod timestamp;
 pub mod trace;
 pub mod words;
+pub mod yard;
+pub mod yard_trace;
 
 pub use board::Buffers;
 pub use frame::{read, write, Frame};
@@ -31,6 +35,7 @@ pub use replay::replay;
 pub use setup::Setup;
 pub use timestamp::{ClockState, Timestamp};
 pub use words::words;
+pub use yard::yard;
 
 /// One of 01's questions: a no gives its number.
 pub(crate) fn ask(yes: bool, number: u8) -> Result<(), u8> {

@@ -1,7 +1,7 @@
 //! Traces for replay: their bytes, and the text form that the program `trace` describes.
 
-use crate::batch;
-use crate::Setup;
+use crate::yard_trace::YardTrace;
+use crate::{batch, Setup};
 use std::str::{FromStr, SplitWhitespace};
 
 /// A trace, good or bad.
@@ -30,10 +30,8 @@ pub struct TraceTick {
 impl Trace {
     /// The trace as replay reads it.
     pub fn to_bytes(&self) -> Vec<u8> {
-        let Setup { n, epsilon, delta, modulus, own } = self.setup;
-        let mut bytes = vec![n as u8, epsilon as u8, delta as u8];
-        bytes.extend((modulus as u16).to_le_bytes());
-        bytes.push(own as u8);
+        let mut bytes = limits_bytes(&self.setup);
+        bytes.push(self.setup.own as u8);
         bytes.extend(self.count.unwrap_or(self.ticks.len() as u16).to_le_bytes());
         for tick in &self.ticks {
             bytes.extend(tick.clock.to_le_bytes());
@@ -48,15 +46,48 @@ impl Trace {
     /// Reads the text form; an error names the line.
     pub fn from_text(text: &str) -> Result<Self, String> {
         let mut trace = None;
-        for (index, line) in text.lines().enumerate() {
-            let line = line.split('#').next().unwrap_or_default();
-            let mut words = line.split_whitespace();
-            let Some(item) = words.next() else { continue };
-            add_item(&mut trace, item, &mut words)
-                .map_err(|error| format!("line {}: {error}", index + 1))?;
-        }
+        for_each_item(text, |item, words| add_item(&mut trace, item, words))?;
         trace.ok_or_else(|| "no setup".into())
     }
+}
+
+/// The limits as a trace has them, without the own number.
+pub(crate) fn limits_bytes(setup: &Setup) -> Vec<u8> {
+    let Setup { n, epsilon, delta, modulus, .. } = *setup;
+    let [low, high] = (modulus as u16).to_le_bytes();
+    vec![n as u8, epsilon as u8, delta as u8, low, high]
+}
+
+/// The bytes of a trace in its text form: a yard's if that is what it starts with.
+pub fn bytes_of_text(text: &str) -> Result<Vec<u8>, String> {
+    match items(text).next() {
+        Some((_, "yard", _)) => Ok(YardTrace::from_text(text)?.to_bytes()),
+        _ => Ok(Trace::from_text(text)?.to_bytes()),
+    }
+}
+
+/// Reads a text form line by line; an error names the line, and says what is too much in it.
+pub(crate) fn for_each_item<'a>(
+    text: &'a str,
+    mut add: impl FnMut(&str, &mut SplitWhitespace<'a>) -> Result<(), String>,
+) -> Result<(), String> {
+    for (line, item, mut words) in items(text) {
+        let added = add(item, &mut words).and_then(|()| match words.next() {
+            Some(word) => Err(format!("`{word}` is too much")),
+            None => Ok(()),
+        });
+        added.map_err(|error| format!("line {line}: {error}"))?;
+    }
+    Ok(())
+}
+
+/// The lines that are not empty but for a comment: their numbers, first words and the others.
+fn items(text: &str) -> impl Iterator<Item = (usize, &str, SplitWhitespace<'_>)> {
+    text.lines().enumerate().filter_map(|(index, line)| {
+        let line = line.split('#').next().unwrap_or_default();
+        let mut words = line.split_whitespace();
+        Some((index + 1, words.next()?, words))
+    })
 }
 
 /// Adds one line of the text form.
@@ -76,10 +107,7 @@ fn add_item(
         ("tail", Some(trace)) => trace.tail = bytes(words)?,
         (_, Some(trace)) => add_to_tick(trace, item, words)?,
     }
-    match words.next() {
-        Some(word) => Err(format!("`{word}` is too much")),
-        None => Ok(()),
-    }
+    Ok(())
 }
 
 /// Adds a line that belongs to the last tick.
@@ -99,14 +127,20 @@ fn add_to_tick(trace: &mut Trace, item: &str, words: &mut SplitWhitespace) -> Re
 }
 
 fn new_trace(words: &mut SplitWhitespace) -> Result<Trace, String> {
-    let setup = Setup {
+    let limits = limits(words)?;
+    let setup = Setup { own: number::<u8>(words)?.into(), ..limits };
+    Ok(Trace { setup, ticks: Vec::new(), count: None, tail: Vec::new() })
+}
+
+/// The limits of a setup, with the own number 0.
+pub(crate) fn limits(words: &mut SplitWhitespace) -> Result<Setup, String> {
+    Ok(Setup {
         n: number::<u8>(words)?.into(),
         epsilon: number::<u8>(words)?.into(),
         delta: number::<u8>(words)?.into(),
         modulus: number::<u16>(words)?.into(),
-        own: number::<u8>(words)?.into(),
-    };
-    Ok(Trace { setup, ticks: Vec::new(), count: None, tail: Vec::new() })
+        own: 0,
+    })
 }
 
 /// A frame given by its fields, each section after its true count.
@@ -122,20 +156,20 @@ fn frame(words: &mut SplitWhitespace) -> Result<Vec<u8>, String> {
     short(frame)
 }
 
-fn word<'a>(words: &mut SplitWhitespace<'a>) -> Result<&'a str, String> {
+pub(crate) fn word<'a>(words: &mut SplitWhitespace<'a>) -> Result<&'a str, String> {
     words.next().ok_or_else(|| "something is missing".into())
 }
 
-fn parse<T: FromStr>(word: &str) -> Result<T, String> {
+pub(crate) fn parse<T: FromStr>(word: &str) -> Result<T, String> {
     word.parse().map_err(|_| format!("`{word}` is not a number that fits"))
 }
 
-fn number<T: FromStr>(words: &mut SplitWhitespace) -> Result<T, String> {
+pub(crate) fn number<T: FromStr>(words: &mut SplitWhitespace) -> Result<T, String> {
     parse(word(words)?)
 }
 
 /// Hexadecimal bytes, `-` for none.
-fn bytes(words: &mut SplitWhitespace) -> Result<Vec<u8>, String> {
+pub(crate) fn bytes(words: &mut SplitWhitespace) -> Result<Vec<u8>, String> {
     let word = word(words)?;
     if word == "-" {
         return Ok(Vec::new());
@@ -148,7 +182,7 @@ fn bytes(words: &mut SplitWhitespace) -> Result<Vec<u8>, String> {
     pairs.collect::<Option<_>>().ok_or_else(|| format!("`{word}` is not hexadecimal"))
 }
 
-fn short_bytes(words: &mut SplitWhitespace) -> Result<Vec<u8>, String> {
+pub(crate) fn short_bytes(words: &mut SplitWhitespace) -> Result<Vec<u8>, String> {
     short(bytes(words)?)
 }
 

@@ -1,51 +1,24 @@
 -- The ticks of a trace, one after the other. Assumes nothing.
-use Prim.Native.Nat.{ℕ, zero, suc, _+_, _-_, _≤_}
+use Prim.Native.Nat.{ℕ, zero, suc, _+_, _≤_}
 use native.Mathlib.Omega.{arith}
 use native.Mathlib.Nat.{zero-add, add-zero}
 use mathlib.Core.Path.{_≡_, refl, sym, ap, ap₂, subst, _∙_}
 use mathlib.Core.List.{List, [], _∷_, _++_, append-assoc}
-use lib.ListN.{length, take, replicate, length-append, length-replicate, replicate-append-replicate}
-use lib.Seq.{take-append-seam}
+use lib.ListN.{length, length-append}
 use Rattle.laws.specs.Lists.{joined}
-use Rattle.model.specs.Setup.{Setup, holdbackLength}
 use Rattle.model.specs.Timestamp.{Timestamp, widened, replaced}
 use Rattle.model.specs.Question.{firstNo}
 use Rattle.model.specs.Holdback.{encodeHoldback}
 use Rattle.model.specs.Tick.{holdbackSize}
-use Rattle.splice.specs.Bytes.{zeros}
 use Rattle.timestamp.specs.Views.{stampOf}
-use Rattle.holdback.proofs.Changes.{all-cleared, cleared-empty}
+use Rattle.stations.specs.declared.Station.{Station}
 use Rattle.trace.specs.Trace.{NodeSetup, tickEnd, endNumber}
 use Rattle.trace.specs.Replay.{Turn, stopped, turnAt, begun, replayTicks}
 use Rattle.trace.proofs.Whole.{next-whole}
-use Rattle.replay.specs.declared.playing.Progress.{Progress}
-use Rattle.replay.specs.Playing.{Result, resultOf, playedOf, resultBy, ByTurns, firstOf, Ran}
-
--- ---- the empty hold-back queue
-
-take-zeros : (n m : ℕ) → n ≤ m → take n (replicate m 0) ≡ zeros n
-take-zeros n m h =
-    let all : n + (m - n) ≡ m = omega arith in
-    let whole : zeros n ++ zeros (m - n) ≡ zeros m = replicate-append-replicate n (m - n) 0 ∙ ap zeros all in
-    ap (take n) (sym whole)
-    ∙ ap (λ (k : ℕ). take k (zeros n ++ zeros (m - n))) (sym (length-replicate {A = ℕ} n 0))
-    ∙ take-append-seam (zeros n) (zeros (m - n))
-
-zeros-are : (s : Setup) → zeros (holdbackSize s) ≡ encodeHoldback (holdbackSize s) []
-unfolding holdbackLength
-zeros-are s =
-    let n : ℕ = holdbackSize s in
-    let long : length (zeros n) ≡ n = length-replicate {A = ℕ} n 0 in
-    ap zeros (sym long)
-    ∙ sym (all-cleared (zeros n))
-    ∙ cleared-empty (zeros n) (omega arith)
-    ∙ ap (λ (k : ℕ). encodeHoldback k []) long
-
-pub queue-empty : (s : Setup) (n m : ℕ) → n ≡ holdbackSize s → n ≤ m → take n (replicate m 0) ≡ encodeHoldback (holdbackSize s) []
-queue-empty s n m e h = take-zeros n m h ∙ ap zeros e ∙ zeros-are s
-
-pub empty-long : (s : Setup) → length (encodeHoldback (holdbackSize s) []) ≡ holdbackSize s
-empty-long s = ap length (sym (zeros-are s)) ∙ length-replicate {A = ℕ} (holdbackSize s) 0
+use Rattle.playing.specs.declared.Played.{Played}
+use Rattle.playing.specs.Playing.{Result, resultOf, resultBy}
+use Rattle.replay.specs.declared.Progress.{Progress}
+use Rattle.replay.specs.Running.{ByTurns, firstOf, Ran}
 
 -- ---- turn by turn
 
@@ -63,47 +36,46 @@ by-turns-next s i before (one ∷ came) after bytes h e =
     (h .0, subst (λ (k : ℕ). ByTurns s (suc i) (turnAt i s (before .tables) (before .holdback) one) (came ++ (bytes ∷ [])) (turnAt k s (after .tables) (after .holdback) bytes)) place rest)
 
 -- the ticks so far, with the latest
-pub record Turned (s : NodeSetup) (p : Progress) (holdback : List ℕ) : Type 0 where
+pub record Turned (s : NodeSetup) (number : ℕ) (station : Station) (holdback : List ℕ) : Type 0 where
   pub came : List (List ℕ)
   pub last : Turn
   pub turns : ByTurns s 0 (begun s) came last
-  pub count : p .ticks ≡ length came
-  pub number : p .number ≡ last .number
-  pub tables : stampOf (p .tables) ≡ last .tables
+  pub count : station .ticks ≡ length came
+  pub number-is : number ≡ last .number
+  pub tables : stampOf (station .tables) ≡ last .tables
   pub queue : holdback ≡ last .holdback
 
 -- none
-pub turned-none : (s : NodeSetup) (p : Progress) (holdback : List ℕ) → p .ticks ≡ 0 → p .number ≡ 0 → stampOf (p .tables) ≡ widened (replaced (s .setup .epsilon) 0)
-    → holdback ≡ encodeHoldback (holdbackSize (s .setup)) [] → Turned s p holdback
+pub turned-none : (s : NodeSetup) (station : Station) (holdback : List ℕ) → station .ticks ≡ 0 → stampOf (station .tables) ≡ widened (replaced (s .setup .epsilon) 0)
+    → holdback ≡ encodeHoldback (holdbackSize (s .setup)) [] → Turned s 0 station holdback
 unfolding begun ByTurns
-turned-none s p holdback i n t q =
-    record { came = []; last = begun s; turns = refl; count = i; number = n; tables = t; queue = q }
+turned-none s station holdback i t q =
+    record { came = []; last = begun s; turns = refl; count = i; number-is = refl; tables = t; queue = q }
 
 -- and the next
-pub turned-next : (s : NodeSetup) (p r : Progress) (holdback bytes text holdback′ text′ : List ℕ) → Turned s p holdback → p .number ≡ 0 → r .ticks ≡ suc (p .ticks)
-    → resultOf (playedOf r) holdback′ text′ ≡ resultBy (turnAt (p .ticks) s (stampOf (p .tables)) holdback bytes) text → Turned s r holdback′
+pub turned-next : (s : NodeSetup) (station : Station) (r : Played) (holdback bytes text holdback′ text′ : List ℕ) → Turned s 0 station holdback → r .station .ticks ≡ suc (station .ticks)
+    → resultOf r holdback′ text′ ≡ resultBy (turnAt (station .ticks) s (stampOf (station .tables)) holdback bytes) text → Turned s (r .number) (r .station) holdback′
 unfolding resultBy
-turned-next s p r holdback bytes text holdback′ text′ t good i e =
+turned-next s station r holdback bytes text holdback′ text′ t i e =
     let came : List (List ℕ) = t .came ++ (bytes ∷ []) in
-    let turns = by-turns-next s 0 (begun s) (t .came) (t .last) bytes (t .turns) (sym (t .number) ∙ good) in
-    let same : turnAt (0 + length (t .came)) s (t .last .tables) (t .last .holdback) bytes ≡ turnAt (p .ticks) s (stampOf (p .tables)) holdback bytes
+    let turns = by-turns-next s 0 (begun s) (t .came) (t .last) bytes (t .turns) (sym (t .number-is)) in
+    let same : turnAt (0 + length (t .came)) s (t .last .tables) (t .last .holdback) bytes ≡ turnAt (station .ticks) s (stampOf (station .tables)) holdback bytes
     = ap (λ (k : ℕ). turnAt k s (t .last .tables) (t .last .holdback) bytes) (zero-add (length (t .came)) ∙ sym (t .count))
-    ∙ ap₂ (λ (x : Timestamp) (q : List ℕ). turnAt (p .ticks) s x q bytes) (sym (t .tables)) (sym (t .queue)) in
+    ∙ ap₂ (λ (x : Timestamp) (q : List ℕ). turnAt (station .ticks) s x q bytes) (sym (t .tables)) (sym (t .queue)) in
     record {
       came = came;
-      last = turnAt (p .ticks) s (stampOf (p .tables)) holdback bytes;
+      last = turnAt (station .ticks) s (stampOf (station .tables)) holdback bytes;
       turns = subst (λ (l : Turn). ByTurns s 0 (begun s) came l) same turns;
       count = omega (arith, i, t .count, length-append (t .came) (bytes ∷ []));
-      number = ap (λ (x : Result). x .number) e;
+      number-is = ap (λ (x : Result). x .number) e;
       tables = ap (λ (x : Result). x .tables) e;
       queue = ap (λ (x : Result). x .holdback) e;
     }
 
 -- between two ticks, none was refused yet, and the buffers are as long as they were
-pub record Going (s : NodeSetup) (ticks : ℕ) (holdback₀ bytes₀ text₀ holdback bytes text : List ℕ) (p : Progress) : Type 0 where
-  pub turned : Turned s p holdback
-  pub good : p .number ≡ 0
-  pub most : p .ticks ≤ ticks
+pub record Going (s : NodeSetup) (ticks : ℕ) (holdback₀ bytes₀ text₀ holdback bytes text : List ℕ) (station : Station) : Type 0 where
+  pub turned : Turned s 0 station holdback
+  pub most : station .ticks ≤ ticks
   pub size : length holdback ≡ holdbackSize (s .setup)
   pub same-queue : length holdback ≡ length holdback₀
   pub same-bytes : length bytes ≡ length bytes₀
@@ -120,7 +92,7 @@ first-alone zero = sym none-more
 first-alone (suc x) = refl
 
 -- at a tick that was refused, or whose lines were not written
-pub ran-to : (s : NodeSetup) (ticks : ℕ) (p : Progress) (holdback : List ℕ) → Turned s p holdback → p .ticks ≤ ticks → Ran s ticks p holdback
+pub ran-to : (s : NodeSetup) (ticks : ℕ) (p : Progress) (holdback : List ℕ) → Turned s (p .number) (p .station) holdback → p .station .ticks ≤ ticks → Ran s ticks p holdback
 ran-to s ticks p holdback t h =
     record {
       came = t .came;
@@ -129,26 +101,26 @@ ran-to s ticks p holdback t h =
       turns = t .turns;
       count = t .count;
       most = h;
-      number = t .number ∙ first-alone (t .last .number);
+      number = t .number-is ∙ first-alone (t .last .number);
       looked = λ _. refl;
       tables = t .tables;
       queue = t .queue;
     }
 
 -- after the last of them
-pub ran-all : (s : NodeSetup) (ticks : ℕ) (p r : Progress) (holdback : List ℕ) (more : ℕ) → Turned s p holdback → p .number ≡ 0 → p .ticks ≤ ticks → ticks ≤ p .ticks
-    → r .ticks ≡ p .ticks → r .number ≡ endNumber more → stampOf (r .tables) ≡ stampOf (p .tables) → Ran s ticks r holdback
-ran-all s ticks p r holdback more t good h k i n e =
+pub ran-all : (s : NodeSetup) (ticks : ℕ) (p : Progress) (holdback : List ℕ) (more : ℕ) → Turned s 0 (p .station) holdback → p .station .ticks ≤ ticks → ticks ≤ p .station .ticks
+    → p .number ≡ endNumber more → Ran s ticks p holdback
+ran-all s ticks p holdback more t h k n =
     record {
       came = t .came;
       more = more;
       last = t .last;
       turns = t .turns;
-      count = i ∙ t .count;
+      count = t .count;
       most = omega arith;
-      number = n ∙ ap (λ (x : ℕ). firstOf x (endNumber more)) (sym good ∙ t .number);
+      number = n ∙ ap (λ (x : ℕ). firstOf x (endNumber more)) (t .number-is);
       looked = λ less. absurd (omega arith);
-      tables = e ∙ t .tables;
+      tables = t .tables;
       queue = t .queue;
     }
 

@@ -1,2 +1,2 @@
--- `Playing` has what the contracts of `replay` cite.
-pub mod Playing
+-- `Running` has what the contracts of `replay` cite.
+pub mod Running

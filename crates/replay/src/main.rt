@@ -1,14 +1,10 @@
 // 01, "The replay program": a node's ticks from a trace on standard input, and their lines on
 // standard output, those of each tick before the next is read.
-mod playing;
-mod reading;
-
 use libc::STDOUT_FILENO;
-use playing::Progress;
 use playing::play_next;
 use reading::read_next;
-use reading::read_tick;
 use setup::holdback_length;
+use stations::Station;
 use timestamp::Timestamp;
 use trace::COUNT_LENGTH;
 use trace::NodeSetup;
@@ -19,10 +15,41 @@ use trace::put_stopped;
 use trace::read_setup;
 use trace::setup_number;
 use trace::tick_count;
+use trace::tick_end;
 ghost use mathlib.Core.Path.{_≡_};
 ghost use mathlib.Core.Bool.{true};
+ghost use Prim.Native.Nat.{_≤_};
+ghost use lib.ListN.{length};
 ghost use Rattle.trace.specs.Views.{nodeSetupOf};
-ghost use Rattle.replay.specs.Playing.{Ready, Begun, Ran, among, runNumbers, replayNumbers};
+ghost use Rattle.trace.specs.Trace.{tickEnd, longestTick};
+ghost use Rattle.playing.specs.Playing.{Ready, among, runNumbers, replayNumbers};
+ghost use Rattle.reading.specs.Coming.{Came};
+ghost use Rattle.replay.specs.Running.{Begun, Ran};
+
+// Reads one tick into `bytes`, and answers how many came: fewer than the tick has where the trace
+// is cut. No byte past the tick is read.
+fn read_tick(bytes: &mut [u8]) -> usize
+    requires { ⌜ longestTick ≤ length (now bytes) ⌝ }
+    ensures { λ r. ⌜ Came tickEnd (now (bytes .entry)) (now (bytes .exit)) r ⌝ }
+{
+    let mut used = 0;
+    let mut end = tick_end(&bytes[..0]);
+    while used < end {
+        used += read_next(&mut bytes[used..end]);
+        if used < end {
+            return used;
+        }
+        end = tick_end(&bytes[..used]);
+    }
+    used
+}
+
+// The ticks of a trace so far: 0, or the number of the refusal at which they stopped, and the station
+// after them.
+struct Progress {
+    pub number: u8,
+    pub station: Station,
+}
 
 // Plays `ticks` ticks as they come, the first fresh, and then looks whether there are more bytes. It
 // stops at a tick that is refused. Lines that cannot be written stop it too, with 0: nothing more is
@@ -38,31 +65,26 @@ fn play_ticks(
     ensures { λ r. ⌜ Ran (nodeSetupOf node) ticks r (now (holdback .exit)) ⌝ }
     ensures { λ r. ⌜ among runNumbers (r .number) ≡ true ⌝ }
 {
-    let none = Timestamp::replaced(0);
-    let mut progress = Progress {
-        ticks: 0,
-        number: 0,
-        tables: none,
-        size: 0,
-    };
-    while progress.ticks < ticks {
+    let tables = Timestamp::replaced(0);
+    let mut station = Station { ticks: 0, tables };
+    while station.ticks < ticks {
         let used = read_tick(bytes);
-        progress = play_next(node, progress, holdback, &bytes[..used], text);
-        if progress.number != 0 {
-            return progress;
+        let played = play_next(node, station, holdback, &bytes[..used], text);
+        station = played.station;
+        if played.number != 0 {
+            return Progress {
+                number: played.number,
+                station,
+            };
         }
-        if !io::write_all(STDOUT_FILENO, &text[..progress.size]) {
-            return progress;
+        if !io::write_all(STDOUT_FILENO, &text[..played.size]) {
+            return Progress { number: 0, station };
         }
     }
     let mut more = [0u8; 1];
-    let number = end_number(read_next(&mut more));
-    let tables = progress.tables;
     Progress {
-        ticks: progress.ticks,
-        number,
-        tables,
-        size: 0,
+        number: end_number(read_next(&mut more)),
+        station,
     }
 }
 
@@ -97,7 +119,7 @@ fn replay() -> u8
 {
     let mut head = [0u8; SETUP_LENGTH];
     let got = read_next(&mut head);
-    let number = setup_number(&head[..got]);
+    let number = setup_number(&head[..got], SETUP_LENGTH);
     if number != 0 {
         return number;
     }

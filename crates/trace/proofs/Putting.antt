@@ -1,12 +1,14 @@
 -- The parts of the lines: where there is room for them, how long they are, and the loop that writes a payload. Assumes nothing.
 use Prim.Native.Nat.{ℕ, zero, suc, _+_, _*_, _≤_, _<_}
 use mathlib.Core.Path.{_≡_, refl, sym, ap, _∙_}
+use mathlib.Core.Bool.{Bool, true, false, cond}
 use mathlib.Core.List.{List, [], _∷_, _++_}
 use native.Mathlib.Numerals.{add-one}
 use native.Mathlib.Omega.{arith}
+use lib.Dec.{leb}
 use lib.ListN.{length, take, getD, length-append}
 use lib.Seq.{take-suc, take-all}
-use borrow.Author.Tests.{le-leb, lt-leb, eq-eqb, ne-eqb}
+use borrow.Author.Tests.{leb-true, le-leb, lt-leb, eq-eqb, ne-eqb}
 use Rattle.laws.specs.Lists.{joined}
 use Rattle.laws.proofs.Lists.{joined-append}
 use Rattle.splice.specs.Bytes.{pasted}
@@ -33,6 +35,15 @@ none-written l at text h = rw (lt-leb (at + length text) (length l) h)
 pub none-end : (l : List ℕ) (at : ℕ) (text : List ℕ) → length l < at + length text → 0 ≡ textEnd l at text
 unfolding textEnd
 none-end l at text h = rw (lt-leb (at + length text) (length l) h)
+
+-- where a text ends that was written into a buffer, or not
+pub end-within : (l : List ℕ) (at : ℕ) (text : List ℕ) → textEnd l at text ≤ length l
+unfolding textEnd
+end-within l at text = go (leb (at + length text) (length l)) refl
+  where
+    go : (b : Bool) → leb (at + length text) (length l) ≡ b → cond b (at + length text) 0 ≤ length l
+    go true e = leb-true (at + length text) (length l) e
+    go false e = omega arith
 
 -- ---- the parts of a line, and how long they are
 

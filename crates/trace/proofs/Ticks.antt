@@ -87,21 +87,22 @@ send-flag s send e = rw e
 
 -- ---- the setup, judged
 
-pub setup-cut : (s : List ℕ) → length s < 6 → 5 ≡ setupNumber s
-unfolding setupNumber firstNo
-setup-cut s h = rw (lt-leb 6 (length s) h)
+module _ (size : ℕ) (s : List ℕ) where
+  pub setup-cut : length s < size → 5 ≡ setupNumber size s
+  unfolding setupNumber firstNo
+  setup-cut h = rw (lt-leb size (length s) h)
 
-pub setup-out : (s : List ℕ) → 6 ≤ length s → isValid (traceSetup s) ≡ false → 1 ≡ setupNumber s
-unfolding setupNumber firstNo
-setup-out s h k = rw (le-leb 6 (length s) h, k)
+  pub setup-out : size ≤ length s → isValid (traceSetup s) ≡ false → 1 ≡ setupNumber size s
+  unfolding setupNumber firstNo
+  setup-out h k = rw (le-leb size (length s) h, k)
 
-pub setup-large : (s : List ℕ) → 6 ≤ length s → isValid (traceSetup s) ≡ true → 65536 < holdbackSize (traceSetup s .setup) → 1 ≡ setupNumber s
-unfolding setupNumber firstNo
-setup-large s h k g = rw (le-leb 6 (length s) h, k, lt-leb (holdbackSize (traceSetup s .setup)) 65536 g)
+  pub setup-large : size ≤ length s → isValid (traceSetup s) ≡ true → 65536 < holdbackSize (traceSetup s .setup) → 1 ≡ setupNumber size s
+  unfolding setupNumber firstNo
+  setup-large h k g = rw (le-leb size (length s) h, k, lt-leb (holdbackSize (traceSetup s .setup)) 65536 g)
 
-pub setup-good : (s : List ℕ) → 6 ≤ length s → isValid (traceSetup s) ≡ true → holdbackSize (traceSetup s .setup) ≤ 65536 → 0 ≡ setupNumber s
-unfolding setupNumber firstNo
-setup-good s h k g = rw (le-leb 6 (length s) h, k, le-leb (holdbackSize (traceSetup s .setup)) 65536 g)
+  pub setup-good : size ≤ length s → isValid (traceSetup s) ≡ true → holdbackSize (traceSetup s .setup) ≤ 65536 → 0 ≡ setupNumber size s
+  unfolding setupNumber firstNo
+  setup-good h k g = rw (le-leb size (length s) h, k, le-leb (holdbackSize (traceSetup s .setup)) 65536 g)
 
 pub setup-read : (s : List ℕ) {n epsilon delta modulus own : ℕ} → n ≡ getD s 0 0 → epsilon ≡ getD s 1 0 → delta ≡ getD s 2 0 → modulus ≡ twoAt s 3 → own ≡ getD s 5 0
     → _≡_ {A = NodeSetup} (record { setup = record { n = n; epsilon = epsilon; delta = delta; modulus = modulus }; own = own }) (traceSetup s)

@@ -45,11 +45,15 @@ callOf s tables holdback bytes =
       delivery = replicate largestHoldback 0;
     }
 
--- what a tick comes to: 0 or the number of its refusal, what it leaves, and its lines
+-- what a tick comes to: 0 or the number of its refusal, what it leaves, what it sends, the verdicts, and its lines
 pub record Turn : Type 0 where
   pub number : ℕ
   pub tables : Timestamp
   pub holdback : List ℕ
+  -- how long the frame is that is sent, 0 if none, and the buffer in which it stands
+  pub sent : ℕ
+  pub outgoing : List ℕ
+  pub verdicts : List ℕ
   pub text : List ℕ
 
 -- the lines of a call that is not refused
@@ -65,13 +69,29 @@ calledTurn s tables holdback bytes =
       number = o .answer .number;
       tables = o .answer .tables;
       holdback = o .holdback;
+      sent = o .answer .sent;
+      outgoing = o .outgoing;
+      verdicts = o .verdicts;
       text = textBy (o .answer .number) (linesOf i o);
+    }
+
+-- nothing is called: the buffers are zeros still
+abbrev pub notCalled : ℕ → Timestamp → List ℕ → Turn
+notCalled number tables holdback =
+    record {
+      number = number;
+      tables = tables;
+      holdback = holdback;
+      sent = 0;
+      outgoing = replicate 71 0;
+      verdicts = replicate verdictLength 0;
+      text = [];
     }
 
 -- bytes that are not one tick are not called
 abbrev pub turnBy : ℕ → NodeSetup → Timestamp → List ℕ → List ℕ → Turn
 turnBy zero s tables holdback bytes = calledTurn s tables holdback bytes
-turnBy (suc k) s tables holdback bytes = record { number = suc k; tables = tables; holdback = holdback; text = [] }
+turnBy (suc k) s tables holdback bytes = notCalled (suc k) tables holdback
 
 -- 01: "each tick is read whole, called, and its lines printed"
 unfoldable pub turn : NodeSetup → Timestamp → List ℕ → List ℕ → Turn
@@ -96,13 +116,7 @@ turnAt i s tables holdback bytes = turn s (tablesAt i s tables bytes) holdback b
 
 -- 01: "shelf empty": what is there before the first tick. Its tables are not looked at
 unfoldable pub begun : NodeSetup → Turn
-begun s =
-    record {
-      number = 0;
-      tables = widened (replaced (s .setup .epsilon) 0);
-      holdback = encodeHoldback (holdbackSize (s .setup)) [];
-      text = [];
-    }
+begun s = notCalled 0 (widened (replaced (s .setup .epsilon) 0)) (encodeHoldback (holdbackSize (s .setup)) [])
 
 -- the lines of `k` ticks that have `i` before them, of which `last` is the latest
 unfoldable pub replayTicks : NodeSetup → ℕ → ℕ → Turn → List ℕ → List ℕ
@@ -117,4 +131,4 @@ replayFrom s bytes = stopped (countNumber bytes) (replayTicks s 0 (tickCount byt
 
 -- 01: "The setup is judged once read"
 unfoldable pub replay : List ℕ → List ℕ
-replay bytes = stopped (setupNumber bytes) (replayFrom (traceSetup bytes) (drop setupLength bytes))
+replay bytes = stopped (setupNumber setupLength bytes) (replayFrom (traceSetup bytes) (drop setupLength bytes))

@@ -35,11 +35,12 @@ isValid s = inLimits (s .setup) && isMember (s .setup) (s .own)
 abbrev pub largestHoldback : ℕ
 largestHoldback = 65536
 
--- 01: "A cut … trace … gets 5"; "a shelf above 65,536 bytes counts as setup 1". 0 for a setup with which the ticks can start
-unfoldable pub setupNumber : List ℕ → ℕ
-setupNumber s =
+-- 01: "A cut … trace … gets 5"; "a shelf above 65,536 bytes counts as setup 1". 0 for a setup of that many bytes with which the ticks can
+-- start
+unfoldable pub setupNumber : ℕ → List ℕ → ℕ
+setupNumber size s =
     firstNo
-    (ask (leb setupLength (length s)) 5
+    (ask (leb size (length s)) 5
     ∷ ask (isValid (traceSetup s)) 1
     ∷ ask (leb (holdbackSize (traceSetup s .setup)) largestHoldback) 1
     ∷ [])

@@ -37,12 +37,12 @@ pub fn read_setup(s: &[u8]) -> NodeSetup
     }
 }
 
-// 01: the setup "is judged once read": 5 where it is cut, 1 where it is out of its limits or its
-// hold-back queue (01: shelf) is too large, otherwise 0.
-pub fn setup_number(s: &[u8]) -> u8
-    ensures { λ r. ⌜ r ≡ setupNumber (now (s .entry)) ⌝ }
+// 01: the setup, of `size` bytes, "is judged once read": 5 where it is cut, 1 where it is out of its
+// limits or its hold-back queue (01: shelf) is too large, otherwise 0.
+pub fn setup_number(s: &[u8], size: usize) -> u8
+    ensures { λ r. ⌜ r ≡ setupNumber size (now (s .entry)) ⌝ }
 {
-    if s.len() < SETUP_LENGTH {
+    if s.len() < size {
         return 5;
     }
     let read = read_setup(s);

@@ -10,6 +10,7 @@ pub mod polls;
 pub mod prng;
 pub mod spoil;
 pub mod traces;
+pub mod yards;
 
 pub use cases::{ReadCase, TickCase, WordsCase, WriteCase};
 pub use group::{Group, Habits, Turn};

@@ -10,6 +10,7 @@ mod order;
 mod poll;
 mod programs;
 mod reasons;
+mod rehearsing;
 mod replaying;
 mod round_trips;
 mod samples;

@@ -6,7 +6,7 @@ use native.Mathlib.Omega.{arith}
 use lib.ListN.{length, replicate}
 use lib.Seq.{length-take-le}
 use Rattle.trace.specs.Replay.{stopped}
-use Rattle.replay.proofs.Refusals.{end-within}
+use Rattle.trace.proofs.Putting.{end-within}
 use borrow.Author.Needs.{needs}
 use Rattle.replay.proofs.main.Statement.{statement}
 use Rattle.replay.proofs.main.Tie as tie

@@ -1,7 +1,7 @@
 -- `replay::replay` meets its contract. Assumes nothing.
 use mathlib.Core.Path.{sym, ap, _∙_}
-use Rattle.replay.specs.Playing.{among, replayNumbers}
-use Rattle.replay.proofs.Refusals.{setup-among, run-among, setup-ready}
+use Rattle.playing.specs.Playing.{among, replayNumbers}
+use Rattle.playing.proofs.Refusals.{setup-among, run-among, setup-ready}
 use borrow.Author.Needs.{needs}
 use Rattle.replay.proofs.replay.Statement.{statement}
 use Rattle.replay.proofs.replay.Tie as tie
@@ -22,7 +22,7 @@ setup-number-requires : tie.Need-setup-number-requires
 setup-number-requires c κs = search needs
 
 returns : tie.Need-returns
-returns c = ap (among replayNumbers) (c .before .setup-number .ensures) ∙ setup-among _
+returns c = ap (among replayNumbers) (c .before .setup-number .ensures) ∙ setup-among _ _
 
 array-share-prefix-head-2 : tie.Need-array-share-prefix-head-2
 array-share-prefix-head-2 c = search needs
@@ -34,7 +34,7 @@ read-setup-requires : tie.Need-read-setup-requires
 read-setup-requires c κs = search needs
 
 run-requires : tie.Need-run-requires
-run-requires c κs = rw (c .read-setup .ensures) (setup-ready _ (sym (c .before .before .before .setup-number .ensures) ∙ c .before .before .if1 .left))
+run-requires c κs = rw (c .read-setup .ensures) (setup-ready _ _ (sym (c .before .before .before .setup-number .ensures) ∙ c .before .before .if1 .left))
 
 returns-2 : tie.Need-returns-2
 returns-2 c = run-among _ (c .run .ensures)

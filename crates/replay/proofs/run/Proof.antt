@@ -5,9 +5,9 @@ use native.Mathlib.Omega.{arith}
 use lib.Seq.{length-take-le}
 use Rattle.lemmas.proofs.Questions.{setup-from}
 use Rattle.setup.specs.Views.{setupOf}
-use Rattle.replay.specs.Playing.{among, runNumbers}
-use Rattle.replay.proofs.Refusals.{count-among}
-use Rattle.replay.proofs.Running.{queue-empty}
+use Rattle.playing.specs.Playing.{among, runNumbers}
+use Rattle.playing.proofs.Refusals.{count-among}
+use Rattle.playing.proofs.Empty.{queue-empty}
 use borrow.Author.Needs.{needs}
 use Rattle.replay.proofs.run.Statement.{statement}
 use Rattle.replay.proofs.run.Tie as tie

@@ -5,6 +5,8 @@ use std::fmt;
 
 /// What a number was the answer to, and the numbers that a run should meet there.
 type Row = (&'static str, &'static [u8]);
+/// The same, with how often a thousand rehearsals should meet each: some two thirds of what comes.
+type YardRow = (&'static str, &'static [u8], u64);
 
 /// Every number that a run should meet must be met this often.
 const LEAST: u64 = 100;
@@ -57,6 +59,40 @@ const OF_TRACES: [Row; 4] = [
     ("trace step", &[0, 1, 2, 3, 4]),
 ];
 
+/// Of rehearsals; all numbers but those of `yard` are kinds: see `yards`. 10 to 12 refuse no frame that
+/// a node has sent, and no queue is unsound beside sound tables, so mend 2 does not come.
+const OF_YARDS: [YardRow; 29] = [
+    ("yard", &[0], 350),
+    ("yard", &[1], 36),
+    ("yard", &[2], 24),
+    ("yard", &[4], 19),
+    ("yard", &[5], 240),
+    ("yard boards", &[0], 100),
+    ("yard boards", &[1], 57),
+    ("yard boards", &[2], 190),
+    ("yard figure", &[13], 140),
+    ("yard figure", &[14], 35),
+    ("yard figure", &[15], 16),
+    ("yard figure", &[16], 280),
+    ("yard flaw", &[1, 2, 3, 4, 5, 6, 7, 8, 9, 10, 11, 12, 14, 15], 16),
+    ("yard flaw", &[13], 14),
+    ("yard length", &[0], 13),
+    ("yard length", &[1], 320),
+    ("yard length", &[2], 8),
+    ("yard length", &[3], 1),
+    ("yard mend", &[0], 24_000),
+    ("yard mend", &[1], 480),
+    ("yard mend", &[3], 220),
+    ("yard nodes", &[1], 80),
+    ("yard nodes", &[2, 3, 4], 55),
+    ("yard nodes", &[5, 6, 7, 8, 9, 10, 11, 12, 13, 14, 15, 16], 5),
+    ("yard step", &[0], 235),
+    ("yard step", &[1], 20_000),
+    ("yard step", &[2], 400),
+    ("yard step", &[3], 1_300),
+    ("yard step", &[4], 245),
+];
+
 /// The counts.
 #[derive(Default)]
 pub struct Coverage(BTreeMap<(&'static str, u8), u64>);
@@ -71,10 +107,14 @@ impl Coverage {
         self.0.get(&(what, number)).copied().unwrap_or(0)
     }
 
-    /// The numbers that were met too rarely in a run of this many traces.
-    pub fn gaps(&self, traces: u64) -> Vec<String> {
+    /// The numbers that were met too rarely in a run of this many traces and rehearsals.
+    pub fn gaps(&self, traces: u64, rehearsals: u64) -> Vec<String> {
         let few = LEAST.min(traces / TRACES);
-        [self.below(LEAST, &OF_CALLS), self.below(few, &OF_TRACES)].concat()
+        let of_yard = |&(what, numbers, share): &YardRow| {
+            self.below(rehearsals * share / 1_000, &[(what, numbers)])
+        };
+        let of_yards = OF_YARDS.iter().flat_map(of_yard).collect();
+        [self.below(LEAST, &OF_CALLS), self.below(few, &OF_TRACES), of_yards].concat()
     }
 
     /// The numbers of some rows that were met less often than this.

@@ -1,13 +1,14 @@
-//! Compares the oracle with the proved library and its `replay`, call by call.
+//! Compares the oracle with the proved library and the proved programs, call by call.
 //!
 //! ```text
-//! compare --replay PATH [--seed S] [--calls N] [--traces N] [--plant K]
+//! compare --replay PATH --yard PATH [--seed S] [--calls N] [--traces N] [--plant K]
 //! compare selfcheck [--seed S] [--calls N] [--traces N]
 //! ```
 //!
 //! The first form needs the feature `abi`; `--plant K` (feature `plant`) puts fault K into the
 //! oracle, and the comparison should then fail. The second form (feature `plant`) needs no
-//! library: it compares the oracle with itself, and then with itself and each fault in turn.
+//! library: it compares the oracle with itself, and then with itself and each fault in turn; for
+//! those of `yard` it makes no calls.
 
 mod coverage;
 mod nudges;
@@ -16,15 +17,19 @@ mod polls;
 mod reasons;
 mod run;
 mod subject;
+mod yards;
 
 use oracle::fault;
 use oracle::generate::Prng;
+#[cfg(feature = "abi")]
+use oracle::streaming::{self, Sample};
 use run::Comparison;
 use std::process::ExitCode;
 use std::time::Instant;
 use subject::{Oracle, Subject};
 
 /// The command line.
+#[derive(Clone)]
 struct Options {
     selfcheck: bool,
     seed: u64,
@@ -32,6 +37,7 @@ struct Options {
     traces: u64,
     fault: u8,
     replay: Option<String>,
+    yard: Option<String>,
 }
 
 impl Options {
@@ -43,6 +49,7 @@ impl Options {
             traces: 2_000,
             fault: 0,
             replay: None,
+            yard: None,
         };
         while let Some(word) = words.next() {
             if word == "selfcheck" {
@@ -57,6 +64,7 @@ impl Options {
                 "--traces" => options.traces = number()?,
                 "--plant" => options.fault = number()?.min(255) as u8,
                 "--replay" => options.replay = Some(value),
+                "--yard" => options.yard = Some(value),
                 _ => return Err(format!("{word}: not known")),
             }
         }
@@ -99,7 +107,8 @@ fn compare<'s>(
     let mut comparison = Comparison::new(left, right);
     let result = comparison
         .run_calls(&mut rng, options.calls)
-        .and_then(|()| comparison.run_traces(&mut rng, options.traces));
+        .and_then(|()| comparison.run_traces(&mut rng, options.traces))
+        .and_then(|()| comparison.run_yards(&mut rng, options.traces));
     (comparison, result.map_err(|difference| format!("seed {}, {difference}", options.seed)))
 }
 
@@ -114,8 +123,11 @@ fn compare_alike(
     result?;
     println!("{}", done.coverage);
     let (seconds, seed) = (start.elapsed().as_secs_f64(), options.seed);
-    println!("{} calls and {} traces alike, seed {seed}, {seconds:.1} s", done.calls, done.traces);
-    match done.coverage.gaps(done.traces) {
+    let Comparison { calls, traces, rehearsals, .. } = done;
+    println!(
+        "{calls} calls, {traces} traces and {rehearsals} rehearsals alike, seed {seed}, {seconds:.1} s"
+    );
+    match done.coverage.gaps(traces, rehearsals) {
         gaps if gaps.is_empty() => Ok(()),
         gaps => Err(format!("met too rarely: {}", gaps.join(", "))),
     }
@@ -123,26 +135,31 @@ fn compare_alike(
 
 #[cfg(feature = "abi")]
 fn compare_with_library(options: &Options) -> Result<(), String> {
-    let replay = match &options.replay {
-        Some(path) => path.clone(),
-        None if options.traces == 0 => String::new(),
-        None => return Err("--replay is missing".into()),
+    let path = |program: &Option<String>, name: &str| match program {
+        None if options.traces > 0 => Err(format!("--{name} is missing")),
+        path => Ok(path.clone().unwrap_or_default()),
     };
-    let mut oracle = Oracle { fault: options.fault };
-    if !replay.is_empty() {
-        oracle::streaming::check(&replay, oracle::streaming::LIMIT)?;
-        oracle::streaming::check_full(&replay, oracle::streaming::LIMIT)?;
-        println!(
-            "the proved replay writes each tick's lines before the next, and ends where it cannot"
-        );
+    let (replay, yard) = (path(&options.replay, "replay")?, path(&options.yard, "yard")?);
+    for (program, name, sample) in
+        [(&replay, "replay", Sample::of_replay()), (&yard, "yard", Sample::of_yard())]
+    {
+        if !program.is_empty() {
+            streaming::check(program, &sample, streaming::LIMIT)?;
+            streaming::check_full(program, &sample, streaming::LIMIT)?;
+            println!(
+                "the proved {name} writes each tick's lines before the next, and ends where it cannot"
+            );
+        }
     }
-    compare_alike(options, &mut oracle, &mut subject::Proved { replay })
+    let mut oracle = Oracle { fault: options.fault };
+    compare_alike(options, &mut oracle, &mut subject::Proved { replay, yard })
 }
 
 #[cfg(not(feature = "abi"))]
 fn compare_with_library(options: &Options) -> Result<(), String> {
-    let replay = options.replay.as_deref().unwrap_or("the library");
-    Err(format!("{replay}: comparing with it needs the feature abi"))
+    let Options { replay, yard, .. } = options;
+    let program = replay.as_deref().or(yard.as_deref()).unwrap_or("the library");
+    Err(format!("{program}: comparing with it needs the feature abi"))
 }
 
 /// The oracle against itself, then against itself with each fault.
@@ -150,12 +167,16 @@ fn selfcheck(options: &Options) -> Result<(), String> {
     compare_alike(options, &mut Oracle { fault: 0 }, &mut Oracle { fault: 0 })?;
     for fault in 1..=fault::COUNT {
         let (mut sound, mut faulty) = (Oracle { fault: 0 }, Oracle { fault });
-        let (done, result) = compare(options, &mut sound, &mut faulty);
-        match result {
+        let calls = if fault < fault::FIRST_OF_YARD { options.calls } else { 0 };
+        let options = Options { calls, ..options.clone() };
+        let (done, result) = compare(&options, &mut sound, &mut faulty);
+        let (what, number) = match result {
             Ok(()) => return Err(format!("fault {fault} was not found")),
-            Err(_) if done.traces > 0 => println!("fault {fault} found by trace {}", done.traces),
-            Err(_) => println!("fault {fault} found by call {}", done.calls),
-        }
+            Err(_) if done.rehearsals > 0 => ("rehearsal", done.rehearsals),
+            Err(_) if done.traces > 0 => ("trace", done.traces),
+            Err(_) => ("call", done.calls),
+        };
+        println!("fault {fault} found by {what} {number}");
     }
     Ok(())
 }

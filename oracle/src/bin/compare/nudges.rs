@@ -60,10 +60,14 @@ pub fn overdue_of(
     }
 }
 
-/// The kinds of the steps between the ticks of a good trace, by its lines.
-pub fn steps_of(trace: &[u8], lines: &str) -> Vec<u8> {
+/// The kinds of the steps between a node's ticks in a good trace, by their lines after what stands
+/// before each.
+pub fn steps_of(trace: &[u8], label: &str, lines: &str) -> Vec<u8> {
     let (epsilon, modulus) = (trace[1].into(), u16::from_le_bytes([trace[3], trace[4]]).into());
-    let clock = |line: &str| line.strip_prefix("tick ")?.split(' ').next()?.parse().ok();
+    let clock = |line: &str| {
+        let tick = line.strip_prefix(label)?.strip_prefix("tick ")?;
+        tick.split(' ').next()?.parse().ok()
+    };
     let clocks: Vec<i64> = lines.lines().filter_map(clock).collect();
     let step = |pair: &[i64]| step_kind(epsilon, (pair[1] - pair[0]).rem_euclid(modulus));
     clocks.windows(2).filter_map(step).collect()

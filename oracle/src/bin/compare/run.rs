@@ -2,12 +2,12 @@
 
 use crate::coverage::Coverage;
 use crate::subject::Subject;
-use crate::{nudges, observers, polls, reasons};
+use crate::{nudges, observers, polls, reasons, yards};
 use oracle::abi;
 use oracle::generate::{self, spoil, Group, Habits, Prng, Turn};
 use oracle::generate::{CompareCase, ListenCase, PollCase, ReadCase};
 use oracle::generate::{TickCase, WordsCase, WriteCase};
-use oracle::replay::hex;
+use oracle::playing::hex;
 use oracle::{Answer, Timestamp};
 
 /// How many bytes of a buffer a report shows; zeros at its end are never shown.
@@ -141,11 +141,13 @@ pub struct Comparison<'s> {
     pub coverage: Coverage,
     pub calls: u64,
     pub traces: u64,
+    pub rehearsals: u64,
 }
 
 impl<'s> Comparison<'s> {
     pub fn new(left: &'s mut dyn Subject, right: &'s mut dyn Subject) -> Self {
-        Comparison { left, right, coverage: Coverage::default(), calls: 0, traces: 0 }
+        let coverage = Coverage::default();
+        Comparison { left, right, coverage, calls: 0, traces: 0, rehearsals: 0 }
     }
 
     /// Plays groups until at least this many calls are made.
@@ -322,16 +324,11 @@ impl<'s> Comparison<'s> {
             let trace = generate::traces::random(rng);
             let (left, right) = (self.left.replay(&trace)?, self.right.replay(&trace)?);
             self.traces += 1;
-            if left != right {
-                let given = format!("trace {}: {}\n", self.traces, hex(&trace));
-                return Err(format!("{given}  one writes\n{left}  the other\n{right}"));
-            }
-            let last = left.lines().last().unwrap_or_default();
-            let number = last.strip_prefix("refused ").map_or(Ok(0), str::parse);
-            let number = number.expect("a number after refused");
+            alike(&format!("trace {}", self.traces), &trace, &left, &right)?;
+            let number = refusal(&left);
             self.coverage.meet("trace", number);
             if number == 0 {
-                let kinds = nudges::steps_of(&trace, &left);
+                let kinds = nudges::steps_of(&trace, "", &left);
                 kinds.into_iter().for_each(|kind| self.coverage.meet("trace step", kind));
             }
             for kind in reasons::of_lines(&left) {
@@ -341,6 +338,35 @@ impl<'s> Comparison<'s> {
         }
         Ok(())
     }
+
+    /// Rehearses this many traces of a whole group.
+    pub fn run_yards(&mut self, rng: &mut Prng, count: u64) -> Result<(), String> {
+        for _ in 0..count {
+            let (trace, flaw) = generate::yards::random(rng);
+            let (left, right) = (self.left.yard(&trace)?, self.right.yard(&trace)?);
+            self.rehearsals += 1;
+            alike(&format!("rehearsal {}", self.rehearsals), &trace, &left, &right)?;
+            for (what, kind) in yards::kinds_of(&trace, flaw, &left) {
+                self.coverage.meet(what, kind);
+            }
+        }
+        Ok(())
+    }
+}
+
+/// Are two texts for a trace the same?
+fn alike(name: &str, trace: &[u8], left: &str, right: &str) -> Result<(), String> {
+    if left == right {
+        return Ok(());
+    }
+    Err(format!("{name}: {}\n  one writes\n{left}  the other\n{right}", hex(trace)))
+}
+
+/// The number with which a text ends that was refused, otherwise 0.
+pub fn refusal(text: &str) -> u8 {
+    let last = text.lines().last().unwrap_or_default();
+    let number = last.strip_prefix("refused ").map_or(Ok(0), str::parse);
+    number.expect("a number after refused")
 }
 
 /// The buffers as they were given, long ones cut.

@@ -3,9 +3,9 @@
 use oracle::abi;
 use oracle::generate::{CompareCase, ListenCase, PollCase, ReadCase};
 use oracle::generate::{TickCase, WordsCase, WriteCase};
-use oracle::{fault, replay};
+use oracle::{fault, replay, yard};
 
-/// Something that makes the calls and replays traces. Answers are packed as the library's.
+/// Something that makes the calls and plays traces. Answers are packed as the library's.
 pub trait Subject {
     fn tick(&mut self, case: &mut TickCase) -> u64;
     fn read(&mut self, case: &mut ReadCase) -> u64;
@@ -15,6 +15,7 @@ pub trait Subject {
     fn poll(&mut self, case: &mut PollCase) -> u64;
     fn listen(&mut self, case: &mut ListenCase) -> u64;
     fn replay(&mut self, trace: &[u8]) -> Result<String, String>;
+    fn yard(&mut self, trace: &[u8]) -> Result<String, String>;
 }
 
 /// The oracle, with a planted fault if the number is not 0.
@@ -82,12 +83,17 @@ impl Subject for Oracle {
     fn replay(&mut self, trace: &[u8]) -> Result<String, String> {
         Ok(self.faulty(|| replay::replay_text(trace)))
     }
+
+    fn yard(&mut self, trace: &[u8]) -> Result<String, String> {
+        Ok(self.faulty(|| yard::yard_text(trace)))
+    }
 }
 
-/// The proved library and the proved `replay` program.
+/// The proved library and the proved programs.
 #[cfg(feature = "abi")]
 pub struct Proved {
     pub replay: String,
+    pub yard: String,
 }
 
 #[cfg(feature = "abi")]
@@ -121,13 +127,22 @@ impl Subject for Proved {
     }
 
     fn replay(&mut self, trace: &[u8]) -> Result<String, String> {
-        run_program(&self.replay, trace).map_err(|error| format!("{}: {error}", self.replay))
+        run_program(&self.replay, trace)
+    }
+
+    fn yard(&mut self, trace: &[u8]) -> Result<String, String> {
+        run_program(&self.yard, trace)
     }
 }
 
 /// What a program writes when it is given these bytes.
 #[cfg(feature = "abi")]
-fn run_program(path: &str, input: &[u8]) -> std::io::Result<String> {
+fn run_program(path: &str, input: &[u8]) -> Result<String, String> {
+    output_of(path, input).map_err(|error| format!("{path}: {error}"))
+}
+
+#[cfg(feature = "abi")]
+fn output_of(path: &str, input: &[u8]) -> std::io::Result<String> {
     use std::io::{ErrorKind, Write};
     use std::process::{Command, Stdio};
     let mut child = Command::new(path).stdin(Stdio::piped()).stdout(Stdio::piped()).spawn()?;

@@ -12,7 +12,7 @@ use Rattle.trace.proofs.parse.setup_number.Statement.{statement}
 use Rattle.trace.proofs.parse.setup_number.Tie as tie
 
 returns : tie.Need-returns
-returns c = setup-cut (c .before .before .args .s .now) (c .if1 .taken)
+returns c = setup-cut (c .before .before .args .size) (c .before .before .args .s .now) (c .if1 .taken)
 
 read-setup-requires : tie.Need-read-setup-requires
 read-setup-requires c κs = search needs
@@ -22,7 +22,7 @@ valid-for-requires c κs = search needs
 
 returns-2 : tie.Need-returns-2
 returns-2 c =
-    setup-out (c .before .before .before .before .before .before .args .s .now) (c .before .before .before .before .if1 .left)
+    setup-out (c .before .before .before .before .before .before .args .size) (c .before .before .before .before .before .before .args .s .now) (c .before .before .before .before .if1 .left)
     (ap isValid (sym (c .before .before .before .read-setup .ensures)) ∙ sym (c .before .valid-for .ensures) ∙ not-true (c .before .valid-for .result) (c .if2 .taken))
 
 cast-holdback-length : tie.Need-cast-holdback-length
@@ -42,13 +42,13 @@ holdback-length-requires c κs =
 returns-3 : tie.Need-returns-3
 returns-3 c =
     let same = c .before .before .before .before .before .before .before .before .read-setup .ensures in
-    setup-large (c .before .before .before .before .before .before .before .before .before .before .before .args .s .now) (c .before .before .before .before .before .before .before .before .before .if1 .left) (ap isValid (sym (c .before .before .before .before .before .before .before .before .read-setup .ensures)) ∙ sym (c .before .before .before .before .before .before .valid-for .ensures) ∙ not-false (c .before .before .before .before .before .before .valid-for .result) (c .before .before .before .before .before .if2 .left))
+    setup-large (c .before .before .before .before .before .before .before .before .before .before .before .args .size) (c .before .before .before .before .before .before .before .before .before .before .before .args .s .now) (c .before .before .before .before .before .before .before .before .before .if1 .left) (ap isValid (sym (c .before .before .before .before .before .before .before .before .read-setup .ensures)) ∙ sym (c .before .before .before .before .before .before .valid-for .ensures) ∙ not-false (c .before .before .before .before .before .before .valid-for .result) (c .before .before .before .before .before .if2 .left))
     (omega (arith, c .if3 .taken, c .before .holdback-length .ensures, ap (λ (x : NodeSetup). holdbackSize (x .setup)) same))
 
 returns-4 : tie.Need-returns-4
 returns-4 c =
     let same = c .before .before .before .before .before .before .before .before .read-setup .ensures in
-    setup-good (c .before .before .before .before .before .before .before .before .before .before .before .args .s .now) (c .before .before .before .before .before .before .before .before .before .if1 .left) (ap isValid (sym (c .before .before .before .before .before .before .before .before .read-setup .ensures)) ∙ sym (c .before .before .before .before .before .before .valid-for .ensures) ∙ not-false (c .before .before .before .before .before .before .valid-for .result) (c .before .before .before .before .before .if2 .left))
+    setup-good (c .before .before .before .before .before .before .before .before .before .before .before .args .size) (c .before .before .before .before .before .before .before .before .before .before .before .args .s .now) (c .before .before .before .before .before .before .before .before .before .if1 .left) (ap isValid (sym (c .before .before .before .before .before .before .before .before .read-setup .ensures)) ∙ sym (c .before .before .before .before .before .before .valid-for .ensures) ∙ not-false (c .before .before .before .before .before .before .valid-for .result) (c .before .before .before .before .before .if2 .left))
     (omega (arith, c .if3 .left, c .before .holdback-length .ensures, ap (λ (x : NodeSetup). holdbackSize (x .setup)) same))
 
 pub setup-number-spec : {M : Type 1} → statement M

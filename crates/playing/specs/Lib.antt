@@ -1,0 +1,2 @@
+-- `Playing` has what the contracts of `playing` cite.
+pub mod Playing

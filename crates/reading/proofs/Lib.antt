@@ -1,0 +1,2 @@
+-- `Coming` is about reading a part of a trace as it comes.
+pub mod Coming

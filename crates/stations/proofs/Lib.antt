@@ -1,0 +1,3 @@
+-- What the walks by hand share: `Lent` is of any type, `Walks` of a station.
+mod Lent
+mod Walks

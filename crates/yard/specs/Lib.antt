@@ -1,0 +1,2 @@
+-- `Running` has what the contracts of `yard` cite.
+pub mod Running
