@@ -14,7 +14,7 @@ use Rattle.laws.proofs.Numbers.{lt-or-ge}
 use Rattle.laws.proofs.Lists.{length-tab, getD-tab, tab-ext, tab-suc, map-tab, take-tab, every-tab, leading-unique, joined-append}
 use Rattle.model.specs.Setup.{width, longestFrame}
 use Rattle.model.specs.Frame.{Frame, twoAt, twoBytes, encode, countsOf, wellFormed, payloadCountAt, frameEnd, decode}
-use Rattle.model.specs.Holdback.{cutFrames, heldBytes, held}
+use Rattle.model.specs.Holdback.{cutFrames, cutBy, heldBytes, held}
 use Rattle.lemmas.proofs.RoundTrip.{formed-from}
 use Rattle.holdback.specs.Queue.{frameStart, bytesAt, frameAt, countsAt}
 use Rattle.holdback.proofs.RoundTrip.{Bytes, encode-decode, front-two}
@@ -30,7 +30,7 @@ start-suc epsilon s k = refl
 -- the frames from index j on
 cut-tab : (epsilon : ℕ) (s : List ℕ) (k j : ℕ)
     → cutFrames epsilon k (drop (frameStart epsilon s j) s) ≡ tab k (λ i. bytesAt epsilon s (j + i))
-unfolding cutFrames tab bytesAt
+unfolding cutFrames cutBy tab bytesAt
 cut-tab epsilon s zero j = refl
 cut-tab epsilon s (suc k) j =
     ap₂ _∷_

@@ -19,7 +19,7 @@ use Rattle.laws.proofs.Lists.{length-tab, getD-tab, set-tab, tab-ext, leading-l
 use Rattle.model.specs.Setup.{Setup, depth}
 use Rattle.model.specs.Frame.{Frame, twoBytes, twoAt, encode, decode, frameEnd, wellFormed}
 use Rattle.model.specs.Order.{dueNear}
-use Rattle.model.specs.Holdback.{cutFrames, heldBytes, held, passes, sameOrigin, soundHoldback, encodeFrames, encodeHoldback}
+use Rattle.model.specs.Holdback.{cutFrames, cutBy, heldBytes, held, passes, sameOrigin, soundHoldback, encodeFrames, encodeHoldback}
 use Rattle.model.specs.Tick.{dueBefore, holdbackSize}
 use Rattle.timestamp.specs.declared.ordering.Rank.{Rank}
 use Rattle.splice.specs.Bytes.{pasted}
@@ -357,7 +357,7 @@ module _ (epsilon : ℕ) (d a : List ℕ) (long : 2 ≤ length d) (begun : a ≡
   no-frames = ap (λ (l : List ℕ). twoAt l 0) written-front ∙ refl
 
   pub begun-spans : Spans epsilon a 0 2 0 2
-  unfolding heldBytes cutFrames every twoBytes
+  unfolding heldBytes cutFrames cutBy every twoBytes
   begun-spans =
       record {
         formed = rw no-frames refl;
@@ -369,7 +369,7 @@ module _ (epsilon : ℕ) (d a : List ℕ) (long : 2 ≤ length d) (begun : a ≡
       }
 
   begun-held : held epsilon a ≡ []
-  unfolding held heldBytes cutFrames
+  unfolding held heldBytes cutFrames cutBy
   begun-held = rw no-frames refl
 
   -- what is then written hides it

@@ -334,6 +334,12 @@ module _ {A : Type 0} where
         | inr e ↦ rw (e, e)
       ]
 
+  pub leading-ext : (p q : A → Bool) (l : List A) → ((x : A) → List·Memᴰ x l → p x ≡ q x) → leading p l ≡ leading q l
+  unfolding leading
+  leading-ext p q [] h = refl
+  leading-ext p q (x ∷ l) h =
+      ap₂ (λ (b : Bool) (k : ℕ). cond b (suc k) 0) (h x (List·Memᴰ·head refl)) (leading-ext p q l (λ y m. h y (List·Memᴰ·tail m)))
+
   -- a count that has the two properties of leading is leading
   pub leading-unique : (p : A → Bool) (l : List A) (k : ℕ) (d : A) → k ≤ length l → every p (take k l) ≡ true → (k < length l → p (getD l k d) ≡ false) → leading p l ≡ k
   unfolding leading every
@@ -357,6 +363,11 @@ module _ {A : Type 0} where
   getD-insertAt zero x l d h = refl
   getD-insertAt (suc i) x [] d h = absurd (not-suc-le-zero h)
   getD-insertAt (suc i) x (y ∷ l) d h = getD-insertAt i x l d (le-of-suc-le-suc h)
+
+  pub insertAt-end : (x : A) (l : List A) → insertAt (length l) x l ≡ l ++ (x ∷ [])
+  unfolding insertAt
+  insertAt-end x [] = refl
+  insertAt-end x (y ∷ l) = ap₂ _∷_ refl (insertAt-end x l)
 
   pub mem-insertAt-new : (i : ℕ) (x : A) (l : List A) → List·Memᴰ x (insertAt i x l)
   unfolding insertAt
@@ -622,6 +633,27 @@ module _ {A B : Type 0} where
         | inl e ↦ rw e (ap₂ _∷_ refl (select-map p f l))
         | inr e ↦ rw e (select-map p f l)
       ]
+
+  pub any-map : (p : B → Bool) (f : A → B) (l : List A) → any p (map f l) ≡ any (λ x. p (f x)) l
+  unfolding any
+  any-map p f [] = refl
+  any-map p f (x ∷ l) = ap (λ (b : Bool). p (f x) || b) (any-map p f l)
+
+  pub leading-map : (p : B → Bool) (f : A → B) (l : List A) → leading p (map f l) ≡ leading (λ x. p (f x)) l
+  unfolding leading
+  leading-map p f [] = refl
+  leading-map p f (x ∷ l) = ap (λ (k : ℕ). cond (p (f x)) (suc k) 0) (leading-map p f l)
+
+  pub insertAt-map : (f : A → B) (i : ℕ) (x : A) (l : List A) → insertAt i (f x) (map f l) ≡ map f (insertAt i x l)
+  unfolding insertAt
+  insertAt-map f zero x l = refl
+  insertAt-map f (suc i) x [] = refl
+  insertAt-map f (suc i) x (y ∷ l) = ap₂ _∷_ refl (insertAt-map f i x l)
+
+  pub map-set : (f : A → B) (l : List A) (i : ℕ) (x : A) → map f (set l i x) ≡ set (map f l) i (f x)
+  map-set f [] i x = refl
+  map-set f (y ∷ l) zero x = refl
+  map-set f (y ∷ l) (suc i) x = ap₂ _∷_ refl (map-set f l i x)
 
   pub getElem?-map : (f : A → B) (l : List A) (i : ℕ) {x : A} → getElem? l i ≡ some x → getElem? (map f l) i ≡ some (f x)
   getElem?-map f [] i {x} e = let z : _≡_ {A = ℕ} 0 1 = cc in absurd (omega arith)

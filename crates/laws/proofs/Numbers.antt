@@ -10,7 +10,7 @@ use mathlib.Core.Bool.{Bool, true, false, _&&_, _||_, not, cond, true≢false}
 use mathlib.Core.Logic.{_⊎_, inl, inr}
 use mathlib.Core.Path.{_≡_, refl, sym, ap, _∙_}
 use lib.Dec.{leb, eqb}
-use borrow.Author.Tests.{eqb-true, leb-true, le-leb, eq-eqb}
+use borrow.Author.Tests.{eqb-true, leb-true, le-leb, lt-leb, eq-eqb}
 use Rattle.laws.specs.Lists.{within}
 
 -- cases on numbers
@@ -149,6 +149,14 @@ ap-cond f false x y = refl
 pub eqb-sym : (a b : ℕ) → eqb a b ≡ eqb b a
 eqb-sym a b =
     same-test (eqb a b) (eqb b a) (λ h. eq-eqb b a (sym (eqb-true a b h))) (λ h. eq-eqb a b (sym (eqb-true b a h)))
+
+-- two numbers compare as two others that lie as far apart
+pub leb-moved : (a b c d : ℕ) → a + d ≡ c + b → leb a b ≡ leb c d
+leb-moved a b c d e =
+    elim (lt-or-ge b a) [
+      | inl h ↦ lt-leb a b h ∙ sym (lt-leb c d (omega arith))
+      | inr h ↦ le-leb a b h ∙ sym (le-leb c d (omega arith))
+    ]
 
 -- lo ≤ x ≤ hi
 pub within-high : (lo hi x : ℕ) → within lo hi x ≡ true → x ≤ hi

@@ -16,7 +16,7 @@ use Rattle.laws.specs.Lists.{every, any, select, selectFrom, leading, in
 use Rattle.laws.specs.Lex.{isLess, lexCompare}
 use Rattle.laws.proofs.Numbers.{lt-or-ge, true-or-false, clash, and-intro, and-left, and-right, not-of-true, not-of-false, false-of-not, false-of-no}
 use Rattle.laws.proofs.Lists.{every-index, every-of-index, every-mem, every-of-mem, every-mono, every-mono-mem, every-take, every-select, every-append-intro, every-append-right, every-insertAt, every-map, every-ext}
-use Rattle.laws.proofs.Lists.{any-false, any-of-false, mem-of-take, mem-of-drop, mem-of-select, select-all, select-none, mem-of-selectFrom}
+use Rattle.laws.proofs.Lists.{any-false, any-of-false, any-map, mem-of-take, mem-of-drop, mem-of-select, select-all, select-none, mem-of-selectFrom}
 use Rattle.laws.proofs.Lex.{isLess-lt, lt-isLess, lex-irrefl, lex-trans, lex-total}
 
 module _ {A : Type 0} where
@@ -356,6 +356,11 @@ module _ {A : Type 0} (same : A → A → Bool) where
       (λ y m. not-of-false (s y f ∙ any-false (same f) e (mem-of-take i l m))))
       (every-of-mem (λ (y : A). not (same f y)) (drop i l) (λ y m. not-of-false (any-false (same f) e (mem-of-drop i l m))))
       (pairwise-of-apart l h))
+
+  pub apart-map : {B : Type 0} (f : B → A) (l : List B) → apart same (map f l) ≡ apart (λ x y. same (f x) (f y)) l
+  unfolding apart
+  apart-map f [] = refl
+  apart-map f (x ∷ l) = ap₂ (λ (a b : Bool). not a && b) (any-map (same (f x)) f l) (apart-map f l)
 
   pub apart-append : (a b : List A) → apart same a ≡ true → apart same b ≡ true → ((x y : A) → List·Memᴰ x a → List·Memᴰ y b → same x y ≡ false) → apart same (a ++ b) ≡ true
   apart-append a b h k f =

@@ -69,6 +69,11 @@ module _ {A : Type 0} where
   overlay new old = new ++ drop (length new) old
 
 module _ {A B : Type 0} where
+  -- what the elements make of x, one after the other
+  unfoldable pub foldLeft : (B → A → B) → B → List A → B
+  foldLeft f x [] = x
+  foldLeft f x (y ∷ rest) = foldLeft f (f x y) rest
+
   -- the lists that f makes of the elements, one after the other
   unfoldable pub joined : (A → List B) → List A → List B
   joined f [] = []

@@ -10,7 +10,7 @@ use mathlib.Core.List.{List, [], _∷_, _++_, map, List·Memᴰ, List·Memᴰ·a
 use mathlib.Core.Option.{some}
 use lib.ListN.{length, take, drop, getD, getElem?, length-append, List·getD-append}
 use lib.Seq.{getD-append-seam}
-use Rattle.laws.specs.Lists.{select, overlay}
+use Rattle.laws.specs.Lists.{select, overlay, foldLeft}
 use Rattle.laws.proofs.Lists.{mem-of-select, take-overlay, getElem?-lt}
 use Rattle.laws.proofs.Sorted.{Sorted}
 use Rattle.model.specs.Setup.{Setup, depth}
@@ -46,7 +46,7 @@ hearing-one s v asking h bytes lim below places hg = go (firstNo (asking (h .que
 pub hearing-all :
     (s : Setup) (v : ℕ) (asking : Asking) (h : Heard) (entries : List (List ℕ)) → Limits s → v < s .modulus → Places s v asking
     → QueueOk s v (s .modulus) (h .queue) → QueueOk s v (s .modulus) (hear s v asking h entries .queue)
-unfolding hear
+unfolding hear foldLeft
 hearing-all s v asking h [] lim below places hg = hg
 hearing-all s v asking h (bytes ∷ rest) lim below places hg =
     hearing-all s v asking (hearOne s v asking h bytes) rest lim below places (hearing-one s v asking h bytes lim below places hg)
@@ -66,7 +66,7 @@ numbersOf s v asking h [] = []
 numbersOf s v asking h (bytes ∷ rest) = firstNo (asking (h .queue) bytes) ∷ numbersOf s v asking (hearOne s v asking h bytes) rest
 
 pub hear-verdicts : (s : Setup) (v : ℕ) (asking : Asking) (h : Heard) (entries : List (List ℕ)) → hear s v asking h entries .verdicts ≡ h .verdicts ++ numbersOf s v asking h entries
-unfolding hear numbersOf
+unfolding hear foldLeft numbersOf
 hear-verdicts s v asking h [] = sym (append-nil (h .verdicts))
 hear-verdicts s v asking h (bytes ∷ rest) =
     hear-verdicts s v asking (hearOne s v asking h bytes) rest
@@ -77,7 +77,7 @@ pub hear-one-length : (s : Setup) (v : ℕ) (asking : Asking) (h : Heard) (bytes
 hear-one-length s v asking h bytes = rw (hear-one-verdict s v asking h bytes) (length-append (h .verdicts) _)
 
 pub hear-length : (s : Setup) (v : ℕ) (asking : Asking) (h : Heard) (entries : List (List ℕ)) → length (hear s v asking h entries .verdicts) ≡ length (h .verdicts) + length entries
-unfolding hear
+unfolding hear foldLeft
 hear-length s v asking h [] = sym (add-zero (length (h .verdicts)))
 hear-length s v asking h (bytes ∷ rest) =
     let one = hear-one-length s v asking h bytes in
@@ -86,7 +86,7 @@ hear-length s v asking h (bytes ∷ rest) =
 
 -- what was written stays
 pub hear-keeps : (s : Setup) (v : ℕ) (asking : Asking) (h : Heard) (entries : List (List ℕ)) (k : ℕ) → k < length (h .verdicts) → getD (hear s v asking h entries .verdicts) k 0 ≡ getD (h .verdicts) k 0
-unfolding hear
+unfolding hear foldLeft
 hear-keeps s v asking h [] k below = refl
 hear-keeps s v asking h (bytes ∷ rest) k below =
     hear-keeps s v asking (hearOne s v asking h bytes) rest k (omega (arith, hear-one-length s v asking h bytes))
@@ -95,7 +95,7 @@ hear-keeps s v asking h (bytes ∷ rest) k below =
 pub hear-verdict :
     (s : Setup) (v : ℕ) (asking : Asking) (h : Heard) (entries : List (List ℕ)) (k : ℕ) (entry : List ℕ) → getElem? entries k ≡ some entry
     → getD (hear s v asking h entries .verdicts) (length (h .verdicts) + k) 0 ≡ firstNo (asking (hear s v asking h (take k entries) .queue) entry)
-unfolding hear
+unfolding hear foldLeft
 hear-verdict s v asking h [] k entry e = absurd (let z : _≡_ {A = ℕ} 0 1 = cc in omega arith)
 hear-verdict s v asking h (bytes ∷ rest) zero entry e =
     let same : bytes ≡ entry = cc in

@@ -5,7 +5,7 @@ use Prim.Native.Nat.{ℕ, _+_, _-_, _≤_, _<_, max}
 use native.Mathlib.Omega.{arith}
 use mathlib.Core.Path.{_≡_, refl, sym, ap, subst, _∙_}
 use mathlib.Core.Logic.{_⊎_, inl, inr}
-use mathlib.Core.Bool.{true, _&&_}
+use mathlib.Core.Bool.{Bool, true, _&&_}
 use mathlib.Core.List.{List, _++_}
 use lib.ListN.{length, drop, getD, set, replicate, length-append, length-drop, length-set, length-replicate, List·getD-eq-default}
 use lib.Dec.{leb, ltb}
@@ -15,7 +15,7 @@ use Rattle.laws.specs.Lists.{within, tab, placedAt, padded}
 use Rattle.laws.proofs.Numbers.{lt-or-ge, eq-or-ne, and-intro, and-left, and-right}
 use Rattle.laws.proofs.Lists.{length-tab, getD-tab, getD-tab-out, tab-getD, tab-ext, every-index, every-of-index, getD-zeros, getD-append-zeros, getD-padded}
 use Rattle.model.specs.Setup.{width, widest}
-use Rattle.model.specs.Timestamp.{Timestamp, countAt, countsFrom, sum, atMost, soundTimestamp, clockStep, soundTables, shift, step, replaced, absorb, countOwn, trimmed, widened, fresh, soundClock}
+use Rattle.model.specs.Timestamp.{Timestamp, countAt, countsFrom, sum, atMost, soundTimestamp, clockStep, soundTables, shift, step, replaced, absorb, countOwn, trimmed, widened, fresh, soundClock, soundBeside}
 use Rattle.model.specs.Order.{countsDown}
 use Rattle.lemmas.proofs.Bounds.{Sound, Opened}
 
@@ -124,6 +124,15 @@ counts-from-drop epsilon R kn clock i e =
   where
     one : (j : ℕ) → placedAt R kn (clock + j + epsilon) ≡ getD (drop i kn) j 0
     one j = count-index R kn (clock + j + epsilon) (i + j) (omega arith) ∙ (count-zero kn (i + j) ∙ sym (getD-drop i kn j 0))
+
+-- and the same ones, seen from two clocks
+pub counts-from-moved : (epsilon R R′ : ℕ) (kn : List ℕ) (w w′ : ℕ) → R + w′ ≡ R′ + w → countsFrom epsilon R kn w ≡ countsFrom epsilon R′ kn w′
+unfolding countsFrom countAt
+counts-from-moved epsilon R R′ kn w w′ e =
+    let long : R + length kn - (w + epsilon) ≡ R′ + length kn - (w′ + epsilon) = omega arith in
+    ap (λ (n : ℕ). tab n (λ k. placedAt R kn (w + k + epsilon))) long
+    ∙ tab-ext (R′ + length kn - (w′ + epsilon)) (λ k. placedAt R kn (w + k + epsilon)) (λ k. placedAt R′ kn (w′ + k + epsilon))
+    (λ k h. count-moved R R′ kn (w + k + epsilon) (w′ + k + epsilon) (omega arith))
 
 -- the tests as facts, both ways
 pub sound-from : (n epsilon : ℕ) (t : Timestamp) → 1 ≤ epsilon → length (t .kn) ≡ width epsilon → soundTimestamp n epsilon t ≡ true → Sound n epsilon t
@@ -448,12 +457,17 @@ own-left n epsilon v t n-pos e o =
       room = unfold countOwn in (λ i k. rw (own-at (t .kn) epsilon i (λ q. omega arith)) (let z : placedAt 0 (t .kn) i < n = o .room i (omega arith) in omega arith));
     }
 
--- such tables are sound for the clocks 1 to ε after theirs
+-- such tables are sound where their clock is
+pub left-beside : (clock : Bool) (n epsilon : ℕ) (t : Timestamp) → Left n epsilon t → clock ≡ true → soundBeside clock n epsilon t ≡ true
+left-beside clock n epsilon t left sound =
+    and-intro (sound-to n epsilon t (left .sound)) (and-intro sound
+    (at-most-past-to (n - 1) epsilon 0 (t .kn) 1 (λ i k. left .room i (omega arith))))
+
+-- that is for the clocks 1 to ε after theirs
 pub left-tables : (n epsilon B : ℕ) (t : Timestamp) → Left n epsilon t → t .r < B → (v k : ℕ) → clockStep B (t .r) v ≡ k → 1 ≤ k → k ≤ epsilon → soundTables n epsilon B v t ≡ true
 unfolding soundTables
 left-tables n epsilon B t left below v k e pos few =
-    and-intro (sound-to n epsilon t (left .sound)) (and-intro (clock-sound epsilon B v (t .r) k below e pos few)
-    (at-most-past-to (n - 1) epsilon 0 (t .kn) 1 (λ i k. left .room i (omega arith))))
+    left-beside (soundClock epsilon B v (t .r)) n epsilon t left (clock-sound epsilon B v (t .r) k below e pos few)
 
 -- fresh tables are replaced ones after their own event
 pub fresh-own : (epsilon clock : ℕ) → fresh epsilon clock ≡ countOwn epsilon clock (replaced epsilon clock)

@@ -3,6 +3,8 @@ pub mod Questions
 pub mod Reading
 pub mod Counts
 pub mod RoundTrip
+pub mod LongFrames
+pub mod LongStamps
 pub mod Queue
 pub mod Board
 pub mod OneTick

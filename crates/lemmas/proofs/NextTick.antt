@@ -7,7 +7,7 @@ use mathlib.Core.List.{List, [], _∷_}
 use lib.Dec.{eqb}
 use lib.ListN.{length, length-append}
 use borrow.Author.Tests.{ne-eqb}
-use Rattle.laws.specs.Lists.{select}
+use Rattle.laws.specs.Lists.{select, foldLeft}
 use Rattle.model.specs.Setup.{Setup}
 use Rattle.model.specs.Timestamp.{Timestamp, widened, clockStep}
 use Rattle.model.specs.Frame.{Frame, decode}
@@ -49,7 +49,7 @@ none-taken (suc k) verdicts e = ((λ z. omega arith), rw (ne-eqb (suc k) 0 (λ z
 pub hear-none :
     (s : Setup) (v : ℕ) (asking : Asking) (h : Heard) (entries : List (List ℕ)) → takenCount (numbersOf s v asking h entries) ≡ 0
     → hear s v asking h entries .queue ≡ h .queue
-unfolding hear numbersOf hearOne judge
+unfolding hear foldLeft numbersOf hearOne judge
 hear-none s v asking h [] e = refl
 hear-none s v asking h (bytes ∷ rest) e =
     let none = none-taken (firstNo (asking (h .queue) bytes)) (numbersOf s v asking (hearOne s v asking h bytes) rest) e in

@@ -21,7 +21,7 @@ use Rattle.model.specs.Batch.{batchEntries, exactBatch}
 use Rattle.model.specs.Holdback.{heldBytes, held, notEarly, soundHoldback, encodeFrames, encodeHoldback}
 use Rattle.model.specs.Question.{askSetup, firstNo}
 use Rattle.model.specs.Codec.{askPayload}
-use Rattle.model.specs.Judge.{Heard, hear, hearOne, judgeQuestions, absorbBy, absorbAll}
+use Rattle.model.specs.Judge.{Heard, hear, hearOne, judgeQuestions, absorbBy, absorbAll, absorbEach}
 use Rattle.model.specs.Tick.{Input, Output, holdbackSize, roomy, callQuestions, tablesSound, stepOf, leastDue, openingStamp, openedQueue, earlyOf, opening, heardOf, heardStamp, newStamp, sentBytes, takenCount, deliveredOf, keptOf, acceptance, refusal, tickBy, tick}
 use Rattle.lemmas.proofs.Bounds.{Limits, Sound, Opened, FrameOk, QueueOk}
 use Rattle.lemmas.proofs.Questions.{first-yes, other-yes, setup-from}
@@ -145,7 +145,7 @@ absorbing-one s v queue t bytes lim hg = go (firstNo (judgeQuestions s v queue b
 pub absorbing-all :
     (s : Setup) (v : ℕ) (h : Heard) (t : Timestamp) (entries : List (List ℕ)) → Limits s → Absorbing s v t
     → Absorbing s v (absorbAll s v t entries (numbersOf s v (judgeQuestions s v) h entries))
-unfolding absorbAll numbersOf
+unfolding absorbAll absorbEach numbersOf
 absorbing-all s v h t [] lim hg = hg
 absorbing-all s v h t (bytes ∷ rest) lim hg =
     absorbing-all s v (hearOne s v (judgeQuestions s v) h bytes)

@@ -16,9 +16,9 @@ use Rattle.laws.proofs.Numbers.{and-intro, and-left, and-right}
 use Rattle.laws.proofs.Lists.{tab-take, every-index, map-map, map-ext, length-joined-le, length-padded}
 use Rattle.model.specs.Setup.{Setup, width, depth, longestFrame, holdbackLength}
 use Rattle.model.specs.Timestamp.{soundTimestamp}
-use Rattle.model.specs.Frame.{Frame, section, twoBytes, twoAt, encode, decode, countsOf, payloadCountAt, wellFormed, frameEnd}
+use Rattle.model.specs.Frame.{Frame, section, twoBytes, twoAt, laterSections, encode, decode, countsOf, payloadCountAt, laterFormed, wellFormed, frameEnd}
 use Rattle.model.specs.Question.{Question, ask, firstNo, askForm, askRange, askStamp, frameQuestions}
-use Rattle.model.specs.Holdback.{cutFrames, heldBytes, held, passes, encodeFrames, encodeHoldback}
+use Rattle.model.specs.Holdback.{cutFrames, cutBy, heldBytes, held, passes, framesBy, encodeFrames, encodeHoldback}
 use Rattle.lemmas.proofs.Bounds.{Limits, FrameOk}
 use Rattle.lemmas.proofs.Questions.{first-yes, other-yes}
 use Rattle.lemmas.proofs.Counts.{sound-from, sound-to}
@@ -49,28 +49,61 @@ module _ (w : ℕ) (a b c d e g : ℕ) (kn : List ℕ) (p : ℕ) (rest : List �
 pub two-bytes : (x : ℕ) → x % 256 + 256 * (x / 256) ≡ x
 two-bytes x = omega arith
 
+-- the later sections of a frame behind four bytes, whatever these are and whatever stands behind the frame
+abbrev pub behindFour : ℕ → ℕ → ℕ → ℕ → Frame → List ℕ
+behindFour a b c d f = a ∷ b ∷ c ∷ d ∷ laterSections f
+
+module _ (a b c d epsilon : ℕ) (f : Frame) (wide : length (f .stamp .kn) ≡ width epsilon) where
+  length-later : length (behindFour a b c d f) ≡ 7 + length (f .stamp .kn) + length (f .payload)
+  unfolding section
+  length-later = omega (arith, length-append (f .stamp .kn) (length (f .payload) ∷ f .payload))
+
+  pub decode-later :
+      decode epsilon (behindFour a b c d f)
+      ≡ record { station = b; stamp = record { r = c + 256 * d; c = f .stamp .c; kn = f .stamp .kn }; payload = f .payload }
+  unfolding decode countsOf twoAt payloadCountAt section
+  decode-later = λ i.
+      record {
+        station = b;
+        stamp = record { r = c + 256 * d; c = f .stamp .c; kn = take-at (f .stamp .kn) (length (f .payload) ∷ f .payload) (width epsilon) wide i };
+        payload = drop-third (width epsilon) a b c d (suc (length (f .stamp .kn))) (f .stamp .c) (f .stamp .kn) (length (f .payload)) (f .payload) wide i;
+      }
+
+  -- the count of the third section, and where the frame ends
+  pub later-count : (rest : List ℕ) → getD (behindFour a b c d f ++ rest) (6 + width epsilon) 0 ≡ length (f .payload)
+  unfolding section
+  later-count rest =
+      rw (append-assoc (f .stamp .kn) (length (f .payload) ∷ f .payload) rest)
+      (count-third (width epsilon) a b c d (suc (length (f .stamp .kn))) (f .stamp .c) (f .stamp .kn) (length (f .payload)) (f .payload ++ rest) wide)
+
+  pub later-end : (rest : List ℕ) → frameEnd epsilon (behindFour a b c d f ++ rest) ≡ 7 + length (f .stamp .kn) + length (f .payload)
+  unfolding frameEnd payloadCountAt
+  later-end rest = omega (arith, later-count rest)
+
+  pub later-formed : length (f .payload) ≤ 32 → laterFormed epsilon (behindFour a b c d f) ≡ true
+  unfolding frameEnd payloadCountAt section
+  later-formed short =
+      let count : getD (behindFour a b c d f) (6 + width epsilon) 0 ≡ length (f .payload) = rw append-nil at (later-count []) in
+      let size : length (behindFour a b c d f) ≡ 6 + width epsilon + 1 + getD (behindFour a b c d f) (6 + width epsilon) 0 = omega (arith, length-later) in
+      and-intro (eq-eqb (suc (length (f .stamp .kn))) (1 + width epsilon) (omega arith))
+      (and-intro (le-leb (getD (behindFour a b c d f) (6 + width epsilon) 0) 32 (omega arith))
+      (eq-eqb (length (behindFour a b c d f)) (6 + width epsilon + 1 + getD (behindFour a b c d f) (6 + width epsilon) 0) size))
+
+encode-later : (f : Frame) → encode f ≡ behindFour 3 (f .station) (f .stamp .r % 256) (f .stamp .r / 256) f
+unfolding encode section twoBytes
+encode-later f = refl
+
 pub decode-encode : (epsilon : ℕ) (f : Frame) → length (f .stamp .kn) ≡ width epsilon → decode epsilon (encode f) ≡ f
-unfolding decode countsOf twoAt payloadCountAt
 decode-encode epsilon f wide =
-    rw (encode-bytes f) λ i.
-    record {
-      station = f .station;
-      stamp = record { r = two-bytes (f .stamp .r) i; c = f .stamp .c; kn = take-at (f .stamp .kn) (length (f .payload) ∷ f .payload) (width epsilon) wide i };
-      payload =
-          drop-third (width epsilon) 3 (f .station) (f .stamp .r % 256) (f .stamp .r / 256) (suc (length (f .stamp .kn))) (f .stamp .c)
-          (f .stamp .kn) (length (f .payload)) (f .payload) wide i;
-    }
+    ap (decode epsilon) (encode-later f)
+    ∙ (decode-later 3 (f .station) (f .stamp .r % 256) (f .stamp .r / 256) epsilon f wide
+    ∙ ap (λ (x : ℕ). record { station = f .station; stamp = record { r = x; c = f .stamp .c; kn = f .stamp .kn }; payload = f .payload }) (two-bytes (f .stamp .r)))
 
--- the count of the third section, and where a frame ends, whatever stands behind it
-pub payload-count : (epsilon : ℕ) (f : Frame) (rest : List ℕ) → length (f .stamp .kn) ≡ width epsilon → getD (encode f ++ rest) (6 + width epsilon) 0 ≡ length (f .payload)
-payload-count epsilon f rest wide =
-    rw (encode-bytes f, append-assoc (f .stamp .kn) (length (f .payload) ∷ f .payload) rest)
-    (count-third (width epsilon) 3 (f .station) (f .stamp .r % 256) (f .stamp .r / 256) (suc (length (f .stamp .kn))) (f .stamp .c)
-    (f .stamp .kn) (length (f .payload)) (f .payload ++ rest) wide)
-
+-- where a frame ends, whatever stands behind it
 pub frame-end : (epsilon : ℕ) (f : Frame) (rest : List ℕ) → length (f .stamp .kn) ≡ width epsilon → frameEnd epsilon (encode f ++ rest) ≡ length (encode f)
-unfolding frameEnd payloadCountAt
-frame-end epsilon f rest wide = omega (arith, length-encode f, payload-count epsilon f rest wide)
+frame-end epsilon f rest wide =
+    ap (λ (l : List ℕ). frameEnd epsilon (l ++ rest)) (encode-later f)
+    ∙ (later-end 3 (f .station) (f .stamp .r % 256) (f .stamp .r / 256) epsilon f wide rest ∙ sym (length-encode f))
 
 -- what question 10 says
 pub record Formed (epsilon : ℕ) (s : List ℕ) : Type 0 where
@@ -106,11 +139,9 @@ formed-to epsilon s o =
     (and-intro (le-leb c 32 (o .third)) (eq-eqb (length s) (6 + w + 1 + c) e4)))
 
 pub well-formed-encode : (epsilon : ℕ) (f : Frame) → length (f .stamp .kn) ≡ width epsilon → length (f .payload) ≤ 32 → wellFormed epsilon (encode f) ≡ true
+unfolding wellFormed
 well-formed-encode epsilon f wide short =
-    let c : getD (encode f) (6 + width epsilon) 0 ≡ length (f .payload) = rw append-nil at (payload-count epsilon f [] wide) in
-    let l = length-encode f in
-    formed-to epsilon (encode f)
-    (record { first = rw (encode-bytes f); second = rw (encode-bytes f) (ap suc wide); third = omega arith; size = omega arith })
+    rw (encode-later f) (later-formed 3 (f .station) (f .stamp .r % 256) (f .stamp .r / 256) epsilon f wide short)
 
 -- what a well-formed frame holds
 pub decode-wide : (epsilon : ℕ) (s : List ℕ) → Formed epsilon s → length (decode epsilon s .stamp .kn) ≡ width epsilon
@@ -203,51 +234,70 @@ pub passes-formed : (s : Setup) (bytes : List ℕ) → passes s bytes ≡ true �
 unfolding passes frameQuestions
 passes-formed s bytes h = form-passed s bytes [] (eqb-true (firstNo (frameQuestions s bytes)) 0 h)
 
--- the frames of a queue or a delivery, whatever stands behind them
-pub cut-joined :
-    (epsilon : ℕ) (queue : List Frame) (rest : List ℕ)
-    → ((f : Frame) → List·Memᴰ f queue → length (f .stamp .kn) ≡ width epsilon)
-    → cutFrames epsilon (length queue) (joined encode queue ++ rest) ≡ map encode queue
-unfolding cutFrames joined
-cut-joined epsilon [] rest wide = refl
-cut-joined epsilon (f ∷ queue) rest wide =
-    rw (
-      append-assoc (encode f) (joined encode queue) rest,
-      frame-end epsilon f (joined encode queue ++ rest) (wide f (List·Memᴰ·head refl)),
-      take-append-seam,
-      drop-append-seam,
-    )
-    (ap₂ _∷_ refl (cut-joined epsilon queue rest (λ g m. wide g (List·Memᴰ·tail m))))
+-- what was joined is cut up again, whatever stands behind it, where each piece says where it ends
+module _ {A : Type 0} (end : List ℕ → ℕ) (bytes : A → List ℕ) where
+  pub cut-joined-by :
+      (queue : List A) (rest : List ℕ) → ((x : A) → List·Memᴰ x queue → (l : List ℕ) → end (bytes x ++ l) ≡ length (bytes x))
+      → cutBy end (length queue) (joined bytes queue ++ rest) ≡ map bytes queue
+  unfolding cutBy joined
+  cut-joined-by [] rest ends = refl
+  cut-joined-by (x ∷ queue) rest ends =
+      rw (
+        append-assoc (bytes x) (joined bytes queue) rest,
+        ends x (List·Memᴰ·head refl) (joined bytes queue ++ rest),
+        take-append-seam,
+        drop-append-seam,
+      )
+      (ap₂ _∷_ refl (cut-joined-by queue rest (λ y m. ends y (List·Memᴰ·tail m))))
+
+-- the count of a queue or a delivery
+pub two-at-frames : (bytes : Frame → List ℕ) (queue : List Frame) (rest : List ℕ) → twoAt (framesBy bytes queue ++ rest) 0 ≡ length queue
+unfolding twoAt twoBytes
+two-at-frames bytes queue rest = two-bytes (length queue)
+
+-- and its frames, whatever stands behind them
+pub cut-frames :
+    (end : List ℕ → ℕ) (bytes : Frame → List ℕ) (queue : List Frame) (rest : List ℕ)
+    → ((f : Frame) → List·Memᴰ f queue → (l : List ℕ) → end (bytes f ++ l) ≡ length (bytes f))
+    → cutBy end (twoAt (framesBy bytes queue ++ rest) 0) (drop 2 (framesBy bytes queue ++ rest)) ≡ map bytes queue
+unfolding twoAt twoBytes
+cut-frames end bytes queue rest ends = rw (two-bytes (length queue)) (cut-joined-by end bytes queue rest ends)
 
 pub held-encode :
     (epsilon : ℕ) (queue : List Frame) (rest : List ℕ)
     → ((f : Frame) → List·Memᴰ f queue → length (f .stamp .kn) ≡ width epsilon) → length queue < 65536
     → heldBytes epsilon (encodeFrames queue ++ rest) ≡ map encode queue
-unfolding heldBytes encodeFrames twoAt twoBytes
-held-encode epsilon queue rest wide few = rw (two-bytes (length queue)) (cut-joined epsilon queue rest wide)
+unfolding heldBytes encodeFrames cutFrames
+held-encode epsilon queue rest wide few = cut-frames (frameEnd epsilon) encode queue rest (λ f m l. frame-end epsilon f l (wide f m))
 
--- the count of a queue or a delivery
 pub two-at-encode : (queue : List Frame) (rest : List ℕ) → twoAt (encodeFrames queue ++ rest) 0 ≡ length queue
-unfolding encodeFrames twoAt twoBytes
-two-at-encode queue rest = two-bytes (length queue)
+unfolding encodeFrames
+two-at-encode queue rest = two-at-frames encode queue rest
 
 -- a shelf holds as many frames as its count says
+pub length-cut-by : (end : List ℕ → ℕ) (k : ℕ) (s : List ℕ) → length (cutBy end k s) ≡ k
+unfolding cutBy
+length-cut-by end zero s = refl
+length-cut-by end (suc k) s = ap suc (length-cut-by end k (drop (end s) s))
+
 pub length-cut : (epsilon k : ℕ) (s : List ℕ) → length (cutFrames epsilon k s) ≡ k
 unfolding cutFrames
-length-cut epsilon zero s = refl
-length-cut epsilon (suc k) s = ap suc (length-cut epsilon k (drop (frameEnd epsilon s) s))
+length-cut epsilon k s = length-cut-by (frameEnd epsilon) k s
 
 pub length-held : (epsilon : ℕ) (s : List ℕ) → length (held epsilon s) ≡ twoAt s 0
 unfolding held heldBytes
 length-held epsilon s = length-map (cutFrames epsilon (twoAt s 0) (drop 2 s)) (decode epsilon) ∙ length-cut epsilon (twoAt s 0) (drop 2 s)
 
 -- what was encoded decodes
+pub decode-each :
+    (back : List ℕ → Frame) (bytes : Frame → List ℕ) (queue : List Frame) → ((f : Frame) → List·Memᴰ f queue → back (bytes f) ≡ f)
+    → map back (map bytes queue) ≡ queue
+decode-each back bytes queue same = map-map back bytes queue ∙ (map-ext (λ f. back (bytes f)) (λ f. f) queue same ∙ map-id queue)
+
 pub decode-frames :
     (epsilon : ℕ) (queue : List Frame) → ((f : Frame) → List·Memᴰ f queue → length (f .stamp .kn) ≡ width epsilon)
     → map (decode epsilon) (map encode queue) ≡ queue
-decode-frames epsilon queue wide =
-    map-map (decode epsilon) encode queue
-    ∙ (map-ext (λ f. decode epsilon (encode f)) (λ f. f) queue (λ f m. decode-encode epsilon f (wide f m)) ∙ map-id queue)
+decode-frames epsilon queue wide = decode-each (decode epsilon) encode queue (λ f m. decode-encode epsilon f (wide f m))
 
 pub held-frames :
     (epsilon : ℕ) (queue : List Frame) (rest : List ℕ)
@@ -269,14 +319,19 @@ pub frame-fits : (s : Setup) (f : Frame) → FrameOk s f → length (encode f) �
 unfolding longestFrame
 frame-fits s f ok = omega (arith, length-encode f)
 
--- so many frames in their bounds fit
+-- so many frames of such a length fit
+pub length-frames :
+    (bytes : Frame → List ℕ) (queue : List Frame) (longest most : ℕ) → ((f : Frame) → List·Memᴰ f queue → length (bytes f) ≤ longest)
+    → length queue ≤ most → length (framesBy bytes queue) ≤ 2 + longest * most
+unfolding twoBytes
+length-frames bytes queue longest most one few =
+    omega (arith, length-joined-le bytes queue longest one, mul-le-mul-right longest few, mul-comm most longest)
+
 pub length-holdback :
     (s : Setup) (queue : List Frame) → Limits s → ((f : Frame) → List·Memᴰ f queue → FrameOk s f)
     → length queue ≤ depth (s .n) (s .epsilon) (s .delta)
     → length (encodeHoldback (holdbackLength (s .n) (s .epsilon) (s .delta)) queue) ≡ holdbackLength (s .n) (s .epsilon) (s .delta)
-unfolding encodeHoldback encodeFrames twoBytes holdbackLength
+unfolding encodeHoldback encodeFrames holdbackLength
 length-holdback s queue limits ok few =
-    let one : (f : Frame) → List·Memᴰ f queue → length (encode f) ≤ longestFrame (s .epsilon) = λ f m. frame-fits s f (ok f m) in
-    let all : length (joined encode queue) ≤ length queue * longestFrame (s .epsilon) = length-joined-le encode queue (longestFrame (s .epsilon)) one in
-    let d = depth (s .n) (s .epsilon) (s .delta) in
-    length-padded _ (encodeFrames queue) (omega (arith, mul-le-mul-right (longestFrame (s .epsilon)) few, mul-comm d (longestFrame (s .epsilon))))
+    length-padded _ (encodeFrames queue)
+    (length-frames encode queue (longestFrame (s .epsilon)) (depth (s .n) (s .epsilon) (s .delta)) (λ f m. frame-fits s f (ok f m)) few)

@@ -57,10 +57,13 @@ pub record WriteAnswer : Type 0 where
   pub size : ℕ
   pub buffer : List ℕ
 
--- the answer by the number of the first no
+-- the answer by the number of the first no, and the frame's bytes
+abbrev pub writtenBy : ℕ → List ℕ → List ℕ → WriteAnswer
+writtenBy zero bytes buffer = record { number = 0; size = length bytes; buffer = overlay bytes buffer }
+writtenBy (suc k) bytes buffer = record { number = suc k; size = 0; buffer = buffer }
+
 abbrev pub writeBy : ℕ → Frame → List ℕ → WriteAnswer
-writeBy zero f buffer = record { number = 0; size = length (encode f); buffer = overlay (encode f) buffer }
-writeBy (suc k) f buffer = record { number = suc k; size = 0; buffer = buffer }
+writeBy number f buffer = writtenBy number (encode f) buffer
 
 -- the writer of a frame
 unfoldable pub writeFrame : Setup → ℕ → Frame → List ℕ → WriteAnswer

@@ -26,10 +26,13 @@ twoAt s at = getD s at 0 + 256 * getD s (at + 1) 0
 unfoldable pub section : List ℕ → List ℕ
 section s = length s ∷ s
 
+-- 01: the second and the third section: "1 + 2ε (c, then counts from offset −ε up); 0 to 32 (ticket)"
+abbrev pub laterSections : Frame → List ℕ
+laterSections f = section (f .stamp .c ∷ f .stamp .kn) ++ section (f .payload)
+
 -- 01: "A frame has three sections …: 3 (station, r in two bytes); 1 + 2ε (c, then counts from offset −ε up); 0 to 32 (ticket)"
 unfoldable pub encode : Frame → List ℕ
-encode f =
-    section (f .station ∷ twoBytes (f .stamp .r)) ++ (section (f .stamp .c ∷ f .stamp .kn) ++ section (f .payload))
+encode f = section (f .station ∷ twoBytes (f .stamp .r)) ++ laterSections f
 
 -- the counts of the second section, from offset −ε up
 unfoldable pub countsOf : ℕ → List ℕ → List ℕ
@@ -43,11 +46,15 @@ payloadCountAt epsilon = 6 + width epsilon
 unfoldable pub frameEnd : ℕ → List ℕ → ℕ
 frameEnd epsilon s = payloadCountAt epsilon + 1 + getD s (payloadCountAt epsilon) 0
 
+-- the counts of the second and the third section are right, and nothing is left over
+abbrev pub laterFormed : ℕ → List ℕ → Bool
+laterFormed epsilon s =
+    eqb (getD s 4 0) (1 + width epsilon)
+    && (leb (getD s (payloadCountAt epsilon) 0) longestPayload && eqb (length s) (frameEnd epsilon s))
+
 -- 01: "Are the three counts right, and is nothing left over?"
 unfoldable pub wellFormed : ℕ → List ℕ → Bool
-wellFormed epsilon s =
-    eqb (getD s 0 0) 3 && (eqb (getD s 4 0) (1 + width epsilon)
-    && (leb (getD s (payloadCountAt epsilon) 0) longestPayload && eqb (length s) (frameEnd epsilon s)))
+wellFormed epsilon s = eqb (getD s 0 0) 3 && laterFormed epsilon s
 
 -- what a well-formed frame holds
 unfoldable pub decode : ℕ → List ℕ → Frame

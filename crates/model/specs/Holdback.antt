@@ -11,10 +11,14 @@ use Rattle.model.specs.Frame.{Frame, twoBytes, twoAt, encode, decode, fr
 use Rattle.model.specs.Order.{readingOf, before, dueNear}
 use Rattle.model.specs.Question.{firstNo, frameQuestions}
 
--- 01: "frames …, each ending where its counts say": the bytes of k frames
+-- the bytes of k frames one after the other, by where each ends
+unfoldable pub cutBy : (List ℕ → ℕ) → ℕ → List ℕ → List (List ℕ)
+cutBy end zero s = []
+cutBy end (suc k) s = take (end s) s ∷ cutBy end k (drop (end s) s)
+
+-- 01: "frames …, each ending where its counts say"
 unfoldable pub cutFrames : ℕ → ℕ → List ℕ → List (List ℕ)
-cutFrames epsilon zero s = []
-cutFrames epsilon (suc k) s = take (frameEnd epsilon s) s ∷ cutFrames epsilon k (drop (frameEnd epsilon s) s)
+cutFrames epsilon k s = cutBy (frameEnd epsilon) k s
 
 -- 01: "A shelf is a two-byte count, then frames"
 unfoldable pub heldBytes : ℕ → List ℕ → List (List ℕ)
@@ -32,9 +36,13 @@ sameOrigin f g = eqb (f .station) (g .station) && eqb (f .stamp .r) (g .stamp .r
 unfoldable pub passes : Setup → List ℕ → Bool
 passes s bytes = eqb (firstNo (frameQuestions s bytes)) 0
 
--- 01: "sum at most ε − 1 past v", which reads B
+-- 01: "sum at most ε − 1 past v", with r at a reading, and v at its own
+abbrev pub notEarlyAt : Setup → ℕ → ℕ → Frame → Bool
+notEarlyAt s at reading f = leb (sum reading (f .stamp .c)) (at + (s .epsilon - 1))
+
+-- the same with r read near v, which reads B
 unfoldable pub notEarly : Setup → ℕ → Frame → Bool
-notEarly s v f = leb (sum (readingOf s v f) (f .stamp .c)) (s .modulus + (s .epsilon - 1))
+notEarly s v f = notEarlyAt s (s .modulus) (readingOf s v f) f
 
 -- 01: "sum + δ + ε not before v". 02, 2.2: "each frame is due after the last clock": not before the least due clock that is allowed, as a
 -- reading, in which v stands at B
@@ -49,9 +57,12 @@ soundHoldback s v least bytes =
     && (chained (before s v) (held (s .epsilon) bytes) && (apart sameOrigin (held (s .epsilon) bytes)
     && (every (notEarly s v) (held (s .epsilon) bytes) && every (notOverdue s v least) (held (s .epsilon) bytes)))))
 
--- 01: "A hand-out has the shelf's form without the zeros"
+-- 01: "A hand-out has the shelf's form without the zeros": "a two-byte count, then frames", each written so
+abbrev pub framesBy : (Frame → List ℕ) → List Frame → List ℕ
+framesBy bytes queue = twoBytes (length queue) ++ joined bytes queue
+
 unfoldable pub encodeFrames : List Frame → List ℕ
-encodeFrames queue = twoBytes (length queue) ++ joined encode queue
+encodeFrames queue = framesBy encode queue
 
 -- 01: "then zeros written by the tick"
 unfoldable pub encodeHoldback : ℕ → List Frame → List ℕ

@@ -3,7 +3,7 @@ use Prim.Native.Nat.{ℕ, zero, suc, _+_, _-_}
 use mathlib.Core.Bool.{not}
 use mathlib.Core.List.{List, [], _∷_, _++_}
 use lib.Dec.{leb}
-use Rattle.laws.specs.Lists.{any, leading, insertAt}
+use Rattle.laws.specs.Lists.{any, leading, insertAt, foldLeft}
 use Rattle.model.specs.Setup.{Setup}
 use Rattle.model.specs.Timestamp.{Timestamp, countsFrom, atMost, absorb}
 use Rattle.model.specs.Frame.{Frame, decode}
@@ -11,17 +11,24 @@ use Rattle.model.specs.Order.{readingOf, before}
 use Rattle.model.specs.Question.{Question, ask, firstNo, frameQuestions}
 use Rattle.model.specs.Holdback.{sameOrigin, notEarly}
 
--- 01, 13: "Is r at most δ + ε behind v?" v reads B
+-- 01, 13: "Is r at most δ + ε behind v?", with r at a reading, and v at its own
+abbrev pub askLateAt : Setup → ℕ → ℕ → Question
+askLateAt s at reading = ask (leb at (reading + (s .delta + s .epsilon))) 13
+
+-- r is read near v, which reads B
 unfoldable pub askLate : Setup → ℕ → Frame → Question
-askLate s v f = ask (leb (s .modulus) (readingOf s v f + (s .delta + s .epsilon))) 13
+askLate s v f = askLateAt s (s .modulus) (readingOf s v f)
 
 -- 01, 14: "Is the sum at most ε − 1 past v?"
 unfoldable pub askEarly : Setup → ℕ → Frame → Question
 askEarly s v f = ask (notEarly s v f) 14
 
--- 01, 15: "Is each count for clock v or later at most n − 1?" The clock v reads B
+-- 01, 15: "Is each count for clock v or later at most n − 1?", likewise
+abbrev pub askCountsAt : Setup → ℕ → ℕ → Frame → Question
+askCountsAt s at reading f = ask (atMost (s .n - 1) (countsFrom (s .epsilon) reading (f .stamp .kn) at)) 15
+
 unfoldable pub askCounts : Setup → ℕ → Frame → Question
-askCounts s v f = ask (atMost (s .n - 1) (countsFrom (s .epsilon) (readingOf s v f) (f .stamp .kn) (s .modulus))) 15
+askCounts s v f = askCountsAt s (s .modulus) (readingOf s v f) f
 
 -- 01, 16: "Is that station and r not yet shelved?"
 unfoldable pub askRepeat : List Frame → Frame → Question
@@ -92,17 +99,24 @@ hearOne s v asking h bytes = hearBy (judge s v asking (h .queue) bytes) (decode 
 
 -- 01, tick 3: "Each frame of the bundle is judged in turn", by the questions asked
 unfoldable pub hear : Setup → ℕ → Asking → Heard → List (List ℕ) → Heard
-hear s v asking h [] = h
-hear s v asking h (bytes ∷ rest) = hear s v asking (hearOne s v asking h bytes) rest
+hear s v asking h entries = foldLeft (hearOne s v asking) h entries
 
--- 01, tick 3: of a taken frame "c and each count become the larger of own and frame's"; a refused one is not "counted in"
+-- 01, tick 3: of a taken frame "c and each count become the larger of own and frame's"; a refused one is not "counted in". Of a stamp with
+-- its r at a reading, and v at its own
+abbrev pub absorbAt : ℕ → ℕ → ℕ → ℕ → Timestamp → Timestamp → Timestamp
+absorbAt zero epsilon at reading stamp t = absorb epsilon at t reading stamp
+absorbAt (suc k) epsilon at reading stamp t = t
+
+-- of a frame, by the verdict's number
 abbrev pub absorbBy : ℕ → Setup → ℕ → Frame → Timestamp → Timestamp
-absorbBy zero s v f t = absorb (s .epsilon) (s .modulus) t (readingOf s v f) (f .stamp)
-absorbBy (suc k) s v f t = t
+absorbBy number s v f t = absorbAt number (s .epsilon) (s .modulus) (readingOf s v f) (f .stamp) t
 
 -- the same of all entries of the batch, by the verdicts' numbers
+unfoldable pub absorbEach : (ℕ → List ℕ → Timestamp → Timestamp) → Timestamp → List (List ℕ) → List ℕ → Timestamp
+absorbEach one t [] numbers = t
+absorbEach one t (bytes ∷ rest) [] = t
+absorbEach one t (bytes ∷ rest) (number ∷ numbers) = absorbEach one (one number bytes t) rest numbers
+
 unfoldable pub absorbAll : Setup → ℕ → Timestamp → List (List ℕ) → List ℕ → Timestamp
-absorbAll s v t [] numbers = t
-absorbAll s v t (bytes ∷ rest) [] = t
-absorbAll s v t (bytes ∷ rest) (number ∷ numbers) =
-    absorbAll s v (absorbBy number s v (decode (s .epsilon) bytes) t) rest numbers
+absorbAll s v t entries numbers =
+    absorbEach (λ number bytes u. absorbBy number s v (decode (s .epsilon) bytes) u) t entries numbers

@@ -11,5 +11,6 @@ pub mod Judge
 pub mod Tick
 pub mod Poll
 pub mod Observer
+pub mod Long
 pub mod Published
 pub mod Run

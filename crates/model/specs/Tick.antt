@@ -103,8 +103,11 @@ stepOf s v tables = clockStep (s .modulus) (tables .r) v
 
 -- 02, 2.2: the least due clock that the shelf may have, as a reading, in which v stands at B: one past "the last clock", by the step from
 -- it, where it is sound; where not, "no due clock before v is accepted"
+abbrev pub leastAt : ℕ → Bool → ℕ → ℕ
+leastAt at sound step = cond sound (at + 1 - step) at
+
 abbrev pub leastAfter : Setup → Bool → ℕ → ℕ
-leastAfter s sound step = cond sound (s .modulus + 1 - step) (s .modulus)
+leastAfter s sound step = leastAt (s .modulus) sound step
 
 -- 02, 2.2: the last clock is "r of the tables"
 unfoldable pub leastDue : Setup → ℕ → Timestamp → ℕ
@@ -192,24 +195,31 @@ keptOf i = keptIn (i .setup) (i .clock) (heardOf i .queue)
 unfoldable pub takenCount : List ℕ → ℕ
 takenCount verdicts = length (select (λ x. eqb x 0) verdicts)
 
--- an accepted call: "Bytes beyond those written stay"
-unfoldable pub acceptance : Input → Output
-acceptance i =
+-- what an accepted call comes to: mend, the new stamp, the verdicts, the frame sent, what is handed out, with its bytes, and the shelf's bytes.
+-- "Bytes beyond those written stay"
+abbrev pub acceptedWith : Input → ℕ → Timestamp → List ℕ → List ℕ → List Frame → List ℕ → List ℕ → Output
+acceptedWith i repair stamp verdicts sent delivered handed holdback =
     record {
       answer =
           record {
             number = 0;
-            tables = widened (newStamp i);
-            repair = repairOf (i .setup) (i .clock) (i .tables) (i .holdback);
-            taken = takenCount (heardOf i .verdicts);
-            delivered = length (deliveredOf i);
-            sent = length (sentBytes i);
+            tables = widened stamp;
+            repair = repair;
+            taken = takenCount verdicts;
+            delivered = length delivered;
+            sent = length sent;
           };
-      holdback = encodeHoldback (holdbackSize (i .setup)) (keptOf i);
-      outgoing = overlay (sentBytes i) (i .outgoing);
-      verdicts = overlay (heardOf i .verdicts) (i .verdicts);
-      delivery = overlay (encodeFrames (deliveredOf i)) (i .delivery);
+      holdback = holdback;
+      outgoing = overlay sent (i .outgoing);
+      verdicts = overlay verdicts (i .verdicts);
+      delivery = overlay handed (i .delivery);
     }
+
+-- an accepted call
+unfoldable pub acceptance : Input → Output
+acceptance i =
+    acceptedWith i (repairOf (i .setup) (i .clock) (i .tables) (i .holdback)) (newStamp i) (heardOf i .verdicts) (sentBytes i)
+    (deliveredOf i) (encodeFrames (deliveredOf i)) (encodeHoldback (holdbackSize (i .setup)) (keptOf i))
 
 -- what comes of a call, by the number of the first no
 abbrev pub tickBy : ℕ → Input → Output

@@ -50,10 +50,13 @@ clockStep modulus r v = ahead modulus r v
 abbrev pub soundClock : ℕ → ℕ → ℕ → ℕ → Bool
 soundClock epsilon modulus v r = ltb r modulus && within 1 epsilon (clockStep modulus r v)
 
+-- the stamp and the counts of tables are sound for a new clock, beside the test of their r
+abbrev pub soundBeside : Bool → ℕ → ℕ → Timestamp → Bool
+soundBeside clock n epsilon t = soundTimestamp n epsilon t && (clock && atMost (n - 1) (countsFrom epsilon 0 (t .kn) 1))
+
 -- 01: "sound for a new clock v if the stamp is sound, r is below B and one before v modulo B, and counts at offsets 1 and up are at most n − 1"
 unfoldable pub soundTables : ℕ → ℕ → ℕ → ℕ → Timestamp → Bool
-soundTables n epsilon modulus v t =
-    soundTimestamp n epsilon t && (soundClock epsilon modulus v (t .r) && atMost (n - 1) (countsFrom epsilon 0 (t .kn) 1))
+soundTables n epsilon modulus v t = soundBeside (soundClock epsilon modulus v (t .r)) n epsilon t
 
 -- the 2ε counts alone. 01: "Places past the 2ε counts are ignored"
 unfoldable pub trimmed : ℕ → Timestamp → Timestamp

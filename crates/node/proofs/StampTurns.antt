@@ -12,7 +12,7 @@ use Rattle.model.specs.Timestamp.{Timestamp, trimmed, widened}
 use Rattle.model.specs.Order.{readingOf}
 use Rattle.model.specs.Frame.{Frame, decode}
 use Rattle.model.specs.Batch.{exactBatch, batchEntries}
-use Rattle.model.specs.Judge.{absorbBy, absorbAll}
+use Rattle.model.specs.Judge.{absorbBy, absorbAll, absorbEach}
 use Rattle.lemmas.proofs.Counts.{trimmed-widened, absorb-wide}
 use Rattle.batch.specs.Walk.{countOf, entryAt, nextAt}
 use Rattle.batch.proofs.Walk.{walked, batch-walked}
@@ -31,7 +31,7 @@ absorbedOne listens x s v f t = cond listens t (absorbBy x s v f t)
 absorbed-more :
     (listens : Bool) (s : Setup) (v : ℕ) (t : Timestamp) (bytes : List ℕ) (rest : List (List ℕ)) (x : ℕ) (numbers : List ℕ)
     → absorbedFor listens s v t (bytes ∷ rest) (x ∷ numbers) ≡ absorbedFor listens s v (absorbedOne listens x s v (decode (s .epsilon) bytes) t) rest numbers
-unfolding absorbedFor absorbAll
+unfolding absorbedFor absorbAll absorbEach
 absorbed-more true s v t bytes rest x numbers = refl
 absorbed-more false s v t bytes rest x numbers = refl
 
@@ -55,7 +55,7 @@ absorbed-taken false s v f t t′ small narrow e = (e ∙ ap widened (sym kept),
         ∙ trimmed-widened (s .epsilon) (absorbBy 0 s v f (trimmed (s .epsilon) t)) small (absorb-wide (s .epsilon) (s .modulus) (readingOf s v f) (trimmed (s .epsilon) t) (f .stamp))
 
 absorbed-rest : (listens : Bool) (s : Setup) (v : ℕ) (t : Timestamp) (batch numbers : List ℕ) (at k : ℕ) → k ≡ 0 → absorbedFor listens s v t (walked k batch at) numbers ≡ t
-unfolding absorbedFor absorbAll walked
+unfolding absorbedFor absorbAll absorbEach walked
 absorbed-rest true s v t batch numbers at k e = refl
 absorbed-rest false s v t batch numbers at k e = rw e
 

@@ -11,7 +11,7 @@ use lib.Dec.{eqb}
 use lib.ListN.{length, take, drop, getD, set, length-set, length-append, take-append-drop}
 use lib.Seq.{take-suc-set, drop-cons, drop-set-lt, length-take-le, drop-drop, getD-append-seam}
 use borrow.Author.Tests.{ne-eqb}
-use Rattle.laws.specs.Lists.{select, overlay, insertAt}
+use Rattle.laws.specs.Lists.{select, overlay, insertAt, foldLeft}
 use Rattle.laws.proofs.Lists.{select-append, select-no}
 use Rattle.model.specs.Setup.{Setup}
 use Rattle.model.specs.Frame.{Frame, decode}
@@ -88,7 +88,7 @@ module _ {listens : Bool} {s : Setup} {v : ℕ} {batch buffer₀ verdicts₀ : L
 
   heard-one : (verdict : Verdict) → judge s v (questionsFor listens s v) (held (s .epsilon) buffer) bytes ≡ verdict
       → heardAll listens s v batch buffer₀ ≡ hear s v (questionsFor listens s v) (hearBy verdict (decode (s .epsilon) bytes) now) others
-  unfolding hear hearOne
+  unfolding hear foldLeft hearOne
   heard-one verdict e =
       u .whole
       ∙ (ap (hear s v (questionsFor listens s v) now) (walk-more batch at i more ∙ ap₂ (λ (b : List ℕ) (k : ℕ). b ∷ walked (countOf batch - (i + 1)) batch k) (sym entry) (sym step))
@@ -156,7 +156,7 @@ written-last {listens} {s} {v} {batch} {buffer₀} {verdicts₀} {took} {count} 
     (ap (λ (y : Heard). y .verdicts) (u .whole) ∙ (hear-verdicts s v (questionsFor listens s v) h others ∙ ap (λ (l : List ℕ). l ++ numbersOf s v (questionsFor listens s v) h others) (done-more verdicts i x inside)))
 
 heard-none : (listens : Bool) (s : Setup) (v : ℕ) (h : Heard) (batch : List ℕ) (at k : ℕ) → k ≡ 0 → hear s v (questionsFor listens s v) h (walked k batch at) ≡ h
-unfolding hear walked
+unfolding hear foldLeft walked
 heard-none listens s v h batch at k e = rw e
 
 pub queue-end : {listens : Bool} {s : Setup} {v : ℕ} {batch buffer₀ verdicts₀ : List ℕ} {took count stop at i : ℕ} {buffer table starts verdicts : List ℕ}

@@ -32,7 +32,7 @@ use Rattle.theory.proofs.PublishedCall.{heardHere, none-overdue, frame-
 use Rattle.theory.proofs.PublishedStart.{paired-fresh}
 
 -- what the call sends in the published program
-abbrev sentHere : Setup → List (Option Message) → Call → ℕ → Process → Option Message
+abbrev pub sentHere : Setup → List (Option Message) → Call → ℕ → Process → Option Message
 sentHere s sent call v p = cond (call .send) (some (messageOf (s .epsilon) v p (heardHere sent call) (call .payload))) none
 
 -- nothing that the process of a call holds is due before the call's clock
@@ -55,7 +55,7 @@ module _ (s : Setup) (w : World) (u : Published) (call : Call) (node : Node) (v 
   moved : doneOf node call .clock ≡ v
   moved = done-clock s node call (legal .called)
 
-  published :
+  pub published :
       publish deliverableBy s u (doneOf node call)
       ≡ record {
         processes = set (u .processes) (call .node) (advanced deliverableBy (s .epsilon) (s .delta) v p (heardHere (u .sent) call));
@@ -168,6 +168,15 @@ module _ (s : Setup) (w : World) (u : Published) (call : Call) (node : Node) (v 
         (subst (λ (x : Process). List·Memᴰ m (buffered x (heardHere (u .sent) call))) same t)),
   )
 
+-- a call that is no event leaves the published program as it was, and it sends nothing
+pub publish-idle : (s : Setup) (u : Published) (d : Done) → isEvent d ≡ false → publish deliverableBy s u d ≡ record { processes = u .processes; sent = u .sent ++ (none ∷ []) }
+unfolding publish
+publish-idle s u d idle = rw idle (go (getElem? (u .processes) (d .node)))
+  where
+    go : (o : Option Process) → publishOn deliverableBy s u d false o ≡ record { processes = u .processes; sent = u .sent ++ (none ∷ []) }
+    go none = refl
+    go (some p) = refl
+
 -- a call that is no event: it sends nothing, and leaves every station as it was
 module _ (s : Setup) (w : World) (u : Published) (call : Call) (node : Node) (paired : Paired s w u) (at : getElem? (w .nodes) (call .node) ≡ some node)
     (idle : isEvent (doneOf node call) ≡ false) (good : Good s 0 0 (act w call))
@@ -176,18 +185,10 @@ module _ (s : Setup) (w : World) (u : Published) (call : Call) (node : Node) (pa
   none-sent : (m : Message) → _≡_ {A = Option Message} none (some m) → ⊥
   none-sent m e = let z : _≡_ {A = ℕ} 0 1 = cc in omega arith
 
-  not-published : publish deliverableBy s u (doneOf node call) ≡ record { processes = u .processes; sent = u .sent ++ (none ∷ []) }
-  unfolding publish
-  not-published = rw idle (go (getElem? (u .processes) (doneOf node call .node)))
-    where
-      go : (o : Option Process) → publishOn deliverableBy s u (doneOf node call) false o ≡ record { processes = u .processes; sent = u .sent ++ (none ∷ []) }
-      go none = refl
-      go (some p) = refl
-
   paired-idle : Paired s (act w call) (publish deliverableBy s u (doneOf node call))
   paired-idle =
       subst (λ (y : World). Paired s y (publish deliverableBy s u (doneOf node call))) (sym (act-is w call node at))
-      (subst (Paired s (record { nodes = nodesAfter (w .nodes) call node; past = w .past ++ (doneOf node call ∷ []) })) (sym not-published)
+      (subst (Paired s (record { nodes = nodesAfter (w .nodes) call node; past = w .past ++ (doneOf node call ∷ []) })) (sym (publish-idle s u (doneOf node call) idle))
       (record {
         good = subst (Good s 0 0) (act-is w call node at) good;
         sent-as =
@@ -240,70 +241,105 @@ paired-observed s w u call node v paired legal listens =
     quiet : (j : ℕ) → (call .node ≡ j → ⊥) → (k : ℕ) → heardIn j k (doneOf node call) ≡ false
     quiet j ne k = unfold heardIn doneOf in (rw (legal .called .accepted, ne-eqb (call .node) j ne) refl)
 
--- the calls of a list, one after the other
-abbrev pub AllFollow : Setup → Published → List Done → Type 0
-AllFollow s start past =
-    (j : ℕ) (d : Done) → getElem? past j ≡ some d → isEvent d ≡ true → Follows s (publishAll deliverableBy s start (take j past)) d
+-- a station that makes an accepted call, and its process
+pub record Acting (s : Setup) (w : World) (u : Published) (call : Call) (node : Node) (v : ℕ) : Type 0 where
+  pub legal : Legal s 0 w call node v
+  pub station : node .listens ≡ false
+  pub process : Process
+  pub at : getElem? (u .processes) (call .node) ≡ some process
+  pub twin : Twin s (w .past) (u .sent) (call .node) node process
 
-publish-snoc : (s : Setup) (past : List Done) (u : Published) (d : Done) → publishAll deliverableBy s u (past ++ (d ∷ [])) ≡ publish deliverableBy s (publishAll deliverableBy s u past) d
-unfolding publishAll
-publish-snoc s [] u d = refl
-publish-snoc s (a ∷ past) u d = publish-snoc s past (publish deliverableBy s u a) d
+-- a call more, and all stations beside their processes after it
+pub record OneMore (s : Setup) (w : World) (u : Published) (call : Call) : Type 0 where
+  pub node : Node
+  pub at : getElem? (w .nodes) (call .node) ≡ some node
+  pub paired : Paired s (act w call) (publish deliverableBy s u (doneOf node call))
+  pub acting : isEvent (doneOf node call) ≡ true → Acting s w u call node (doneOf node call .clock)
 
-follow-snoc :
-    (s : Setup) (start : Published) (past : List Done) (d : Done) → AllFollow s start past
-    → (isEvent d ≡ true → Follows s (publishAll deliverableBy s start past) d) → AllFollow s start (past ++ (d ∷ []))
-follow-snoc s start past d follow last j e at acc =
+pub one-more :
+    (s : Setup) (x : ℕ) (w : World) (u : Published) (call : Call) → Paired s w u → allowed s x w call ≡ true → noneStale (act w call .past) ≡ true
+    → OneMore s w u call
+one-more s x w u call paired ok fresh = go (allowed-fact s x (staleUntil s x + s .epsilon) w call (λ v h. omega arith) ok)
+  where
+    go :
+        (node : Node) × (getElem? (w .nodes) (call .node) ≡ some node)
+        × ((isAccepted (outputOf node call) ≡ false) ⊎ Legal s (staleUntil s x + s .epsilon) w call node (doneOf node call .clock))
+        → OneMore s w u call
+    go (node, at, inl refused) =
+        record {
+          node = node;
+          at = at;
+          paired = paired-refused s w u call node paired at refused;
+          acting = λ made. absurd (clash (event-accepted (doneOf node call) made) (unfold doneOf in refused));
+        }
+    go (node, at, inr legal) =
+        by-kind (legal-fresh s (staleUntil s x + s .epsilon) w call node (doneOf node call .clock) legal (last-sent w call node at (legal .called .accepted) fresh))
+        (true-or-false (node .listens))
+      where
+        by-kind : Legal s 0 w call node (doneOf node call .clock) → (node .listens ≡ true) ⊎ (node .listens ≡ false) → OneMore s w u call
+        by-kind here (inl listens) =
+            record {
+              node = node;
+              at = at;
+              paired = paired-observed s w u call node (doneOf node call .clock) paired here listens;
+              acting = λ made. absurd (clash listens (unfold doneOf in (event-kind (doneOf node call) made)));
+            }
+        by-kind here (inr station) =
+            let (p, p-at, twin) = paired .twins (call .node) node at station in
+            record {
+              node = node;
+              at = at;
+              paired = paired-accepted s w u call node (doneOf node call .clock) paired here p p-at twin station;
+              acting = λ made. record { legal = here; station = station; process = p; at = p-at; twin = twin };
+            }
+
+-- what is said of each event of a list of calls, by those before it
+abbrev pub EachEvent : (List Done → Done → Type 0) → List Done → Type 0
+EachEvent said past = (j : ℕ) (d : Done) → getElem? past j ≡ some d → isEvent d ≡ true → said (take j past) d
+
+pub each-snoc :
+    (said : List Done → Done → Type 0) (past : List Done) (d : Done) → EachEvent said past → (isEvent d ≡ true → said past d)
+    → EachEvent said (past ++ (d ∷ []))
+each-snoc said past d each last j e at made =
     elim (getElem?-snoc-cases past d j at) [
       | inl q ↦
           let h : j < length past = getElem?-lt past j q in
-          subst (λ (l : List Done). Follows s (publishAll deliverableBy s start l) e) (sym (take-append-le j past (d ∷ []) (omega arith))) (follow j e q acc)
+          subst (λ (l : List Done). said l e) (sym (take-append-le j past (d ∷ []) (omega arith))) (each j e q made)
       | inr q ↦
-          subst (λ (n : ℕ). Follows s (publishAll deliverableBy s start (take n (past ++ (d ∷ [])))) e) (sym (q .0))
-          (subst (λ (l : List Done). Follows s (publishAll deliverableBy s start l) e) (sym (take-append-seam past (d ∷ [])))
-          (subst (λ (y : Done). Follows s (publishAll deliverableBy s start past) y) (sym (q .1)) (last (ap isEvent (sym (q .1)) ∙ acc))))
+          subst (λ (n : ℕ). said (take n (past ++ (d ∷ []))) e) (sym (q .0))
+          (subst (λ (l : List Done). said l e) (sym (take-append-seam past (d ∷ [])))
+          (subst (λ (y : Done). said past y) (sym (q .1)) (last (ap isEvent (sym (q .1)) ∙ made))))
     ]
+
+pub each-none : (said : List Done → Done → Type 0) → EachEvent said []
+each-none said j d at = let z : j < 0 = getElem?-lt [] j at in absurd (omega arith)
+
+-- the calls of a list, one after the other
+abbrev pub AllFollow : Setup → Published → List Done → Type 0
+AllFollow s start past = EachEvent (λ l d. Follows s (publishAll deliverableBy s start l) d) past
+
+pub publish-snoc : (s : Setup) (past : List Done) (u : Published) (d : Done) → publishAll deliverableBy s u (past ++ (d ∷ [])) ≡ publish deliverableBy s (publishAll deliverableBy s u past) d
+unfolding publishAll
+publish-snoc s [] u d = refl
+publish-snoc s (a ∷ past) u d = publish-snoc s past (publish deliverableBy s u a) d
 
 -- one call more
 one-follows :
     (s : Setup) (x : ℕ) (start : Published) (w : World) (call : Call) → Paired s w (publishAll deliverableBy s start (w .past)) → AllFollow s start (w .past)
     → allowed s x w call ≡ true → noneStale (act w call .past) ≡ true
     → Paired s (act w call) (publishAll deliverableBy s start (act w call .past)) × AllFollow s start (act w call .past)
-one-follows s x start w call paired follow ok fresh = go (allowed-fact s x (staleUntil s x + s .epsilon) w call (λ v h. omega arith) ok)
-  where
-    u : Published
-    u = publishAll deliverableBy s start (w .past)
-
-    grown :
-        (node : Node) → getElem? (w .nodes) (call .node) ≡ some node → Paired s (act w call) (publish deliverableBy s u (doneOf node call))
-        → (isEvent (doneOf node call) ≡ true → Follows s u (doneOf node call))
-        → Paired s (act w call) (publishAll deliverableBy s start (act w call .past)) × AllFollow s start (act w call .past)
-    grown node at more last =
-        let past-is : act w call .past ≡ w .past ++ (doneOf node call ∷ []) = ap (λ (y : World). y .past) (act-is w call node at) in (
-          subst (Paired s (act w call)) (sym (ap (publishAll deliverableBy s start) past-is ∙ publish-snoc s (w .past) start (doneOf node call))) more,
-          subst (AllFollow s start) (sym past-is) (follow-snoc s start (w .past) (doneOf node call) follow last),
-        )
-
-    go :
-        (node : Node) × (getElem? (w .nodes) (call .node) ≡ some node)
-        × ((isAccepted (outputOf node call) ≡ false) ⊎ Legal s (staleUntil s x + s .epsilon) w call node (doneOf node call .clock))
-        → Paired s (act w call) (publishAll deliverableBy s start (act w call .past)) × AllFollow s start (act w call .past)
-    go (node, at, inl refused) =
-        grown node at (paired-refused s w u call node paired at refused) (λ made. absurd (clash (event-accepted (doneOf node call) made) (unfold doneOf in refused)))
-    go (node, at, inr legal) =
-        let here = legal-fresh s (staleUntil s x + s .epsilon) w call node (doneOf node call .clock) legal (last-sent w call node at (legal .called .accepted) fresh) in
-        by-kind here (true-or-false (node .listens))
-      where
-        by-kind :
-            Legal s 0 w call node (doneOf node call .clock) → (node .listens ≡ true) ⊎ (node .listens ≡ false)
-            → Paired s (act w call) (publishAll deliverableBy s start (act w call .past)) × AllFollow s start (act w call .past)
-        by-kind here (inl listens) =
-            grown node at (paired-observed s w u call node (doneOf node call .clock) paired here listens)
-            (λ made. absurd (clash listens (unfold doneOf in (event-kind (doneOf node call) made))))
-        by-kind here (inr station) =
-            let (p, p-at, twin) = paired .twins (call .node) node at station in
-            grown node at (paired-accepted s w u call node (doneOf node call .clock) paired here p p-at twin station)
-            (λ made. follows-here s w u call node (doneOf node call .clock) paired here p p-at twin station)
+one-follows s x start w call paired follow ok fresh =
+    let u = publishAll deliverableBy s start (w .past) in
+    let more = one-more s x w u call paired ok fresh in
+    let d = doneOf (more .node) call in
+    let past-is : act w call .past ≡ w .past ++ (d ∷ []) = ap (λ (y : World). y .past) (act-is w call (more .node) (more .at)) in (
+      subst (Paired s (act w call)) (sym (ap (publishAll deliverableBy s start) past-is ∙ publish-snoc s (w .past) start d)) (more .paired),
+      subst (AllFollow s start) (sym past-is)
+          (each-snoc (λ l e. Follows s (publishAll deliverableBy s start l) e) (w .past) d follow
+          (λ made.
+          let a = more .acting made in
+          follows-here s w u call (more .node) (d .clock) paired (a .legal) (a .process) (a .at) (a .twin) (a .station))),
+    )
 
 all-follow :
     (s : Setup) (x : ℕ) (start : Published) (calls : List Call) (w : World) → Paired s w (publishAll deliverableBy s start (w .past)) → AllFollow s start (w .past)
@@ -321,7 +357,7 @@ pub fresh-follow :
 unfolding atStart publishAll
 fresh-follow s nodes calls start fresh kept none-old =
     all-follow s (largestClock nodes) (publishedStart s nodes) calls (atStart nodes) (paired-fresh s nodes start fresh)
-    (λ k e e-at. let z : k < 0 = getElem?-lt [] k e-at in absurd (omega arith)) kept none-old
+    (each-none (λ l e. Follows s (publishAll deliverableBy s (publishedStart s nodes) l) e)) kept none-old
 
 pub demand2-fresh : Demand2Fresh
 demand2-fresh s nodes calls start fresh kept none-old j d at acc = fresh-follow s nodes calls start fresh kept none-old j d at acc .0

@@ -9,7 +9,7 @@ use mathlib.Core.Option.{some}
 use lib.ListN.{length, take, getD, getElem?}
 use lib.Seq.{take-suc, take-all}
 use borrow.Author.Tests.{eq-eqb, eqb-true}
-use Rattle.laws.specs.Lists.{any}
+use Rattle.laws.specs.Lists.{any, foldLeft}
 use Rattle.laws.proofs.Lists.{any-append, any-mem, mem-getElem?}
 use Rattle.laws.proofs.Numbers.{clash}
 use Rattle.model.specs.Setup.{Setup}
@@ -17,7 +17,7 @@ use Rattle.model.specs.Timestamp.{Timestamp}
 use Rattle.model.specs.Frame.{decode}
 use Rattle.model.specs.Batch.{batchEntries}
 use Rattle.model.specs.Question.{firstNo}
-use Rattle.model.specs.Judge.{Asking, Heard, hear, hearOne, judgeQuestions, absorbBy, absorbAll}
+use Rattle.model.specs.Judge.{Asking, Heard, hear, hearOne, judgeQuestions, absorbBy, absorbAll, absorbEach}
 use Rattle.model.specs.Tick.{openedQueue, heardOf, heardStamp, openingStamp}
 use Rattle.model.specs.Run.{Node, Source, sentBy, stale, Call, Done, inputOf, isAccepted, outputOf, doneOf}
 use Rattle.theory.specs.Demand3.{heardIn, isFrom}
@@ -71,7 +71,7 @@ heard-end past node call accepted e all k =
 
 -- one entry more
 hear-snoc : (s : Setup) (v : ℕ) (asking : Asking) (h : Heard) (xs : List (List ℕ)) (b : List ℕ) → hear s v asking h (xs ++ (b ∷ [])) ≡ hearOne s v asking (hear s v asking h xs) b
-unfolding hear
+unfolding hear foldLeft
 hear-snoc s v asking h [] b = refl
 hear-snoc s v asking h (x ∷ xs) b = hear-snoc s v asking (hearOne s v asking h x) xs b
 
@@ -79,7 +79,7 @@ absorb-snoc :
     (s : Setup) (v : ℕ) (asking : Asking) (h : Heard) (t : Timestamp) (xs : List (List ℕ)) (b : List ℕ)
     → absorbAll s v t (xs ++ (b ∷ [])) (numbersOf s v asking h (xs ++ (b ∷ [])))
     ≡ absorbBy (firstNo (asking (hear s v asking h xs .queue) b)) s v (decode (s .epsilon) b) (absorbAll s v t xs (numbersOf s v asking h xs))
-unfolding hear absorbAll numbersOf
+unfolding hear foldLeft absorbAll absorbEach numbersOf
 absorb-snoc s v asking h t [] b = refl
 absorb-snoc s v asking h t (x ∷ xs) b =
     absorb-snoc s v asking (hearOne s v asking h x) (absorbBy (firstNo (asking (h .queue) x)) s v (decode (s .epsilon) x) t) xs b

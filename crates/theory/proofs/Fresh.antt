@@ -16,7 +16,7 @@ use Rattle.laws.proofs.Lists.{countOf, index-of-mem, every-mem, every-append-le
 use Rattle.model.specs.Setup.{Setup, width}
 use Rattle.model.specs.Timestamp.{Timestamp, trimmed, fresh, replaced, countOwn}
 use Rattle.model.specs.Frame.{Frame, twoAt}
-use Rattle.model.specs.Holdback.{cutFrames, heldBytes, held}
+use Rattle.model.specs.Holdback.{cutFrames, cutBy, heldBytes, held}
 use Rattle.model.specs.Run.{Node, Source, sentBy, stale, Call, Done, World, isAccepted, outputOf, doneOf, act, actOn, runFrom, atStart}
 use Rattle.theory.specs.Premises.{goodStart, sameTimestamp, isFresh, allFresh, isSent, noneStale}
 use Rattle.lemmas.proofs.Bounds.{Limits}
@@ -75,7 +75,7 @@ fresh-node s node h =
 
 module _ (s : Setup) (node : Node) (limits : Limits s) (is-fresh : FreshNode s node) where
   pub queue-empty : held (s .epsilon) (node .holdback) ≡ []
-  unfolding held heldBytes cutFrames
+  unfolding held heldBytes cutFrames cutBy
   queue-empty = rw (is-fresh .empty) refl
 
   -- its memory is what a call leaves
@@ -83,7 +83,7 @@ module _ (s : Setup) (node : Node) (limits : Limits s) (is-fresh : FreshNode s n
   memory-fresh =
       record {
         r-is = is-fresh .last;
-        passed = unfold heldBytes cutFrames every in (rw (is-fresh .empty) refl);
+        passed = unfold heldBytes cutFrames cutBy every in (rw (is-fresh .empty) refl);
         queue = rw queue-empty (left-none s (node .clock % s .modulus) 0);
       }
 
@@ -174,20 +174,23 @@ legal-fresh s floor w call node v legal all-sent =
           (legal .entry e bytes o at o-at);
     }
 
--- nor among the first calls of such a list
-pub none-stale-before : (calls : List Call) (w : World) → noneStale (runFrom w calls .past) ≡ true → noneStale (w .past) ≡ true
+-- what a test says of all calls of a list it says of the first ones
+pub every-before : (test : Done → Bool) (calls : List Call) (w : World) → every test (runFrom w calls .past) ≡ true → every test (w .past) ≡ true
 unfolding runFrom
-none-stale-before [] w h = h
-none-stale-before (call ∷ calls) w h = go (getElem? (w .nodes) (call .node)) refl (none-stale-before calls (act w call) h)
+every-before test [] w h = h
+every-before test (call ∷ calls) w h = go (getElem? (w .nodes) (call .node)) refl (every-before test calls (act w call) h)
   where
-    go : (o : Option Node) → getElem? (w .nodes) (call .node) ≡ o → noneStale (act w call .past) ≡ true → noneStale (w .past) ≡ true
+    go : (o : Option Node) → getElem? (w .nodes) (call .node) ≡ o → every test (act w call .past) ≡ true → every test (w .past) ≡ true
     go none e k =
         let idle : act w call ≡ w = unfold act in (ap (λ (o : Option Node). actOn o w call) e) in
-        subst (λ (y : World). noneStale (y .past) ≡ true) idle k
+        subst (λ (y : World). every test (y .past) ≡ true) idle k
     go (some node) e k =
-        unfold noneStale in
-        (every-append-left (λ d. not (isAccepted (d .output)) || every isSent (d .call .sources)) (w .past) (doneOf node call ∷ [])
-        (subst (λ (y : World). noneStale (y .past) ≡ true) (act-is w call node e) k))
+        every-append-left test (w .past) (doneOf node call ∷ []) (subst (λ (y : World). every test (y .past) ≡ true) (act-is w call node e) k)
+
+-- so there is no older frame among the first calls of a list without one
+pub none-stale-before : (calls : List Call) (w : World) → noneStale (runFrom w calls .past) ≡ true → noneStale (w .past) ≡ true
+unfolding noneStale
+none-stale-before calls w h = every-before (λ d. not (isAccepted (d .output)) || every isSent (d .call .sources)) calls w h
 
 -- the entries of the last call
 pub last-sent : (w : World) (call : Call) (node : Node) → getElem? (w .nodes) (call .node) ≡ some node → isAccepted (outputOf node call) ≡ true → noneStale (act w call .past) ≡ true → every isSent (call .sources) ≡ true

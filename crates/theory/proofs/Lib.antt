@@ -23,7 +23,11 @@ pub mod PublishedQueue
 pub mod PublishedHear
 pub mod PublishedRun
 pub mod PublishedCall
+pub mod LongHear
+pub mod LongQueue
+pub mod LongCall
 pub mod PublishedStart
 pub mod Demand2
+pub mod LongClocks
 pub mod OneProgram
 pub mod Demand3

@@ -11,7 +11,7 @@ use mathlib.Core.Option.{Option, some}
 use lib.ListN.{length, take, getD, getElem?}
 use lib.Seq.{take-all}
 use borrow.Author.Tests.{lt-ltb, le-ltb, ltb-true, eq-eqb, eqb-true}
-use Rattle.laws.specs.Lists.{any, select, sortBy, placedAt}
+use Rattle.laws.specs.Lists.{any, select, sortBy, placedAt, foldLeft}
 use Rattle.laws.specs.Lex.{lexCompare}
 use Rattle.laws.proofs.Numbers.{eq-or-ne, lt-or-ge, or-left, or-cases, not-of-false}
 use Rattle.laws.proofs.Lists.{getElem?-in, getElem?-lt, getElem?-getD, mem-select, mem-of-select}
@@ -23,7 +23,7 @@ use Rattle.model.specs.Order.{readingOf, key, due, dueNear}
 use Rattle.model.specs.Holdback.{heldBytes}
 use Rattle.model.specs.Batch.{batchEntries}
 use Rattle.model.specs.Question.{firstNo}
-use Rattle.model.specs.Judge.{Asking, Heard, hear, judgeQuestions, absorbBy, absorbAll}
+use Rattle.model.specs.Judge.{Asking, Heard, hear, judgeQuestions, absorbBy, absorbAll, absorbEach}
 use Rattle.model.specs.Tick.{heardStamp, dueBefore, dueNow, openingStamp}
 use Rattle.model.specs.Run.{Node, Source, sentBy, stale, Call, Done, World, inputOf, outputOf, doneOf, nodeAfter, act, isEvent, sends, messageBytes}
 use Rattle.theory.specs.Premises.{clockAt}
@@ -164,7 +164,7 @@ module _ (s : Setup) (floor from : ℕ) (settles : Settles s floor from) (w : Wo
   due-reads k m at fol un = omega (arith, waiting-reads s floor from w call node v good legal k m at (covered-sends from m fol) un)
 
   queue-start : QueueAt 0
-  unfolding stateAt hear any dueBefore
+  unfolding stateAt hear foldLeft any dueBefore
   queue-start =
       record {
         sound = queue-rest s (v % s .modulus) (leastAt s v node) (openedAt s v node) opened-sound;
@@ -339,7 +339,7 @@ module _ (s : Setup) (floor from : ℕ) (settles : Settles s floor from) (w : Wo
     stamp-on opening e (suc n) h loop = rw suc-add (stamp-next opening (n + e) (omega arith) (stamp-on opening e n (omega arith) loop))
 
     stamp-start : StampAt (openingStamp s (v % s .modulus) (node .tables)) 0
-    unfolding stampAt absorbAll
+    unfolding stampAt absorbAll absorbEach
     stamp-start =
         record {
           absorbing = opening-stamp s (v % s .modulus) (node .tables) (around .limits);

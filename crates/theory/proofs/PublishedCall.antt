@@ -12,7 +12,7 @@ use mathlib.Core.Option.{Option, some}
 use lib.Dec.{leb, ltb}
 use lib.ListN.{length, getElem?, length-map}
 use borrow.Author.Tests.{leb-false, eq-eqb}
-use Rattle.laws.specs.Lists.{any, select, apart, overlay}
+use Rattle.laws.specs.Lists.{any, select, apart, overlay, foldLeft}
 use Rattle.laws.proofs.Numbers.{clash, true-or-false, or-left, or-right, or-cases, false-of-no, false-of-not}
 use Rattle.laws.proofs.Lists.{getElem?-lt, getElem?-append, getElem?-snoc-cases, mem-of-map, mem-of-select}
 use Rattle.laws.proofs.Sorted.{lessBy, Sorted, sorted-of-chained, sorted-select, apart-append, apart-select}
@@ -64,10 +64,10 @@ seen-same sent heard heard′ seen same is =
 module _ (s : Setup) (w : World) (sent : List (Option Message)) (call : Call) (node : Node) (v : ℕ) (p : Process)
     (good : Good s 0 0 w) (legal : Legal s 0 w call node v) (sent-as : SentAs s (w .past) sent) (ranked : RankedSent s (w .past) sent)
     (twin : Twin s (w .past) sent (call .node) node p) (station : node .listens ≡ false) where
-  ticks : Ticks s node call v
+  pub ticks : Ticks s node call v
   ticks = record { due = legal .called; station = station }
 
-  limits : Limits s
+  pub limits : Limits s
   limits = good .group .limits (call .node) node (legal .at)
 
   -- no node is as it was before its first call
@@ -81,16 +81,16 @@ module _ (s : Setup) (w : World) (sent : List (Option Message)) (call : Call) (n
   memory : Memory s node
   memory = left-here .memory
 
-  tables-sound : node .listens ≡ false → Tables s node
+  pub tables-sound : node .listens ≡ false → Tables s node
   tables-sound x = left-here .stamp x .tables
 
   -- the node and its process at v
-  open-stamp : openingStamp s (v % s .modulus) (node .tables) ≡ step (call .step) (v % s .modulus) (reduced (s .modulus) (p .last))
+  pub open-stamp : openingStamp s (v % s .modulus) (node .tables) ≡ step (call .step) (v % s .modulus) (reduced (s .modulus) (p .last))
   open-stamp =
       opens-tables s node v (call .step) limits memory (legal .called .turn) (legal .called .step-pos) (legal .called .step-few) (tables-sound station)
       ∙ ap (step (call .step) (v % s .modulus)) (twin .stamp)
 
-  open-queue : SameMembers (s .modulus) (openedAt s v node) (p .buffer)
+  pub open-queue : SameMembers (s .modulus) (openedAt s v node) (p .buffer)
   open-queue = rw (opens-shelf s node v (call .step) limits memory (legal .called .turn) (legal .called .step-pos) (legal .called .step-few) tables-sound) (twin .queue)
 
   open-waits : (m : Message) → List·Memᴰ m (p .buffer) → Waits s v m
@@ -98,15 +98,15 @@ module _ (s : Setup) (w : World) (sent : List (Option Message)) (call : Call) (n
       subst (λ (x : ℕ). Waits s x m) (sym (legal .called .turn))
       (waits-next s (node .clock) (call .step) m (legal .called .step-few) (twin .undue m t) (twin .waiting m t))
 
-  next : p .last .r + call .step ≡ v
+  pub next : p .last .r + call .step ≡ v
   next = ap (λ (x : ℕ). x + call .step) (twin .clock-is) ∙ sym (legal .called .turn)
 
   heard-start : (k : ℕ) → heardTo (w .past) call 0 k ≡ heardAt (w .past) (call .node) k
   unfolding any
   heard-start k = or-false (heardAt (w .past) (call .node) k)
 
-  news-here : News s v sent (heardTo (w .past) call 0) (startHere s v node call) (batchEntries (call .batch)) (call .sources) (newHere sent call p)
-  unfolding stateAt hear
+  pub news-here : News s v sent (heardTo (w .past) call 0) (startHere s v node call) (batchEntries (call .batch)) (call .sources) (newHere sent call p)
+  unfolding stateAt hear foldLeft
   news-here =
       news-of s w sent good sent-as v (around s 0 0 (settles-fresh s) w call node v good legal) (unreached s 0 0 (settles-fresh s) w call node v good legal station)
       (batchEntries (call .batch)) (call .sources) (heardTo (w .past) call 0) (startHere s v node call) (p .received)
@@ -143,10 +143,10 @@ module _ (s : Setup) (w : World) (sent : List (Option Message)) (call : Call) (n
         | inr q ↦ new-undue m q
       ]
 
-  all-reads : (m : Message) → List·Memᴰ m all → ReadsTrue (s .epsilon) (s .modulus) v (m .event .r)
+  pub all-reads : (m : Message) → List·Memᴰ m all → ReadsTrue (s .epsilon) (s .modulus) v (m .event .r)
   all-reads m t = waits-reads s v m limits (all-waits m t)
 
-  all-sent : (m : Message) → List·Memᴰ m all → (k : ℕ) × (getElem? sent k ≡ some (some m))
+  pub all-sent : (m : Message) → List·Memᴰ m all → (k : ℕ) × (getElem? sent k ≡ some (some m))
   all-sent m t =
       elim (List·Memᴰ·append-cases (p .buffer) t) [
         | inl q ↦ let (k, at, e) = twin .received .into m (twin .from-received m q) in (k, at)
@@ -165,24 +165,23 @@ module _ (s : Setup) (w : World) (sent : List (Option Message)) (call : Call) (n
       clash old
       (ap (heardAt (w .past) (call .node)) (told s w sent good sent-as k j x y at (a .at) q) ∙ (sym (heard-start j) ∙ first))))
 
-  all-ranked : (m m′ : Message) → List·Memᴰ m all → List·Memᴰ m′ all → rank (s .epsilon) m ≡ rank (s .epsilon) m′ → sameMessage m m′ ≡ true
+  pub all-ranked : (m m′ : Message) → List·Memᴰ m all → List·Memᴰ m′ all → rank (s .epsilon) m ≡ rank (s .epsilon) m′ → sameMessage m m′ ≡ true
   all-ranked m m′ t t′ e =
       let (k, at) = all-sent m t in
       let (l, at′) = all-sent m′ t′ in
       let same : m ≡ m′ = one-rank s w sent good sent-as ranked k l m m′ at at′ e in
       subst (λ (x : Message). sameMessage m x ≡ true) same (same-self m)
 
-  -- the new stamp is the new event
-  pub stamp-is : newStamp (inputOf node call) ≡ reduced (s .modulus) (eventOf (s .epsilon) v p (heardHere sent call))
-  unfolding newStamp eventOf
-  stamp-is =
-      ap (countOwn (inputOf node call .setup .epsilon) (inputOf node call .clock)) (absorbed-all s v node call ticks)
-      ∙ (ap₂ (λ (t : Setup) (u : ℕ). countOwn (t .epsilon) u
-      (absorbAll s (v % s .modulus) (openingStamp s (v % s .modulus) (node .tables)) (batchEntries (call .batch)) (numbersOf s (v % s .modulus) (judgeQuestions s (v % s .modulus)) (startHere s v node call) (batchEntries (call .batch)))))
-      (setup-at s node call (legal .called)) (clock-at s node call (legal .called))
-      ∙ (ap (countOwn (s .epsilon) (v % s .modulus)) (news-stamp s v sent (openingStamp s (v % s .modulus) (node .tables)) news-here)
+  -- what hearing makes of the stamp, with the own event counted, is the new event
+  pub heard-event :
+      countOwn (s .epsilon) (v % s .modulus)
+      (absorbAll s (v % s .modulus) (openingStamp s (v % s .modulus) (node .tables)) (batchEntries (call .batch)) (numbersOf s (v % s .modulus) (judgeQuestions s (v % s .modulus)) (startHere s v node call) (batchEntries (call .batch))))
+      ≡ reduced (s .modulus) (eventOf (s .epsilon) v p (heardHere sent call))
+  unfolding eventOf
+  heard-event =
+      ap (countOwn (s .epsilon) (v % s .modulus)) (news-stamp s v sent (openingStamp s (v % s .modulus) (node .tables)) news-here)
       ∙ (ap (λ (t : Timestamp). countOwn (s .epsilon) (v % s .modulus) (absorbEvents (s .epsilon) (s .modulus) (v % s .modulus) t new-events)) open-stamp
-      ∙ event-stamp (s .epsilon) (s .modulus) v (call .step) few (p .last) new-events (twin .wide) next new-reads)))
+      ∙ event-stamp (s .epsilon) (s .modulus) v (call .step) few (p .last) new-events (twin .wide) next new-reads)
     where
       few : call .step ≤ s .epsilon
       few = legal .called .step-few
@@ -195,7 +194,17 @@ module _ (s : Setup) (w : World) (sent : List (Option Message)) (call : Call) (n
           let (m, there, is) = mem-of-map (λ (x : Message). x .event) (newHere sent call p) t in
           rw is (all-reads m (Memᴰ·append-right (p .buffer) there))
 
-  rest-queue : SameMembers (s .modulus) (restAt s v node) (select (λ m. not (ltb (messageDue s m) v)) (p .buffer))
+  -- so the new stamp is
+  pub stamp-is : newStamp (inputOf node call) ≡ reduced (s .modulus) (eventOf (s .epsilon) v p (heardHere sent call))
+  unfolding newStamp
+  stamp-is =
+      ap (countOwn (inputOf node call .setup .epsilon) (inputOf node call .clock)) (absorbed-all s v node call ticks)
+      ∙ (ap₂ (λ (t : Setup) (u : ℕ). countOwn (t .epsilon) u
+      (absorbAll s (v % s .modulus) (openingStamp s (v % s .modulus) (node .tables)) (batchEntries (call .batch)) (numbersOf s (v % s .modulus) (judgeQuestions s (v % s .modulus)) (startHere s v node call) (batchEntries (call .batch)))))
+      (setup-at s node call (legal .called)) (clock-at s node call (legal .called))
+      ∙ heard-event)
+
+  pub rest-queue : SameMembers (s .modulus) (restAt s v node) (select (λ m. not (ltb (messageDue s m) v)) (p .buffer))
   rest-queue =
       members-select (s .modulus) (λ f. not (dueBefore s (v % s .modulus) f)) (λ m. not (ltb (messageDue s m) v)) (openedAt s v node) (p .buffer) open-queue
       (λ m t. ap not (before-same s v m (all-reads m (Memᴰ·append-left (newHere sent call p) t))))
@@ -262,13 +271,13 @@ module _ (s : Setup) (w : World) (sent : List (Option Message)) (call : Call) (n
   unfolding inputOf
   no-repair = rw (legal .called .setup-is, legal .called .clock-is) (opens-calm s node v (call .step) limits memory (legal .called .turn) (legal .called .step-pos) (legal .called .step-few) tables-sound station)
 
-  taken-are : takenCount (heardOf (inputOf node call) .verdicts) ≡ length (newHere sent call p)
+  pub taken-are : takenCount (heardOf (inputOf node call) .verdicts) ≡ length (newHere sent call p)
   unfolding takenCount select
   taken-are =
       ap (λ (h : Heard). takenCount (h .verdicts)) (heard-all s v node call ticks)
       ∙ (news-taken s v sent news-here ∙ zero-add (length (newHere sent call p)))
 
-  verdicts-heard : heardOf (inputOf node call) .verdicts ≡ verdictsOn (p .received) (heardHere sent call)
+  pub verdicts-heard : heardOf (inputOf node call) .verdicts ≡ verdictsOn (p .received) (heardHere sent call)
   verdicts-heard =
       ap (λ (h : Heard). h .verdicts) (heard-all s v node call ticks)
       ∙ news-verdicts s v sent (p .received) (told s w sent good sent-as) news-here

@@ -12,7 +12,7 @@ use mathlib.Core.Option.{Option, some}
 use lib.Dec.{eqb}
 use lib.ListN.{length, getElem?}
 use borrow.Author.Tests.{eqb-true, eq-eqb, ne-eqb}
-use Rattle.laws.specs.Lists.{any, select, insertAt, apart}
+use Rattle.laws.specs.Lists.{any, select, insertAt, apart, foldLeft}
 use Rattle.laws.proofs.Numbers.{true-or-false, clash, and-intro, or-left, or-right, or-cases, or-false-left, or-false-right, or-false-intro, false-of-no, eq-or-ne}
 use Rattle.laws.proofs.Lists.{any-of-mem, any-of-false, getElem?-lt, select-append, mem-insertAt-new, mem-insertAt-old, mem-of-insertAt}
 use Rattle.laws.proofs.Sorted.{apart-cons}
@@ -21,7 +21,7 @@ use Rattle.model.specs.Timestamp.{Timestamp, near, absorb}
 use Rattle.model.specs.Frame.{Frame, encode, decode}
 use Rattle.model.specs.Order.{readingOf}
 use Rattle.model.specs.Question.{firstNo}
-use Rattle.model.specs.Judge.{Heard, hear, hearOne, judgeQuestions, placeFor, absorbBy, absorbAll}
+use Rattle.model.specs.Judge.{Heard, hear, hearOne, judgeQuestions, placeFor, absorbBy, absorbAll, absorbEach}
 use Rattle.model.specs.Tick.{takenCount}
 use Rattle.model.specs.Published.{Message, sameMessage, newOnes}
 use Rattle.model.specs.Run.{Source, sentBy}
@@ -84,7 +84,7 @@ take-stamp :
 unfolding readingOf reducedFrame reduced
 take-stamp s v t bytes m f = rw f refl
 
-take-queue :
+pub take-queue :
     (s : Setup) (v : ℕ) (h : Heard) (bytes : List ℕ) (m : Message) → decode (s .epsilon) bytes ≡ reducedFrame (s .modulus) m
     → firstNo (judgeQuestions s v (h .queue) bytes) ≡ 0
     → hearOne s v (judgeQuestions s v) h bytes .queue ≡ insertAt (placeFor s v (h .queue) (reducedFrame (s .modulus) m)) (reducedFrame (s .modulus) m) (h .queue)
@@ -92,7 +92,7 @@ take-queue s v h bytes m f e =
     hear-taken s v (judgeQuestions s v) h bytes e ∙ ap (λ (g : Frame). insertAt (placeFor s v (h .queue) g) g (h .queue)) f
 
 -- one message more in buffer and queue
-members-insert :
+pub members-insert :
     (B i : ℕ) (m : Message) (queue : List Frame) (buffer : List Message) → SameMembers B queue buffer
     → SameMembers B (insertAt i (reducedFrame B m) queue) (buffer ++ (m ∷ []))
 members-insert B i m queue buffer same =
@@ -115,7 +115,7 @@ unfolding takenCount select
 taken-no l = ap length (select-append (λ x. eqb x 0) l (16 ∷ []) ∙ append-nil (select (λ x. eqb x 0) l))
 
 module _ (s : Setup) (v : ℕ) (sent : List (Option Message)) where
-  decoded : (k : ℕ) (m : Message) (bytes : List ℕ) → Incoming s v sent k m bytes → decode (s .epsilon) bytes ≡ reducedFrame (s .modulus) m
+  pub decoded : (k : ℕ) (m : Message) (bytes : List ℕ) → Incoming s v sent k m bytes → decode (s .epsilon) bytes ≡ reducedFrame (s .modulus) m
   decoded k m bytes a = rw (a .bytes-are) (decode-encode (s .epsilon) (reducedFrame (s .modulus) m) (a .frame .sound .wide))
 
   -- the stamp takes the new messages in turn
@@ -124,7 +124,7 @@ module _ (s : Setup) (v : ℕ) (sent : List (Option Message)) where
       (t : Timestamp) → News s v sent heard h entries sources fresh
       → absorbAll s (v % s .modulus) t entries (numbersOf s (v % s .modulus) (judgeQuestions s (v % s .modulus)) h entries)
       ≡ absorbEvents (s .epsilon) (s .modulus) (v % s .modulus) t (map (λ (m : Message). m .event) fresh)
-  unfolding absorbAll numbersOf absorbEvents
+  unfolding absorbAll absorbEach numbersOf absorbEvents
   news-stamp t none-left = refl
   news-stamp t (again {h} {bytes} {fresh} k m a old e rest) =
       let one : ℕ → Timestamp = λ n. absorbBy n s (v % s .modulus) (decode (s .epsilon) bytes) t in
@@ -141,7 +141,7 @@ module _ (s : Setup) (v : ℕ) (sent : List (Option Message)) where
       {heard : ℕ → Bool} {h : Heard} {entries : List (List ℕ)} {sources : List Source} {fresh : List Message}
       (buffer : List Message) → News s v sent heard h entries sources fresh → SameMembers (s .modulus) (h .queue) buffer
       → SameMembers (s .modulus) (hear s (v % s .modulus) (judgeQuestions s (v % s .modulus)) h entries .queue) (buffer ++ fresh)
-  unfolding hear
+  unfolding hear foldLeft
   news-queue buffer none-left same = rw (append-nil buffer) same
   news-queue buffer (again {h} {bytes} {fresh} k m a old e rest) same =
       news-queue buffer rest (subst (λ (q : List Frame). SameMembers (s .modulus) q buffer) (sym (hear-refused s (v % s .modulus) (judgeQuestions s (v % s .modulus)) h bytes 15 e)) same)
@@ -156,7 +156,7 @@ module _ (s : Setup) (v : ℕ) (sent : List (Option Message)) where
       {heard : ℕ → Bool} {h : Heard} {entries : List (List ℕ)} {sources : List Source} {fresh : List Message}
       → News s v sent heard h entries sources fresh
       → takenCount (hear s (v % s .modulus) (judgeQuestions s (v % s .modulus)) h entries .verdicts) ≡ takenCount (h .verdicts) + length fresh
-  unfolding hear
+  unfolding hear foldLeft
   news-taken {h} none-left = sym (add-zero (takenCount (h .verdicts)))
   news-taken (again {h} {bytes} {fresh} k m a old e rest) =
       let one : takenCount (hearOne s (v % s .modulus) (judgeQuestions s (v % s .modulus)) h bytes .verdicts) ≡ takenCount (h .verdicts) =
@@ -311,7 +311,7 @@ pub news-verdicts :
     (s : Setup) (v : ℕ) (sent : List (Option Message)) {heard : ℕ → Bool} {h : Heard} {entries : List (List ℕ)} {sources : List Source} {fresh : List Message}
     (seen : List Message) → Told sent → News s v sent heard h entries sources fresh → SeenIs sent heard seen
     → hear s (v % s .modulus) (judgeQuestions s (v % s .modulus)) h entries .verdicts ≡ h .verdicts ++ verdictsOn seen (messagesHeard sent sources)
-unfolding hear messagesHeard verdictsOn
+unfolding hear foldLeft messagesHeard verdictsOn
 news-verdicts s v sent {h} seen told none-left is = sym (append-nil (h .verdicts))
 news-verdicts s v sent {heard} {h} seen told (again {bytes} {sources} k m a old e rest) is =
     news-verdicts s v sent seen told rest (seen-again sent heard seen k old is)

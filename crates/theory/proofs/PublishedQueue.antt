@@ -12,7 +12,7 @@ use lib.ListN.{length, getD, length-append}
 use lib.Seq.{getD-append-seam}
 use borrow.Author.Tests.{leb-true, leb-false, le-leb, lt-leb, ltb-true, ltb-false, lt-ltb, le-ltb, eqb-true, eqb-false, eq-eqb, ne-eqb}
 use Rattle.laws.specs.Lists.{tab, select, sortBy, apart}
-use Rattle.laws.specs.Lex.{lexCompare}
+use Rattle.laws.specs.Lex.{isLess, lexCompare}
 use Rattle.laws.proofs.Numbers.{lt-or-ge, eq-or-ne, not-of-false, false-of-not}
 use Rattle.laws.proofs.Lists.{length-tab, mem-select, mem-of-select, mem-map, mem-of-map}
 use Rattle.laws.proofs.Lex.{isLess-lt, lt-isLess, lex-head-lt, lex-head-eq, lex-lt-cases, lex-append}
@@ -52,18 +52,25 @@ unfolding rank reduced
 rank-is epsilon B m =
     ap (λ (l : List ℕ). (m .event .r + m .event .c) ∷ (l ++ (m .sender ∷ []))) (sym (down-places epsilon (reduced B (m .event))))
 
--- the order of the ranks is the order of the frames
-pub less-frames :
-    (s : Setup) (v : ℕ) (m m′ : Message) → ReadsTrue (s .epsilon) (s .modulus) v (m .event .r) → ReadsTrue (s .epsilon) (s .modulus) v (m′ .event .r)
-    → lessBy (rank (s .epsilon)) m m′ ≡ true
-    → lessBy (keyNear s (v % s .modulus)) (reducedFrame (s .modulus) m) (reducedFrame (s .modulus) m′) ≡ true
-unfolding keyNear key keyBy readingOf sum reducedFrame reduced
-less-frames s v m m′ t t′ h =
+-- the order of the ranks is the order of the frames, with clocks that are read as far from v as they lie
+pub less-keys :
+    (s : Setup) (v B x x′ : ℕ) (m m′ : Message) → x + v ≡ B + m .event .r → x′ + v ≡ B + m′ .event .r → lessBy (rank (s .epsilon)) m m′ ≡ true
+    → isLess (lexCompare (key s x (reducedFrame (s .modulus) m)) (key s x′ (reducedFrame (s .modulus) m′))) ≡ true
+unfolding key keyBy sum reducedFrame reduced
+less-keys s v B x x′ m m′ t t′ h =
     lt-isLess
-    (key-of-rank (readingOf s (v % s .modulus) (reducedFrame (s .modulus) m)) (readingOf s (v % s .modulus) (reducedFrame (s .modulus) m′)) v (s .modulus) (m .event .r) (m′ .event .r) (m .event .c) (m′ .event .c)
+    (key-of-rank x x′ v B (m .event .r) (m′ .event .r) (m .event .c) (m′ .event .c)
     (m .sender) (m′ .sender) (countsDown (s .epsilon) (reduced (s .modulus) (m .event))) (countsDown (s .epsilon) (reduced (s .modulus) (m′ .event)))
     (length-down (s .epsilon) (reduced (s .modulus) (m .event)) ∙ sym (length-down (s .epsilon) (reduced (s .modulus) (m′ .event)))) t t′
     (rw (rank-is (s .epsilon) (s .modulus) m, rank-is (s .epsilon) (s .modulus) m′) at (isLess-lt (lexCompare (rank (s .epsilon) m) (rank (s .epsilon) m′)) h)))
+
+less-frames :
+    (s : Setup) (v : ℕ) (m m′ : Message) → ReadsTrue (s .epsilon) (s .modulus) v (m .event .r) → ReadsTrue (s .epsilon) (s .modulus) v (m′ .event .r)
+    → lessBy (rank (s .epsilon)) m m′ ≡ true
+    → lessBy (keyNear s (v % s .modulus)) (reducedFrame (s .modulus) m) (reducedFrame (s .modulus) m′) ≡ true
+unfolding keyNear readingOf reducedFrame reduced
+less-frames s v m m′ t t′ h =
+    less-keys s v (s .modulus) (readingOf s (v % s .modulus) (reducedFrame (s .modulus) m)) (readingOf s (v % s .modulus) (reducedFrame (s .modulus) m′)) m m′ t t′ h
 
 -- when a message is due
 unfoldable pub messageDue : Setup → Message → ℕ

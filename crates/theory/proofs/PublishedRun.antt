@@ -100,7 +100,7 @@ waits-next s v k m few later h = record { close = h .close; not-ahead = omega (a
 copied-sender : (s : Setup) (m : Message) (d : Done) → Copies s m d → m .sender ≡ d .own
 copied-sender s m d c = unfold reducedFrame eventFrame frameOf in (ap (λ (f : Frame). f .station) (c .frame))
 
-same-parts : (m m′ : Message) → sameMessage m m′ ≡ true → (m .sender ≡ m′ .sender) × (m .event .r ≡ m′ .event .r)
+pub same-parts : (m m′ : Message) → sameMessage m m′ ≡ true → (m .sender ≡ m′ .sender) × (m .event .r ≡ m′ .event .r)
 unfolding sameMessage
 same-parts m m′ h = (
   eqb-true (m .sender) (m′ .sender) (and-left (eqb (m .sender) (m′ .sender)) (eqb (m .event .r) (m′ .event .r)) h),

@@ -17,7 +17,7 @@ use Rattle.model.specs.Timestamp.{Timestamp, trimmed, widened}
 use Rattle.model.specs.Frame.{Frame, encode, decode, wellFormed, frameEnd, twoAt, twoBytes}
 use Rattle.model.specs.Question.{ask, firstNo, askSetup, askRange, askStamp, frameQuestions}
 use Rattle.model.specs.Codec.{askPayload, readQuestions, readBy, read, frameOf, writeFrameQuestions, writeBy, writeFrame, write}
-use Rattle.model.specs.Holdback.{cutFrames, heldBytes, held, passes, soundHoldback, encodeFrames, encodeHoldback}
+use Rattle.model.specs.Holdback.{cutFrames, cutBy, heldBytes, held, passes, soundHoldback, encodeFrames, encodeHoldback}
 use Rattle.model.specs.Tick.{holdbackSize}
 use Rattle.theory.specs.Demand2.{areBytes, hasWidth, Demand2Codec}
 use Rattle.lemmas.proofs.Bounds.{FrameOk}
@@ -110,7 +110,7 @@ write-of-read s own bytes buffer below e fits =
 cut-front :
     (epsilon k : ℕ) (s : List ℕ) → every (λ b. ltb b 256) s ≡ true → every (wellFormed epsilon) (cutFrames epsilon k s) ≡ true
     → (rest : List ℕ) × (joined encode (map (decode epsilon) (cutFrames epsilon k s)) ++ rest ≡ s)
-unfolding cutFrames joined every
+unfolding cutFrames cutBy joined every
 cut-front epsilon zero s below formed = (s, refl)
 cut-front epsilon (suc k) s below formed =
     let n = frameEnd epsilon s in

@@ -2,4 +2,5 @@ pub mod Premises
 pub mod NeverFull
 pub mod Demand1
 pub mod Demand2
+pub mod LongClocks
 pub mod Demand3

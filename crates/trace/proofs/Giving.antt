@@ -12,7 +12,7 @@ use Rattle.laws.specs.Lists.{every}
 use Rattle.laws.proofs.Numbers.{same-test, and-left, and-right}
 use Rattle.model.specs.Setup.{Setup, inLimits, width}
 use Rattle.model.specs.Frame.{Frame, twoAt, payloadCountAt, frameEnd, decode}
-use Rattle.model.specs.Holdback.{cutFrames, heldBytes, held, passes}
+use Rattle.model.specs.Holdback.{cutFrames, cutBy, heldBytes, held, passes}
 use Rattle.model.specs.Comparison.{Comparison, compared}
 use Rattle.lemmas.proofs.Comparing.{same-reason}
 use Rattle.trace.specs.Text.{giveLine, giveText, giveAfter, givesAfter, givesOf, giveLines, frameBytes, frameFrom}
@@ -62,7 +62,7 @@ module _ (s : Setup) (v : ℕ) (bytes : List ℕ) where
 
   -- the first frame has a dash, and so it would have after itself
   first-itself : (k : ℕ) → givesOf s v (map (decode (s .epsilon)) (cutFrames (s .epsilon) k (drop 2 bytes))) ≡ giveLinesFrom k 2 2
-  unfolding giveLinesFrom cutFrames givesOf givesAfter giveAfter frameFrom frameBytes
+  unfolding giveLinesFrom cutFrames cutBy givesOf givesAfter giveAfter frameFrom frameBytes
   first-itself zero = refl
   first-itself (suc k) =
       rw (same-reason s v (decode (s .epsilon) (take (frameEnd (s .epsilon) (drop 2 bytes)) (drop 2 bytes))))
@@ -72,12 +72,12 @@ module _ (s : Setup) (v : ℕ) (bytes : List ℕ) where
   give-all = first-itself (twoAt bytes 0)
 
   pub give-none : (k last at : ℕ) → k ≡ 0 → giveLinesFrom k last at ≡ []
-  unfolding giveLinesFrom cutFrames givesAfter
+  unfolding giveLinesFrom cutFrames cutBy givesAfter
   give-none k last at e = rw e
 
   pub give-one : (left k last at next : ℕ) → left ≡ suc k → next ≡ at + frameEnd (s .epsilon) (drop at bytes)
       → giveLinesFrom left last at ≡ giveAfter s v (at-position last) (at-position at) ++ giveLinesFrom k at next
-  unfolding giveLinesFrom cutFrames givesAfter frameFrom frameBytes
+  unfolding giveLinesFrom cutFrames cutBy givesAfter frameFrom frameBytes
   give-one left k last at next e f = rw (e, f, ← drop-drop (frameEnd (s .epsilon) (drop at bytes)) at bytes)
 
   -- ---- each of them passes 10 to 12
@@ -88,7 +88,7 @@ module _ (s : Setup) (v : ℕ) (bytes : List ℕ) where
 
   passing-head : (left k at : ℕ) → left ≡ suc k → every (passes s) (cutFrames (s .epsilon) left (drop at bytes)) ≡ true
       → (passes s (frameBytes (s .epsilon) bytes at) && every (passes s) (cutFrames (s .epsilon) k (drop (frameEnd (s .epsilon) (drop at bytes)) (drop at bytes)))) ≡ true
-  unfolding cutFrames every frameBytes
+  unfolding cutFrames cutBy every frameBytes
   passing-head left k at e h = rw e at h
 
   pub passing-here : (left k last at : ℕ) → left ≡ suc k → Passing left last at → passes s (frameBytes (s .epsilon) bytes at) ≡ true
