@@ -13,42 +13,37 @@ enum { FRAME = YARNGRAVEL_FRAME(EPSILON), SHELF = YARNGRAVEL_SHELF(N, EPSILON, D
 struct station {
     uint8_t tables[YARNGRAVEL_TABLES];
     uint8_t shelf[SHELF];
-    uint8_t bundle[1 + N * (1 + FRAME)];
+    uint8_t bundle[YARNGRAVEL_BUNDLE(EPSILON, N)];
     size_t bundle_len;
 };
 
 /* With these arguments no call is refused; a refusal would be a mistake in this file. */
 static void expect_accepted(const char *call, uint64_t answer) {
     if (yarngravel_number(answer) != 0) {
-        fprintf(stderr, "smallest: the %s answers %u\n", call, yarngravel_number(answer));
+        fprintf(stderr, "smallest: the %s is refused: %s\n", call, yarngravel_number_text(yarngravel_number(answer)));
         exit(1);
     }
 }
 
 static void hear(struct station *s, const uint8_t *frame, size_t len) {
-    s->bundle[0]++;
-    s->bundle[s->bundle_len++] = (uint8_t)len;
-    memcpy(s->bundle + s->bundle_len, frame, len);
-    s->bundle_len += len;
+    if (!yarngravel_bundle_add(s->bundle, sizeof s->bundle, &s->bundle_len, frame, len))
+        fputs("smallest: a bundle has no room for a frame\n", stderr);
 }
 
-/* Shows a hand-out of the tick at the clock, each frame with what put it behind the one before it. */
-static void show(unsigned board, unsigned clock, const uint8_t *frames, unsigned count) {
+/* Shows the hand-out of the tick at the clock, each frame with what put it behind the one before it. */
+static void show(unsigned board, unsigned clock, uint64_t answer, const uint8_t *handout) {
     static const char *const reasons[] = {"-", "sum", "count", "station", "r"};
-    const uint8_t *last = frames; /* the first is compared with itself, and nothing decides */
-    for (size_t last_len = 0; count > 0; count--) {
-        size_t len = 7 + 2 * EPSILON + frames[6 + 2 * EPSILON];
+    struct yarngravel_walk walk = yarngravel_walk_of(answer, handout), last = walk;
+    while (yarngravel_walk_next(&walk, EPSILON)) {
         uint8_t stamp[YARNGRAVEL_TABLES];
-        uint64_t read = yarngravel_read(N, EPSILON, DELTA, B, board, frames, len, stamp);
+        uint64_t read = yarngravel_read(N, EPSILON, DELTA, B, board, walk.frame, walk.len, stamp);
         expect_accepted("reader", read);
-        if (last == frames) last_len = len;
-        uint64_t compared = yarngravel_compare(N, EPSILON, DELTA, B, board, clock % B, last, last_len, frames, len);
+        if (last.len == 0) last = walk; /* the first is compared with itself, and nothing decides */
+        uint64_t compared = yarngravel_compare(N, EPSILON, DELTA, B, board, clock % B, last.frame, last.len, walk.frame, walk.len);
         expect_accepted("comparison", compared);
         printf("board %u: station %u says %.*s (%s)\n", board, yarngravel_station(read), (int)yarngravel_ticket_len(read),
-               (const char *)frames + yarngravel_ticket_at(read), reasons[yarngravel_reason(compared)]);
-        last = frames;
-        last_len = len;
-        frames += len;
+               (const char *)walk.frame + yarngravel_ticket_at(read), reasons[yarngravel_reason(compared)]);
+        last = walk;
     }
 }
 
@@ -73,9 +68,9 @@ int main(void) {
     static const char *const tickets[N] = {"bale 7", "dry"};
     static struct station yard[N];
     static uint8_t outgoing[FRAME], verdicts[YARNGRAVEL_VERDICTS], handout[SHELF];
-    for (unsigned own = 0; own < N; own++) {
-        yard[own].tables[3 + EPSILON] = 1; /* fresh at clock 0; the first tick is for clock 1 */
-        yard[own].bundle_len = 1;          /* an empty bundle is one byte 0 */
+    for (unsigned own = 0; own < N; own++) { /* fresh at clock 0; the first tick is for clock 1 */
+        expect_accepted("start", yarngravel_fresh(N, EPSILON, DELTA, B, own, 0, yard[own].tables));
+        yard[own].bundle_len = yarngravel_bundle_start(yard[own].bundle);
     }
     for (unsigned clock = 1; clock <= 6; clock++) {
         for (unsigned own = 0; own < N; own++) {
@@ -86,13 +81,10 @@ int main(void) {
                                 YARNGRAVEL_VERDICTS, handout, SHELF);
             expect_accepted("tick", answer);
             if (own == 0) tell(own, s, verdicts);
-            show(own, clock, handout + 2, yarngravel_gave(answer));
+            show(own, clock, answer, handout);
             if (own == 0) look_ahead(own, clock, s);
-            s->bundle[0] = 0;
-            s->bundle_len = 1;
-            for (unsigned to = 0; to < N && yarngravel_sent(answer) > 0; to++) {
-                hear(&yard[to], outgoing, yarngravel_sent(answer));
-            }
+            s->bundle_len = yarngravel_bundle_start(s->bundle);
+            for (unsigned to = 0; to < N && yarngravel_sent(answer) > 0; to++) hear(&yard[to], outgoing, yarngravel_sent(answer));
         }
     }
     return 0;

@@ -4,7 +4,8 @@
  * buffers below, to each call; an observer, a board that only listens, keeps its last clock and its shelf. Any numbers and any
  * bytes get an answer. A call that fails a check answers that check's number, and then no byte of any buffer or table has changed.
  * Buffers must not overlap.
- * The archive needs memcpy and memset, and about 3 KB of stack.
+ * Calls for different stations may be made at the same time, in any threads; those of one station one at a time.
+ * The archive, libyarngravel.a, needs memcpy and memset, and about 3 KB of stack.
  */
 #ifndef YARNGRAVEL_H
 #define YARNGRAVEL_H
@@ -16,6 +17,13 @@
 #ifdef __cplusplus
 extern "C" {
 #endif
+
+/* The version of this header: major * 65536 + minor * 256 + patch, and as a text. */
+#define YARNGRAVEL_VERSION (2u * 65536u + 8u * 256u + 0u)
+#define YARNGRAVEL_VERSION_TEXT "2.8.0"
+
+/* The version of the archive that is linked, in the form of YARNGRAVEL_VERSION. */
+uint32_t yarngravel_version(void);
 
 /* Limits of a setup: the numbers that every call takes first, an observer's without the last.
  *   n         stations of the yard, 1 to 16
@@ -30,7 +38,7 @@ extern "C" {
  *
  * Tables are r low, r high, c and 32 places for counts. The count at offset t, from -epsilon to epsilon - 1, is byte
  * 3 + epsilon + t; places past the 2 * epsilon counts are ignored, and come back 0 from an accepted tick and from the reader.
- * Fresh tables at a clock, for a station's start: r is that clock modulo B, byte 3 + epsilon is 1, all else 0.
+ * Fresh tables at a clock, for a station's start (yarngravel_fresh): r is that clock modulo B, byte 3 + epsilon is 1, all else 0.
  * After an accepted tick r is that tick's clock. A fresh shelf is zeros.
  */
 #define YARNGRAVEL_TABLES 35u
@@ -42,6 +50,18 @@ extern "C" {
 #define YARNGRAVEL_SHELF(n, epsilon, delta) \
     (2u + YARNGRAVEL_FRAME(epsilon) * (n) * ((delta) + 3u * (epsilon)))
 #define YARNGRAVEL_LINE 29u                                /* the longest line of words */
+/* A bundle of so many frames has at most this, where none is longer than YARNGRAVEL_FRAME; 255 is the most frames. */
+#define YARNGRAVEL_BUNDLE(epsilon, frames) (1u + (1u + YARNGRAVEL_FRAME(epsilon)) * (frames))
+
+/* The same sizes for a setup that is known only when the host runs; it is in its limits. The text is that of the words. */
+static inline size_t yarngravel_frame_size(uint32_t epsilon) { return YARNGRAVEL_FRAME((size_t)epsilon); }
+static inline size_t yarngravel_shelf_size(uint32_t n, uint32_t epsilon, uint32_t delta) {
+    return YARNGRAVEL_SHELF((size_t)n, (size_t)epsilon, (size_t)delta);
+}
+static inline size_t yarngravel_bundle_size(uint32_t epsilon, size_t frames) {
+    return YARNGRAVEL_BUNDLE((size_t)epsilon, frames);
+}
+static inline size_t yarngravel_text_size(size_t frames) { return YARNGRAVEL_LINE * frames; }
 
 /* Numbers in an answer. 0: accepted. Of a call: */
 #define YARNGRAVEL_BAD_SETUP 1u    /* the setup is not in its limits */
@@ -60,11 +80,42 @@ extern "C" {
 #define YARNGRAVEL_BAD_COUNT 15u   /* a count for this clock or later is above n - 1; an observer does not ask it */
 #define YARNGRAVEL_REPEAT 16u      /* that station and r is on the shelf already */
 
+/* A number in English, for a log. */
+static inline const char *yarngravel_number_text(unsigned number) {
+    switch (number) {
+    case 0: return "accepted";
+    case YARNGRAVEL_BAD_SETUP: return "the setup is not in its limits";
+    case YARNGRAVEL_BAD_CLOCK: return "the clock is not below B";
+    case YARNGRAVEL_BAD_SHELF: return "the shelf has not its exact length";
+    case YARNGRAVEL_BAD_TICKET: return "the ticket is longer than 32 bytes";
+    case YARNGRAVEL_BAD_BUNDLE: return "the bundle does not end exactly after its last entry";
+    case YARNGRAVEL_BAD_BUFFERS: return "a buffer is too short, or a verdict is none";
+    case YARNGRAVEL_BAD_FORM: return "the frame has a wrong count, or something is left over";
+    case YARNGRAVEL_BAD_RANGE: return "the frame's station is not below n, or its r not below B";
+    case YARNGRAVEL_BAD_STAMP: return "the frame's stamp is not sound";
+    case YARNGRAVEL_LATE: return "the frame is too old, or its sender's clock too far ahead";
+    case YARNGRAVEL_EARLY: return "the frame knows of a clock too far ahead";
+    case YARNGRAVEL_BAD_COUNT: return "the frame counts more events than there can be";
+    case YARNGRAVEL_REPEAT: return "the frame is on the shelf already";
+    default: return "no number of this library";
+    }
+}
+
 /* The fields of the answer of a tick or of an observer's call. A refusal is its number alone. */
 static inline unsigned yarngravel_number(uint64_t answer) { return (unsigned)(answer & 0xffu); }
 /* what had to be mended: 1 the tables (an observer's last clock) were not sound for this clock and were replaced, 2 the shelf was
    not sound and was emptied, 3 both */
 static inline unsigned yarngravel_mend(uint64_t answer) { return (unsigned)(answer >> 8 & 0xffu); }
+/* a mend in English */
+static inline const char *yarngravel_mend_text(unsigned mend) {
+    switch (mend) {
+    case 0: return "nothing had to be mended";
+    case 1: return "the tables (an observer's last clock) were not sound and were replaced";
+    case 2: return "the shelf was not sound and was emptied";
+    case 3: return "neither was sound: the tables (an observer's last clock) were replaced, the shelf was emptied";
+    default: return "no mend of this library";
+    }
+}
 /* frames of the bundle that were taken */
 static inline unsigned yarngravel_taken(uint64_t answer) { return (unsigned)(answer >> 16 & 0xffu); }
 /* length of the frame in the outgoing buffer, 0 if none was sent; an observer sends none */
@@ -102,6 +153,65 @@ static inline bool yarngravel_has_next(uint64_t answer) { return answer >> 8 & 1
 static inline unsigned yarngravel_next(uint64_t answer) { return (unsigned)(answer >> 16 & 0xffffu); }
 /* frames on the shelf that are due at most `within` ticks after the clock */
 static inline unsigned yarngravel_within(uint64_t answer) { return (unsigned)(answer >> 32 & 0xffffu); }
+
+/* A bundle, for what is heard between two calls. This one makes it empty, and answers its length, 1. */
+static inline size_t yarngravel_bundle_start(uint8_t *bundle) {
+    bundle[0] = 0;
+    return 1;
+}
+/* Adds what was heard to a bundle of *bundle_len bytes in a buffer of `room` bytes. False, and nothing has changed, where it does
+   not fit: the bundle has 255 frames already, the frame more than 255 bytes, or the buffer no room. */
+static inline bool yarngravel_bundle_add(uint8_t *bundle, size_t room, size_t *bundle_len, const uint8_t *frame,
+                                         size_t frame_len) {
+    if (*bundle_len < 1 || *bundle_len > room || bundle[0] == 255) return false;
+    if (frame_len > 255 || frame_len >= room - *bundle_len) return false;
+    bundle[0]++;
+    bundle[(*bundle_len)++] = (uint8_t)frame_len;
+    for (size_t i = 0; i < frame_len; i++) bundle[(*bundle_len)++] = frame[i];
+    return true;
+}
+
+/* The length of a frame that the library wrote, into a hand-out or to be sent. (A frame that was heard may be anything.) */
+static inline size_t yarngravel_frame_len(uint32_t epsilon, const uint8_t *frame) {
+    return 7u + 2u * (size_t)epsilon + frame[6u + 2u * (size_t)epsilon];
+}
+
+/* A walk over the frames that a call handed out, none where it was refused:
+ *   struct yarngravel_walk walk = yarngravel_walk_of(answer, handout);
+ *   while (yarngravel_walk_next(&walk, epsilon)) show(walk.frame, walk.len);
+ */
+struct yarngravel_walk {
+    const uint8_t *frame; /* the frame that the walk has come to */
+    size_t len;           /* its length */
+    unsigned left;        /* how many frames follow */
+};
+static inline struct yarngravel_walk yarngravel_walk_of(uint64_t answer, const uint8_t *handout) {
+    struct yarngravel_walk walk = {handout + 2, 0, yarngravel_gave(answer)};
+    return walk;
+}
+/* Goes on to the next frame; false where none is left. */
+static inline bool yarngravel_walk_next(struct yarngravel_walk *walk, uint32_t epsilon) {
+    if (walk->left == 0) return false;
+    walk->left--;
+    walk->frame += walk->len;
+    walk->len = yarngravel_frame_len(epsilon, walk->frame);
+    return true;
+}
+
+/* The clock of the last accepted call, modulo B: from a station's tables, or from an observer's last clock. */
+static inline unsigned yarngravel_last_clock(const uint8_t *kept) { return kept[0] + 256u * kept[1]; }
+/* An observer's last clock at its start: the clock before its first call, modulo B. */
+static inline void yarngravel_fresh_last(uint32_t clock, uint8_t last[YARNGRAVEL_LAST]) {
+    last[0] = (uint8_t)(clock & 0xffu);
+    last[1] = (uint8_t)(clock >> 8 & 0xffu);
+}
+
+/* Fresh tables at a clock (modulo B), for a station that starts there: its first tick is for a clock 1 to epsilon later. Its shelf
+ * starts as zeros.
+ * Refusals: 1, 2; then the tables stay as they were.
+ */
+uint64_t yarngravel_fresh(uint32_t n, uint32_t epsilon, uint32_t delta, uint32_t modulus, uint32_t own, uint32_t clock,
+                          uint8_t tables[YARNGRAVEL_TABLES]);
 
 /* One tick at the clock (modulo B): judges the frames of the bundle, sends if asked to, and hands out what is due. A frame is due
  * at its r + c + delta + epsilon; it is handed out in the station's first tick at or past that clock.

@@ -9,6 +9,6 @@ fn main() {
         return;
     };
     let dir = fs::canonicalize(dir).expect("ABI_LIB_DIR is a folder");
-    println!("cargo:rerun-if-changed={}", dir.join("libabi.a").display());
+    println!("cargo:rerun-if-changed={}", dir.join("libyarngravel.a").display());
     println!("cargo:rustc-link-search=native={}", dir.display());
 }

@@ -134,12 +134,22 @@ pub fn pack_refusal(number: u8) -> u64 {
 pub mod library {
     //! The calls themselves.
 
-    use crate::generate::{CompareCase, ListenCase, PollCase, ReadCase};
+    use crate::generate::{CompareCase, FreshCase, ListenCase, PollCase, ReadCase};
     use crate::generate::{TickCase, WordsCase, WriteCase};
     use crate::{ClockState, LastClock, Setup};
 
-    #[link(name = "abi", kind = "static")]
+    #[link(name = "yarngravel", kind = "static")]
     extern "C" {
+        fn yarngravel_fresh(
+            n: u32,
+            epsilon: u32,
+            delta: u32,
+            modulus: u32,
+            own: u32,
+            clock: u32,
+            state: *mut ClockState,
+        ) -> u64;
+
         fn yarngravel_tick(
             n: u32,
             epsilon: u32,
@@ -256,6 +266,14 @@ pub mod library {
         u32::try_from(number).expect("a number that a call can take")
     }
 
+    /// The start.
+    pub fn fresh(case: &mut FreshCase) -> u64 {
+        let [n, epsilon, delta, modulus, own] = numbers(&case.setup);
+        let clock = narrow(case.clock);
+        // SAFETY: as in `tick`.
+        unsafe { yarngravel_fresh(n, epsilon, delta, modulus, own, clock, &mut case.state) }
+    }
+
     /// The tick.
     pub fn tick(case: &mut TickCase) -> u64 {
         let [n, epsilon, delta, modulus, own] = numbers(&case.setup);
@@ -365,6 +383,7 @@ pub mod library {
         // SAFETY: as in `tick`.
         unsafe { yarngravel_poll(n, epsilon, delta, modulus, own, clock, within, holdback, length) }
     }
+
     /// An observer's call.
     pub fn listen(case: &mut ListenCase) -> u64 {
         let [n, epsilon, delta, modulus, _] = numbers(&case.setup);

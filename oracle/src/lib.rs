@@ -14,7 +14,7 @@ pub mod node;
 pub mod observer;
 pub mod playing;
 pub mod poll;
-mod reading;
+pub mod reading;
 pub mod reason;
 pub mod replay;
 pub mod setup;
@@ -33,7 +33,7 @@ pub use poll::{poll, Outlook};
 pub use reason::{compare, Reason};
 pub use replay::replay;
 pub use setup::Setup;
-pub use timestamp::{ClockState, Timestamp};
+pub use timestamp::{start, ClockState, Timestamp};
 pub use words::words;
 pub use yard::yard;
 

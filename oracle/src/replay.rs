@@ -33,7 +33,7 @@ fn run(input: &mut impl Read, output: &mut impl Write) -> Result<(), Stop> {
     Ok(())
 }
 
-fn read_setup(input: &mut impl Read) -> io::Result<Setup> {
+pub fn read_setup(input: &mut impl Read) -> io::Result<Setup> {
     let limits = read_limits(input)?;
     Ok(Setup { own: read_u8(input)?.into(), ..limits })
 }

@@ -1,7 +1,7 @@
 //! Timestamps (01's stamps) and the local one of a node (01's tables).
 
 use crate::fault::{planted, skew};
-use crate::Setup;
+use crate::{ask, Setup};
 
 /// The most counts a timestamp can have.
 pub const MAX_WIDTH: usize = 32;
@@ -82,6 +82,13 @@ impl<'a> Timestamp<'a> {
 pub fn all_at_most(kn: &[u8], limit: i64) -> bool {
     let largest = kn.iter().fold(0, |largest: u8, &count| largest.max(count));
     i64::from(largest) <= limit
+}
+
+/// A node's start: asks 1 and 2; fresh tables at a clock.
+pub fn start(setup: &Setup, clock: i64) -> Result<ClockState, u8> {
+    ask(setup.is_valid(), 1)?;
+    ask(clock < setup.modulus, 2)?;
+    Ok(fresh(setup, clock))
 }
 
 /// Fresh tables at a clock.

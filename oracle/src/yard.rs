@@ -48,16 +48,16 @@ fn run(input: &mut impl Read, output: &mut impl Write) -> Result<(), Stop> {
 }
 
 /// One step of a trace.
-struct Step {
+pub struct Step {
     /// The node whose tick it is (02's station).
-    node: usize,
-    given: Given,
+    pub node: usize,
+    pub given: Given,
     /// The steps, from 1, whose frames it hears.
-    heard: Vec<u16>,
+    pub heard: Vec<u16>,
 }
 
 impl Step {
-    fn read(input: &mut impl Read) -> io::Result<Self> {
+    pub fn read(input: &mut impl Read) -> io::Result<Self> {
         Ok(Step {
             node: read_u8(input)?.into(),
             given: Given::read(input)?,

@@ -1,2 +1,3 @@
--- `Packing` says how numbers and tables stand in bytes and bits at the boundary to C.
+-- `Packing` says how numbers and tables stand in bytes and bits at the boundary to C, `Fresh` with which tables a station starts.
 pub mod Packing
+pub mod Fresh

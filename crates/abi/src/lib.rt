@@ -15,6 +15,8 @@ use packing::pack_written;
 use packing::put_tables;
 use packing::tables_of;
 use setup::Setup;
+use setup::valid_for;
+use timestamp::Timestamp;
 use words::write_words;
 ghost use mathlib.Core.Path.{_≡_};
 ghost use Rattle.model.specs.Codec as codec;
@@ -23,6 +25,7 @@ ghost use Rattle.model.specs.Comparison.{compareCall};
 ghost use Rattle.model.specs.Poll.{poll};
 ghost use Rattle.model.specs.Observer as observers;
 ghost use Rattle.words.specs.Words.{words};
+ghost use Rattle.abi.specs.Fresh.{freshNumber, freshBytes, version};
 ghost use Rattle.abi.specs.Packing.{setupBy, inputBy, tablesIn, returned, packed, readWord, readTables, writeWord, wordsWord, compareWord, pollWord, listeningBy, returnedListening, packedListening};
 
 // One tick. The number in bits 0 to 7, 01's mend in 8 to 15, frames taken in 16 to 23, the outgoing length in 24 to 31,
@@ -248,4 +251,44 @@ pub extern "C" fn yarngravel_listen(
     }
     splice::put_u16(last, 0, heard.last);
     pack_listened(heard)
+}
+
+// The tables of a station that starts fresh at a clock: the tick after it is for a clock 1 to epsilon later. Answers 0, or the number of
+// the check that fails, 1 or 2, and then changes nothing.
+#[no_mangle]
+pub extern "C" fn yarngravel_fresh(
+    n: u32,
+    epsilon: u32,
+    delta: u32,
+    modulus: u32,
+    own: u32,
+    clock: u32,
+    tables: &mut [u8; 35],
+) -> u64
+    ensures { λ r. ⌜ r ≡ freshNumber (setupBy n epsilon delta modulus) own clock ⌝ }
+    ensures { λ _. ⌜ now (tables .exit) ≡ freshBytes (setupBy n epsilon delta modulus) own clock (now (tables .entry)) ⌝ }
+{
+    let setup = Setup {
+        n,
+        epsilon,
+        delta,
+        modulus,
+    };
+    if !valid_for(setup, own) {
+        return 1;
+    }
+    if modulus <= clock {
+        return 2;
+    }
+    let stamp = Timestamp::fresh(epsilon as usize, clock as usize);
+    put_tables(tables, stamp);
+    0
+}
+
+// The version of the library: major, minor and patch in a byte each, the patch lowest.
+#[no_mangle]
+pub extern "C" fn yarngravel_version() -> u32
+    ensures { λ r. ⌜ r ≡ version ⌝ }
+{
+    0x020800
 }

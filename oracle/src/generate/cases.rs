@@ -87,6 +87,29 @@ impl TickCase {
     }
 }
 
+/// A call for a node's start.
+#[derive(Clone, Debug, PartialEq, Eq)]
+pub struct FreshCase {
+    pub setup: Setup,
+    pub clock: i64,
+    pub state: ClockState,
+}
+
+impl FreshCase {
+    /// A call for some clock, often the first or the last, each argument sometimes wrong.
+    pub fn random(rng: &mut Prng, mut setup: Setup) -> Self {
+        let any = rng.below(setup.modulus);
+        let mut clock = rng.pick(&[any, any, 0, setup.modulus - 1]);
+        if rng.one_in(4) {
+            super::spoil::spoil_clock(rng, &setup, &mut clock);
+        }
+        if rng.one_in(4) {
+            super::spoil::spoil_setup(rng, &mut setup);
+        }
+        FreshCase { setup, clock, state: random_state(rng) }
+    }
+}
+
 /// A call of the reader alone.
 #[derive(Clone, Debug, PartialEq, Eq)]
 pub struct ReadCase {

@@ -12,7 +12,7 @@ pub mod spoil;
 pub mod traces;
 pub mod yards;
 
-pub use cases::{ReadCase, TickCase, WordsCase, WriteCase};
+pub use cases::{FreshCase, ReadCase, TickCase, WordsCase, WriteCase};
 pub use group::{Group, Habits, Turn};
 pub use observers::ListenCase;
 pub use pairs::CompareCase;

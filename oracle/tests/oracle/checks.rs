@@ -4,7 +4,7 @@ use crate::common::{frame, frame_a, fresh_case, holdback, run, state, verdict, F
 use oracle::board::{judge, Owner};
 use oracle::generate::{self, frames, memory, Prng, TickCase};
 use oracle::holdback::Holdback;
-use oracle::{read, write, Answer, ClockState, Setup, Timestamp};
+use oracle::{read, start, write, Answer, ClockState, Setup, Timestamp};
 
 /// A good call with everything in it.
 fn good_call() -> TickCase {
@@ -25,6 +25,18 @@ fn number_after(change: impl Fn(&mut TickCase)) -> u8 {
         assert!(after == before, "a refused call changed something");
     }
     answer.number
+}
+
+#[test]
+fn a_start_asks_1_and_2_and_gives_fresh_tables() {
+    assert_eq!(start(&SETUP, 13), Ok(state(13, 0, &[0, 0, 1, 0])));
+    assert_eq!(start(&SETUP, 14), Err(2));
+    assert_eq!(start(&Setup { own: 2, ..SETUP }, 14), Err(1));
+    assert_eq!(start(&Setup { modulus: 13, ..SETUP }, 0), Err(1));
+    let widest = Setup { n: 16, epsilon: 16, delta: 64, modulus: 65_535, own: 15 };
+    let tables = start(&widest, 65_534).unwrap();
+    assert_eq!((&tables[..3], tables[3 + 16]), (&[0xFE, 0xFF, 0][..], 1));
+    assert_eq!(tables[3..].iter().map(|&count| u32::from(count)).sum::<u32>(), 1);
 }
 
 fn shorten(buffer: &mut Vec<u8>) {

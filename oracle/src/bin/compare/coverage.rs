@@ -3,94 +3,150 @@
 use std::collections::BTreeMap;
 use std::fmt;
 
-/// What a number was the answer to, and the numbers that a run should meet there.
-type Row = (&'static str, &'static [u8]);
-/// The same, with how often a thousand rehearsals should meet each: some two thirds of what comes.
-type YardRow = (&'static str, &'static [u8], u64);
+/// What a number was the answer to, and how often a run of the usual length should meet which.
+type Row = (&'static str, &'static [(u8, u64)]);
 
-/// Every number that a run should meet must be met this often.
-const LEAST: u64 = 100;
-/// In a run of few traces one in so many is enough for what only traces meet.
-const TRACES: u64 = 40;
+/// The usual length: the calls, and the traces and rehearsals, of which the rows tell. A shorter run
+/// has to meet its share. Each number is a little below the least that came with 30 seeds; where seeds
+/// differ much, or a kind is rare, half of that or less, so that any seed will do.
+const CALLS: u64 = 200_000;
+const TRACES: u64 = 4_000;
 
 /// Of calls. The numbers of `no line` are verdicts for which the words answered 6. For `sent` and
 /// `gave` (was a frame sent, was one handed out) 1 is yes. The numbers of `early`, `overdue` and
 /// `step` are kinds: see `nudges`; so are those of `count`: see `reasons`; those of the rows of polls
 /// but the first: see `polls`; and those of the rows of observers: see `observers`.
-const OF_CALLS: [Row; 32] = [
-    ("call", &[0, 1, 2, 3, 4, 5, 6]),
-    ("compare", &[0, 1, 2, 10, 11, 12]),
-    ("count", &[0, 1, 2]),
-    ("early", &[0, 1, 2]),
-    ("first", &[10, 11, 12]),
-    ("frame", &[0, 10, 11, 12, 13, 14, 15, 16]),
-    ("gave", &[0, 1]),
-    ("line", &[0, 10, 11, 12, 13, 14, 15, 16]),
-    ("listen", &[0, 1, 2, 3, 5, 6]),
-    ("listen 15", &[0, 1]),
-    ("listen early", &[0, 1, 2]),
-    ("listen frame", &[0, 10, 11, 12, 13, 14, 16]),
-    ("listen gave", &[0, 1]),
-    ("listen last", &[0, 1, 2, 3, 4, 5, 6]),
-    ("listen mend", &[0, 1, 2, 3]),
-    ("listen overdue", &[1, 2, 3]),
-    ("mend", &[0, 1, 2, 3]),
-    ("no line", &[1, 9, 17, 18, 255]),
-    ("order", &[0, 1, 2]),
-    ("overdue", &[1, 2, 3]),
-    ("poll", &[0, 1, 2, 3]),
-    ("poll bound", &[0, 1, 2]),
-    ("poll next", &[0, 1]),
-    ("poll shelf", &[0, 1, 2, 3, 4]),
-    ("poll within", &[0, 1, 2]),
-    ("reader", &[0, 1, 10, 11, 12]),
-    ("reason", &[0, 1, 2, 3, 4]),
-    ("second", &[10, 11, 12]),
-    ("sent", &[0, 1]),
-    ("step", &[0, 1, 2, 3, 4]),
-    ("words", &[0, 1, 5, 6]),
-    ("writer", &[0, 1, 4, 6, 11, 12]),
+const OF_CALLS: [Row; 33] = [
+    ("call", &[(0, 37_000), (1, 910), (2, 800), (3, 790), (4, 720), (5, 1_300), (6, 1_700)]),
+    ("compare", &[(0, 18_000), (1, 2_100), (2, 2_100), (10, 2_200), (11, 710), (12, 660)]),
+    ("count", &[(0, 1_000), (1, 3_300), (2, 260)]),
+    ("early", &[(0, 9_200), (1, 500), (2, 720)]),
+    ("first", &[(10, 1_000), (11, 300), (12, 290)]),
+    (
+        "frame",
+        &[
+            (0, 130_000),
+            (10, 23_000),
+            (11, 5_000),
+            (12, 4_700),
+            (13, 22_000),
+            (14, 12_000),
+            (15, 13_000),
+            (16, 120_000),
+        ],
+    ),
+    ("fresh", &[(0, 860), (1, 320), (2, 230)]),
+    ("gave", &[(0, 25_000), (1, 10_000)]),
+    (
+        "line",
+        &[
+            (0, 50_000),
+            (10, 13_000),
+            (11, 6_500),
+            (12, 6_500),
+            (13, 9_900),
+            (14, 10_000),
+            (15, 10_000),
+            (16, 59_000),
+        ],
+    ),
+    ("listen", &[(0, 21_000), (1, 720), (2, 820), (3, 800), (5, 1_400), (6, 1_200)]),
+    ("listen 15", &[(0, 68_000), (1, 5_300)]),
+    ("listen early", &[(0, 4_100), (1, 280), (2, 500)]),
+    (
+        "listen frame",
+        &[
+            (0, 74_000),
+            (10, 13_000),
+            (11, 2_900),
+            (12, 2_800),
+            (13, 25_000),
+            (14, 10_000),
+            (16, 38_000),
+        ],
+    ),
+    ("listen gave", &[(0, 15_000), (1, 5_000)]),
+    (
+        "listen last",
+        &[(0, 1_700), (1, 8_200), (2, 1_600), (3, 2_600), (4, 1_700), (5, 220), (6, 1_500)],
+    ),
+    ("listen mend", &[(0, 8_400), (1, 2_600), (2, 4_400), (3, 5_000)]),
+    ("listen overdue", &[(1, 810), (2, 240), (3, 1_300)]),
+    ("mend", &[(0, 27_000), (1, 1_900), (2, 4_300), (3, 3_000)]),
+    ("no line", &[(1, 200), (9, 200), (17, 200), (18, 200), (255, 200)]),
+    ("order", &[(0, 6_600), (1, 6_600), (2, 4_800)]),
+    ("overdue", &[(1, 760), (2, 260), (3, 590)]),
+    ("poll", &[(0, 23_000), (1, 1_200), (2, 1_000), (3, 840)]),
+    ("poll bound", &[(0, 3_300), (1, 6_100), (2, 5_600)]),
+    ("poll next", &[(0, 13_000), (1, 820)]),
+    ("poll shelf", &[(0, 1_800), (1, 15_000), (2, 800), (3, 840), (4, 4_100)]),
+    ("poll within", &[(0, 3_800), (1, 5_300), (2, 5_600)]),
+    ("reader", &[(0, 5_100), (1, 500), (10, 2_300), (11, 340), (12, 330)]),
+    ("reason", &[(0, 4_800), (1, 6_600), (2, 4_800), (3, 1_100), (4, 740)]),
+    ("second", &[(10, 1_000), (11, 320), (12, 310)]),
+    ("sent", &[(0, 12_000), (1, 24_000)]),
+    ("step", &[(0, 1_400), (1, 25_000), (2, 2_300), (3, 3_400), (4, 1_500)]),
+    ("words", &[(0, 18_000), (1, 1_500), (5, 1_500), (6, 4_300)]),
+    ("writer", &[(0, 3_300), (1, 500), (4, 970), (6, 810), (11, 1_700), (12, 1_100)]),
 ];
 /// Of traces. 3 and 6 are not among them: the program's own buffers are right.
 const OF_TRACES: [Row; 4] = [
-    ("trace", &[0, 1, 2, 4, 5]),
-    ("trace gave", &[0, 1]),
-    ("trace reason", &[0, 1, 2, 3]),
-    ("trace step", &[0, 1, 2, 3, 4]),
+    ("trace", &[(0, 2_200), (1, 160), (2, 66), (4, 69), (5, 570)]),
+    ("trace gave", &[(0, 1_100), (1, 2_200)]),
+    ("trace reason", &[(0, 12_000), (1, 1_000), (2, 6_900), (3, 1_200), (4, 38)]),
+    ("trace step", &[(0, 490), (1, 17_000), (2, 630), (3, 2_800), (4, 520)]),
 ];
 
 /// Of rehearsals; all numbers but those of `yard` are kinds: see `yards`. 10 to 12 refuse no frame that
 /// a node has sent, and no queue is unsound beside sound tables, so mend 2 does not come.
-const OF_YARDS: [YardRow; 29] = [
-    ("yard", &[0], 350),
-    ("yard", &[1], 36),
-    ("yard", &[2], 24),
-    ("yard", &[4], 19),
-    ("yard", &[5], 240),
-    ("yard boards", &[0], 100),
-    ("yard boards", &[1], 57),
-    ("yard boards", &[2], 190),
-    ("yard figure", &[13], 140),
-    ("yard figure", &[14], 35),
-    ("yard figure", &[15], 16),
-    ("yard figure", &[16], 280),
-    ("yard flaw", &[1, 2, 3, 4, 5, 6, 7, 8, 9, 10, 11, 12, 14, 15], 16),
-    ("yard flaw", &[13], 14),
-    ("yard length", &[0], 13),
-    ("yard length", &[1], 320),
-    ("yard length", &[2], 8),
-    ("yard length", &[3], 1),
-    ("yard mend", &[0], 24_000),
-    ("yard mend", &[1], 480),
-    ("yard mend", &[3], 220),
-    ("yard nodes", &[1], 80),
-    ("yard nodes", &[2, 3, 4], 55),
-    ("yard nodes", &[5, 6, 7, 8, 9, 10, 11, 12, 13, 14, 15, 16], 5),
-    ("yard step", &[0], 235),
-    ("yard step", &[1], 20_000),
-    ("yard step", &[2], 400),
-    ("yard step", &[3], 1_300),
-    ("yard step", &[4], 245),
+const OF_YARDS: [Row; 8] = [
+    ("yard", &[(0, 1_600), (1, 130), (2, 66), (4, 44), (5, 1_200)]),
+    ("yard boards", &[(0, 430), (1, 230), (2, 880)]),
+    ("yard figure", &[(13, 620), (14, 130), (15, 41), (16, 1_300)]),
+    (
+        "yard flaw",
+        &[
+            (1, 43),
+            (2, 53),
+            (3, 53),
+            (4, 43),
+            (5, 49),
+            (6, 50),
+            (7, 51),
+            (8, 50),
+            (9, 50),
+            (10, 52),
+            (11, 47),
+            (12, 49),
+            (13, 37),
+            (14, 49),
+            (15, 43),
+        ],
+    ),
+    ("yard length", &[(0, 30), (1, 1_500), (2, 19), (3, 1)]),
+    ("yard mend", &[(0, 94_000), (1, 950), (3, 450)]),
+    (
+        "yard nodes",
+        &[
+            (1, 360),
+            (2, 210),
+            (3, 210),
+            (4, 220),
+            (5, 16),
+            (6, 17),
+            (7, 15),
+            (8, 16),
+            (9, 15),
+            (10, 12),
+            (11, 15),
+            (12, 14),
+            (13, 25),
+            (14, 13),
+            (15, 15),
+            (16, 27),
+        ],
+    ),
+    ("yard step", &[(0, 450), (1, 76_000), (2, 2_000), (3, 4_100), (4, 460)]),
 ];
 
 /// The counts.
@@ -107,23 +163,22 @@ impl Coverage {
         self.0.get(&(what, number)).copied().unwrap_or(0)
     }
 
-    /// The numbers that were met too rarely in a run of this many traces and rehearsals.
-    pub fn gaps(&self, traces: u64, rehearsals: u64) -> Vec<String> {
-        let few = LEAST.min(traces / TRACES);
-        let of_yard = |&(what, numbers, share): &YardRow| {
-            self.below(rehearsals * share / 1_000, &[(what, numbers)])
-        };
-        let of_yards = OF_YARDS.iter().flat_map(of_yard).collect();
-        [self.below(LEAST, &OF_CALLS), self.below(few, &OF_TRACES), of_yards].concat()
+    /// The numbers that were met too rarely in a run of this many calls, traces and rehearsals.
+    pub fn gaps(&self, calls: u64, traces: u64, rehearsals: u64) -> Vec<String> {
+        let of_calls = self.below(&OF_CALLS, calls, CALLS);
+        let of_traces = self.below(&OF_TRACES, traces, TRACES);
+        [of_calls, of_traces, self.below(&OF_YARDS, rehearsals, TRACES)].concat()
     }
 
-    /// The numbers of some rows that were met less often than this.
-    fn below(&self, least: u64, rows: &[Row]) -> Vec<String> {
-        let pairs =
-            rows.iter().flat_map(|&(what, numbers)| numbers.iter().map(move |&n| (what, n)));
-        pairs
-            .filter(|&(what, number)| self.count(what, number) < least)
-            .map(|(what, number)| format!("{what} {number}"))
+    /// The numbers of some rows that a run of this length met less often than it should.
+    fn below(&self, rows: &[Row], length: u64, usual: u64) -> Vec<String> {
+        let all = rows.iter().flat_map(|&(what, leasts)| {
+            leasts.iter().map(move |&(number, least)| (what, number, least * length / usual))
+        });
+        all.filter(|&(what, number, least)| self.count(what, number) < least)
+            .map(|(what, number, least)| {
+                format!("{what} {number} ({} of {least})", self.count(what, number))
+            })
             .collect()
     }
 }

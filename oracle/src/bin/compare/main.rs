@@ -127,7 +127,7 @@ fn compare_alike(
     println!(
         "{calls} calls, {traces} traces and {rehearsals} rehearsals alike, seed {seed}, {seconds:.1} s"
     );
-    match done.coverage.gaps(traces, rehearsals) {
+    match done.coverage.gaps(calls, traces, rehearsals) {
         gaps if gaps.is_empty() => Ok(()),
         gaps => Err(format!("met too rarely: {}", gaps.join(", "))),
     }

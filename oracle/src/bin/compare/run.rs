@@ -5,7 +5,7 @@ use crate::subject::Subject;
 use crate::{nudges, observers, polls, reasons, yards};
 use oracle::abi;
 use oracle::generate::{self, spoil, Group, Habits, Prng, Turn};
-use oracle::generate::{CompareCase, ListenCase, PollCase, ReadCase};
+use oracle::generate::{CompareCase, FreshCase, ListenCase, PollCase, ReadCase};
 use oracle::generate::{TickCase, WordsCase, WriteCase};
 use oracle::playing::hex;
 use oracle::{Answer, Timestamp};
@@ -41,6 +41,20 @@ impl Case for TickCase {
             ("verdicts", &self.verdicts),
             ("hand-out", &self.delivery),
         ]
+    }
+}
+
+impl Case for FreshCase {
+    fn call(&mut self, subject: &mut dyn Subject) -> u64 {
+        subject.fresh(self)
+    }
+
+    fn numbers(&self) -> String {
+        format!("start: {:?} clock {}", self.setup, self.clock)
+    }
+
+    fn buffers(&self) -> Vec<(&'static str, &[u8])> {
+        vec![("tables", &self.state)]
     }
 }
 
@@ -187,7 +201,7 @@ impl<'s> Comparison<'s> {
     }
 
     /// Other calls before a tick: ticks and observers' calls with wrong arguments, with another
-    /// memory and for other clocks; frames read, written and compared.
+    /// memory and for other clocks; starts; frames read, written and compared.
     fn before(&mut self, rng: &mut Prng, case: &TickCase) -> Result<(), String> {
         if rng.one_in(4) {
             let mut wrong = case.clone();
@@ -206,6 +220,10 @@ impl<'s> Comparison<'s> {
             let other = TickCase { clock, ..case.clone() };
             self.listen(ListenCase::of(other.clone()))?;
             self.tick(other)?;
+        }
+        if rng.one_in(16) {
+            let (_, word) = self.case(FreshCase::random(rng, case.setup))?;
+            self.coverage.meet("fresh", abi::number(word));
         }
         if rng.one_in(3) {
             let (_, word) = self.case(ReadCase::random(rng, case.setup, case.clock))?;

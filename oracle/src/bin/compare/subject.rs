@@ -1,12 +1,13 @@
 //! The programs that are compared.
 
 use oracle::abi;
-use oracle::generate::{CompareCase, ListenCase, PollCase, ReadCase};
+use oracle::generate::{CompareCase, FreshCase, ListenCase, PollCase, ReadCase};
 use oracle::generate::{TickCase, WordsCase, WriteCase};
 use oracle::{fault, replay, yard};
 
 /// Something that makes the calls and plays traces. Answers are packed as the library's.
 pub trait Subject {
+    fn fresh(&mut self, case: &mut FreshCase) -> u64;
     fn tick(&mut self, case: &mut TickCase) -> u64;
     fn read(&mut self, case: &mut ReadCase) -> u64;
     fn write(&mut self, case: &mut WriteCase) -> u64;
@@ -34,6 +35,14 @@ impl Oracle {
 }
 
 impl Subject for Oracle {
+    fn fresh(&mut self, case: &mut FreshCase) -> u64 {
+        match self.faulty(|| oracle::start(&case.setup, case.clock)) {
+            Ok(state) => case.state = state,
+            Err(number) => return abi::pack_refusal(number),
+        }
+        0
+    }
+
     fn tick(&mut self, case: &mut TickCase) -> u64 {
         abi::pack_tick(&self.faulty(|| case.run()))
     }
@@ -98,6 +107,10 @@ pub struct Proved {
 
 #[cfg(feature = "abi")]
 impl Subject for Proved {
+    fn fresh(&mut self, case: &mut FreshCase) -> u64 {
+        abi::library::fresh(case)
+    }
+
     fn tick(&mut self, case: &mut TickCase) -> u64 {
         abi::library::tick(case)
     }

@@ -1,0 +1,177 @@
+// The header from C++: a station and an observer, their buffers sized when the program runs, and what the header's own functions do
+// at their edges. Exit status 0 where all is as it should be.
+#include <cstdio>
+#include <cstdlib>
+#include <cstring>
+#include <set>
+#include <string>
+#include <vector>
+
+#include <yarngravel.h>
+
+namespace {
+
+const uint32_t n = 3, epsilon = 2, delta = 4, modulus = YARNGRAVEL_LEAST_MODULUS(2, 4), own = 2;
+
+void expect(bool holds, const char *what) {
+    if (holds) return;
+    std::fprintf(stderr, "plus: %s does not hold\n", what);
+    std::exit(1);
+}
+
+void try_version() {
+    const unsigned version = YARNGRAVEL_VERSION;
+    const std::string text =
+        std::to_string(version >> 16) + "." + std::to_string(version >> 8 & 255) + "." + std::to_string(version & 255);
+    expect(text == YARNGRAVEL_VERSION_TEXT, "that the header's version is its text");
+    expect(yarngravel_version() == version, "that the archive's version is the header's");
+}
+
+// each number and each mend has a text of its own, and no other number has one
+void try_texts() {
+    std::set<std::string> numbers, mends;
+    for (unsigned k = 0; k < 256; k++) {
+        const bool is_number = k <= YARNGRAVEL_BAD_BUFFERS || (k >= YARNGRAVEL_BAD_FORM && k <= YARNGRAVEL_REPEAT);
+        expect((yarngravel_number_text(k) != std::string(yarngravel_number_text(255))) == is_number, "a number's text");
+        expect((yarngravel_mend_text(k) != std::string(yarngravel_mend_text(255))) == (k < 4), "a mend's text");
+        numbers.insert(yarngravel_number_text(k));
+        mends.insert(yarngravel_mend_text(k));
+    }
+    expect(numbers.size() == 14 + 1 && mends.size() == 4 + 1, "that no two numbers have the same text");
+}
+
+// fresh tables are as the header says, and a refusal leaves what was there
+void try_fresh() {
+    std::vector<uint8_t> tables(YARNGRAVEL_TABLES, 7), wanted(YARNGRAVEL_TABLES, 0);
+    const std::vector<uint8_t> given = tables;
+    expect(yarngravel_fresh(n, epsilon, delta, modulus - 1, own, 0, tables.data()) == YARNGRAVEL_BAD_SETUP, "1 for a small B");
+    expect(yarngravel_fresh(n, epsilon, delta, modulus, n, modulus, tables.data()) == YARNGRAVEL_BAD_SETUP, "1 before 2");
+    expect(yarngravel_fresh(n, epsilon, delta, modulus, own, modulus, tables.data()) == YARNGRAVEL_BAD_CLOCK, "2 for a clock of B");
+    expect(tables == given, "that a refused start changes nothing");
+    expect(yarngravel_fresh(n, epsilon, delta, 65535, own, 65534, tables.data()) == 0, "a start at the largest clock");
+    expect(yarngravel_last_clock(tables.data()) == 65534, "that fresh tables have their clock");
+    wanted[0] = 0xfe;
+    wanted[1] = 0xff;
+    wanted[3 + epsilon] = 1;
+    expect(tables == wanted, "the form of fresh tables");
+    uint8_t last[YARNGRAVEL_LAST];
+    yarngravel_fresh_last(65534, last);
+    expect(yarngravel_last_clock(last) == 65534, "an observer's last clock");
+}
+
+// a bundle takes 255 frames of at most 255 bytes each, and no byte more than there is room for
+void try_bundle() {
+    std::vector<uint8_t> bundle(1 + 255 * 2, 9), frame(256, 5), none;
+    size_t len = yarngravel_bundle_start(bundle.data());
+    expect(len == 1 && bundle[0] == 0, "an empty bundle");
+    expect(!yarngravel_bundle_add(bundle.data(), 4, &len, frame.data(), 3), "that there is no room for three bytes in four");
+    expect(!yarngravel_bundle_add(bundle.data(), bundle.size(), &len, frame.data(), 256), "that 256 bytes are no entry");
+    expect(len == 1 && bundle[0] == 0 && bundle[1] == 9, "that what does not fit changes nothing");
+    expect(yarngravel_bundle_add(bundle.data(), 4, &len, frame.data(), 2) && len == 4, "that the last byte of the room is used");
+    expect(!yarngravel_bundle_add(bundle.data(), 4, &len, none.data(), 0), "that a full buffer has no room for an empty entry");
+    len = yarngravel_bundle_start(bundle.data());
+    for (unsigned k = 0; k < 255; k++)
+        expect(yarngravel_bundle_add(bundle.data(), bundle.size(), &len, frame.data(), 1), "255 frames");
+    expect(len == bundle.size() && !yarngravel_bundle_add(bundle.data(), 1000, &len, none.data(), 0), "that 256 are too many");
+}
+
+void try_sizes() {
+    expect(yarngravel_frame_size(16) == 71 && yarngravel_frame_size(epsilon) == YARNGRAVEL_FRAME(2), "a frame's size");
+    expect(yarngravel_shelf_size(n, epsilon, delta) == YARNGRAVEL_SHELF(3, 2, 4), "a shelf's size");
+    expect(yarngravel_shelf_size(16, 16, 64) == 127234, "the largest shelf's size");
+    expect(yarngravel_bundle_size(16, 255) == 1 + 255 * 72 && yarngravel_bundle_size(16, 0) == 1, "a bundle's size");
+    expect(yarngravel_text_size(255) == 255 * YARNGRAVEL_LINE, "a text's size");
+}
+
+// two frames of one clock, which differ in the ticket and in the count at that clock
+void try_frames() {
+    std::vector<uint8_t> frames[2], tables(YARNGRAVEL_TABLES), stamp(YARNGRAVEL_TABLES);
+    const uint32_t clock = 3;
+    for (uint8_t k = 0; k < 2; k++) {
+        const std::vector<uint8_t> ticket(YARNGRAVEL_TICKET - k, 'x');
+        frames[k].resize(yarngravel_frame_size(epsilon));
+        expect(yarngravel_fresh(n, epsilon, delta, modulus, own, clock, tables.data()) == 0, "a start");
+        tables[3 + epsilon] = static_cast<uint8_t>(1 + k);
+        const uint64_t wrote = yarngravel_write(n, epsilon, delta, modulus, own, k, tables.data(), ticket.data(), ticket.size(),
+                                                frames[k].data(), frames[k].size());
+        expect(yarngravel_number(wrote) == 0 && yarngravel_written(wrote) == frames[k].size() - k, "the length of what is written");
+        frames[k].resize(yarngravel_written(wrote));
+        expect(yarngravel_frame_len(epsilon, frames[k].data()) == frames[k].size(), "the length of a frame at a place");
+        const uint64_t read =
+            yarngravel_read(n, epsilon, delta, modulus, own, frames[k].data(), frames[k].size(), stamp.data());
+        expect(yarngravel_station(read) == k && yarngravel_ticket_len(read) == ticket.size() && stamp == tables, "what is read");
+    }
+    const uint64_t compared = yarngravel_compare(n, epsilon, delta, modulus, own, clock, frames[0].data(), frames[0].size(),
+                                                 frames[1].data(), frames[1].size());
+    expect(yarngravel_number(compared) == 0 && yarngravel_order(compared) == 0, "that the first comes first");
+    expect(yarngravel_reason(compared) == YARNGRAVEL_BY_COUNT && yarngravel_count_clock(compared) == clock, "that its count decides");
+}
+
+struct Board {
+    std::vector<uint8_t> shelf, bundle, verdicts, handout;
+    size_t bundle_len;
+    std::string shown;
+
+    Board()
+        : shelf(yarngravel_shelf_size(n, epsilon, delta)), bundle(yarngravel_bundle_size(epsilon, 1)),
+          verdicts(YARNGRAVEL_VERDICTS), handout(shelf.size()), bundle_len(yarngravel_bundle_start(bundle.data())), shown() {}
+
+    void show(uint64_t answer) {
+        expect(yarngravel_number(answer) == 0 && yarngravel_mend(answer) == 0, yarngravel_number_text(yarngravel_number(answer)));
+        yarngravel_walk walk = yarngravel_walk_of(answer, handout.data());
+        while (yarngravel_walk_next(&walk, epsilon)) {
+            uint8_t stamp[YARNGRAVEL_TABLES];
+            const uint64_t read = yarngravel_read(n, epsilon, delta, modulus, own, walk.frame, walk.len, stamp);
+            expect(yarngravel_number(read) == 0, "that a handed-out frame reads");
+            shown.append(reinterpret_cast<const char *>(walk.frame) + yarngravel_ticket_at(read), yarngravel_ticket_len(read));
+        }
+        bundle_len = yarngravel_bundle_start(bundle.data());
+    }
+
+    void hear(const std::vector<uint8_t> &frame, size_t len) {
+        expect(yarngravel_frame_len(epsilon, frame.data()) == len, "that a frame's length is what was sent");
+        expect(yarngravel_bundle_add(bundle.data(), bundle.size(), &bundle_len, frame.data(), len), "room for one frame");
+    }
+};
+
+// the station sends a letter in each tick, and both boards show them all, those that are due, in their order
+void play() {
+    Board station, observer;
+    uint8_t tables[YARNGRAVEL_TABLES], last[YARNGRAVEL_LAST];
+    std::vector<uint8_t> outgoing(yarngravel_frame_size(epsilon));
+    expect(yarngravel_fresh(n, epsilon, delta, modulus, own, modulus - 1, tables) == 0, "a start at the clock before 0");
+    yarngravel_fresh_last(modulus - 1, last);
+    for (uint32_t clock = 0; clock < 26; clock++) {
+        const uint8_t letter = static_cast<uint8_t>('a' + clock);
+        const uint64_t ticked = yarngravel_tick(
+            n, epsilon, delta, modulus, own, clock % modulus, tables, station.shelf.data(), station.shelf.size(),
+            station.bundle.data(), station.bundle_len, true, &letter, 1, outgoing.data(), outgoing.size(), station.verdicts.data(),
+            station.verdicts.size(), station.handout.data(), station.handout.size());
+        const uint64_t listened = yarngravel_listen(
+            n, epsilon, delta, modulus, clock % modulus, last, observer.shelf.data(), observer.shelf.size(), observer.bundle.data(),
+            observer.bundle_len, observer.verdicts.data(), observer.verdicts.size(), observer.handout.data(),
+            observer.handout.size());
+        station.show(ticked);
+        observer.show(listened);
+        expect(yarngravel_last_clock(tables) == clock % modulus && !std::memcmp(tables, last, sizeof last), "the last clock");
+        station.hear(outgoing, yarngravel_sent(ticked));
+        observer.hear(outgoing, yarngravel_sent(ticked));
+    }
+    const std::string sent = "abcdefghijklmnopqrstuvwxyz", due = sent.substr(0, 26 - delta - epsilon);
+    expect(station.shown == due, "what the station's board shows");
+    expect(observer.shown == station.shown, "that the observer's board shows the same");
+    std::printf("from C++, version %s: both boards show %s\n", YARNGRAVEL_VERSION_TEXT, station.shown.c_str());
+}
+
+} // namespace
+
+int main() {
+    try_version();
+    try_texts();
+    try_fresh();
+    try_bundle();
+    try_sizes();
+    try_frames();
+    play();
+    return 0;
+}
