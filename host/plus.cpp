@@ -31,13 +31,14 @@ void try_version() {
 void try_texts() {
     std::set<std::string> numbers, mends;
     for (unsigned k = 0; k < 256; k++) {
-        const bool is_number = k <= YARNGRAVEL_BAD_BUFFERS || (k >= YARNGRAVEL_BAD_FORM && k <= YARNGRAVEL_REPEAT);
+        const bool is_number = k <= YARNGRAVEL_BAD_BUFFERS || (k >= YARNGRAVEL_BAD_FORM && k <= YARNGRAVEL_REPEAT) ||
+                               k == YARNGRAVEL_TOO_MANY;
         expect((yarngravel_number_text(k) != std::string(yarngravel_number_text(255))) == is_number, "a number's text");
         expect((yarngravel_mend_text(k) != std::string(yarngravel_mend_text(255))) == (k < 4), "a mend's text");
         numbers.insert(yarngravel_number_text(k));
         mends.insert(yarngravel_mend_text(k));
     }
-    expect(numbers.size() == 14 + 1 && mends.size() == 4 + 1, "that no two numbers have the same text");
+    expect(numbers.size() == 15 + 1 && mends.size() == 4 + 1, "that no two numbers have the same text");
 }
 
 // fresh tables are as the header says, and a refusal leaves what was there
@@ -81,6 +82,61 @@ void try_sizes() {
     expect(yarngravel_shelf_size(16, 16, 64) == 127234, "the largest shelf's size");
     expect(yarngravel_bundle_size(16, 255) == 1 + 255 * 72 && yarngravel_bundle_size(16, 0) == 1, "a bundle's size");
     expect(yarngravel_text_size(255) == 255 * YARNGRAVEL_LINE, "a text's size");
+    expect(yarngravel_long_frame_size(16) == 77 && yarngravel_long_frame_size(epsilon) == YARNGRAVEL_LONG_FRAME(2), "of an engine");
+    expect(yarngravel_long_shelf_size(16) == 4930 && yarngravel_long_shelf_size(2) == YARNGRAVEL_LONG_SHELF(2), "its shelf's size");
+    expect(yarngravel_long_bundle_size(16, 255) == 1 + 255 * 78 && yarngravel_long_bundle_size(2, 0) == 1, "its bundle's size");
+}
+
+// an engine's frame of a station that is fresh at a clock
+std::vector<uint8_t> long_frame(uint32_t stations, uint32_t station, uint64_t clock) {
+    uint8_t tables[YARNGRAVEL_LONG_TABLES], stamp[YARNGRAVEL_LONG_TABLES];
+    std::vector<uint8_t> frame(yarngravel_long_frame_size(epsilon));
+    const uint8_t ticket[] = {'x', 'y'};
+    yarngravel_long_fresh(epsilon, clock, tables);
+    expect(yarngravel_long_last_clock(tables) == clock && tables[8] == 0 && tables[9 + epsilon] == 1, "an engine's fresh tables");
+    const uint64_t wrote = yarngravel_long_write(stations, epsilon, delta, 0, station, tables, ticket, sizeof ticket, frame.data(),
+                                                 frame.size());
+    expect(yarngravel_number(wrote) == 0 && yarngravel_written(wrote) == 13 + 2 * epsilon + 2, "the length of an engine's frame");
+    frame.resize(yarngravel_written(wrote));
+    expect(yarngravel_long_frame_len(epsilon, frame.data()) == frame.size(), "its length at a place");
+    const uint64_t read = yarngravel_long_read(stations, epsilon, delta, 0, frame.data(), frame.size(), stamp);
+    expect(yarngravel_number(read) == 0 && yarngravel_station(read) == station && yarngravel_ticket_len(read) == 2, "its reading");
+    expect(yarngravel_ticket_at(read) == frame.size() - 2 && !std::memcmp(stamp, tables, sizeof stamp), "its stamp");
+    return frame;
+}
+
+// an engine hears 64 messages of 16 stations, one of them twice, and one more; and clocks from 2^63 up are none
+void try_engine() {
+    const uint32_t all = 16;
+    const uint64_t clock = YARNGRAVEL_LONG_CLOCKS - 1;
+    uint8_t tables[YARNGRAVEL_LONG_TABLES], verdicts[YARNGRAVEL_VERDICTS];
+    std::vector<uint8_t> shelf(yarngravel_long_shelf_size(epsilon)), handout(shelf.size());
+    std::vector<uint8_t> outgoing(yarngravel_long_frame_size(epsilon)), bundle(yarngravel_long_bundle_size(epsilon, 66));
+    size_t len = yarngravel_bundle_start(bundle.data());
+    for (uint32_t k = 0; k < 66; k++) { // the 64th again, which is no 65th, and then another one
+        const uint32_t which = k < 64 ? k : k == 64 ? 63 : 64;
+        const std::vector<uint8_t> frame = long_frame(all, which % all, clock - delta - epsilon + which / all);
+        expect(yarngravel_bundle_add(bundle.data(), bundle.size(), &len, frame.data(), frame.size()), "room for a frame");
+    }
+    yarngravel_long_fresh(epsilon, clock - 1, tables);
+    const auto tick = [&](uint64_t at) {
+        return yarngravel_long_tick(all, epsilon, delta, 0, at, tables, shelf.data(), shelf.size(), bundle.data(), len, false, nullptr,
+                                    0, outgoing.data(), outgoing.size(), verdicts, sizeof verdicts, handout.data(), handout.size());
+    };
+    expect(tick(YARNGRAVEL_LONG_CLOCKS) == YARNGRAVEL_BAD_CLOCK, "2 for a clock of 2^63");
+    expect(yarngravel_long_last_clock(tables) == clock - 1, "that a refused call changes nothing");
+    const uint64_t answer = tick(clock);
+    expect(yarngravel_number(answer) == 0 && yarngravel_mend(answer) == 0, "a tick at the last clock");
+    expect(yarngravel_taken(answer) == YARNGRAVEL_LONG_HELD && yarngravel_gave(answer) == all, "what it takes and hands out");
+    expect(verdicts[64] == YARNGRAVEL_REPEAT && verdicts[65] == YARNGRAVEL_TOO_MANY, "16, and 18 for a 65th message");
+    unsigned station = 0;
+    yarngravel_walk walk = yarngravel_walk_of(answer, handout.data());
+    while (yarngravel_long_walk_next(&walk, epsilon)) expect(walk.frame[1] == station++, "the order of stations");
+    expect(station == all, "that all stations are shown");
+    uint8_t frame[77];
+    yarngravel_long_fresh(epsilon, YARNGRAVEL_LONG_CLOCKS, tables);
+    expect(yarngravel_long_write(all, epsilon, delta, 0, 0, tables, nullptr, 0, frame, sizeof frame) == YARNGRAVEL_BAD_RANGE,
+           "11 for an r of 2^63");
 }
 
 // two frames of one clock, which differ in the ticket and in the count at that clock
@@ -172,6 +228,7 @@ int main() {
     try_bundle();
     try_sizes();
     try_frames();
+    try_engine();
     play();
     return 0;
 }

@@ -1,7 +1,8 @@
 /* Yarngravel: one causal order of messages on every board.
  *
  * The library keeps no memory of its own. A station keeps its tables and its shelf between ticks and lends both, with the
- * buffers below, to each call; an observer, a board that only listens, keeps its last clock and its shelf. Any numbers and any
+ * buffers below, to each call; an observer, a board that only listens, keeps its last clock and its shelf. An engine is a plain
+ * station for the workbench: its clocks have 64 bits and are never reduced (yarngravel_long_...). Any numbers and any
  * bytes get an answer. A call that fails a check answers that check's number, and then no byte of any buffer or table has changed.
  * Buffers must not overlap.
  * Calls for different stations may be made at the same time, in any threads; those of one station one at a time.
@@ -19,13 +20,13 @@ extern "C" {
 #endif
 
 /* The version of this header: major * 65536 + minor * 256 + patch, and as a text. */
-#define YARNGRAVEL_VERSION (2u * 65536u + 8u * 256u + 0u)
-#define YARNGRAVEL_VERSION_TEXT "2.8.0"
+#define YARNGRAVEL_VERSION (2u * 65536u + 9u * 256u + 0u)
+#define YARNGRAVEL_VERSION_TEXT "2.9.0"
 
 /* The version of the archive that is linked, in the form of YARNGRAVEL_VERSION. */
 uint32_t yarngravel_version(void);
 
-/* Limits of a setup: the numbers that every call takes first, an observer's without the last.
+/* Limits of a setup: the numbers that every call takes first, an observer's without the last, an engine's without the modulus.
  *   n         stations of the yard, 1 to 16
  *   epsilon   drift limit, 1 to 16: no two clocks of stations and observers ever differ by more ticks
  *   delta     delay limit, 0 to 64: a frame is heard while its sender's clock is at most this far past the sending
@@ -63,9 +64,25 @@ static inline size_t yarngravel_bundle_size(uint32_t epsilon, size_t frames) {
 }
 static inline size_t yarngravel_text_size(size_t frames) { return YARNGRAVEL_LINE * frames; }
 
+/* The same of an engine. Its clocks are below 2^63 and not reduced; its tables are r in eight bytes, low byte first, c and 32 places
+ * for counts, the count at offset t in byte 9 + epsilon + t; its frames have r in eight bytes too; and its shelf is for 64 frames,
+ * whatever n and delta are.
+ */
+#define YARNGRAVEL_LONG_CLOCKS ((uint64_t)1 << 63)              /* the first number that is no clock of an engine */
+#define YARNGRAVEL_LONG_TABLES 41u
+#define YARNGRAVEL_LONG_HELD 64u                                /* the most messages that an engine holds */
+#define YARNGRAVEL_LONG_FRAME(epsilon) (45u + 2u * (epsilon))
+#define YARNGRAVEL_LONG_SHELF(epsilon) (2u + YARNGRAVEL_LONG_FRAME(epsilon) * YARNGRAVEL_LONG_HELD)
+#define YARNGRAVEL_LONG_BUNDLE(epsilon, frames) (1u + (1u + YARNGRAVEL_LONG_FRAME(epsilon)) * (frames))
+static inline size_t yarngravel_long_frame_size(uint32_t epsilon) { return YARNGRAVEL_LONG_FRAME((size_t)epsilon); }
+static inline size_t yarngravel_long_shelf_size(uint32_t epsilon) { return YARNGRAVEL_LONG_SHELF((size_t)epsilon); }
+static inline size_t yarngravel_long_bundle_size(uint32_t epsilon, size_t frames) {
+    return YARNGRAVEL_LONG_BUNDLE((size_t)epsilon, frames);
+}
+
 /* Numbers in an answer. 0: accepted. Of a call: */
 #define YARNGRAVEL_BAD_SETUP 1u    /* the setup is not in its limits */
-#define YARNGRAVEL_BAD_CLOCK 2u    /* the clock is not below B */
+#define YARNGRAVEL_BAD_CLOCK 2u    /* the clock is not below B, an engine's not below 2^63 */
 #define YARNGRAVEL_BAD_SHELF 3u    /* the shelf has not its exact length */
 #define YARNGRAVEL_BAD_TICKET 4u   /* the ticket is longer than 32 bytes (asked even if nothing is to be sent) */
 #define YARNGRAVEL_BAD_BUNDLE 5u   /* the bundle does not end exactly after its last entry */
@@ -73,35 +90,38 @@ static inline size_t yarngravel_text_size(size_t frames) { return YARNGRAVEL_LIN
                                       that no judgement gives */
 /* Of a frame, in the verdict buffer (and 10 to 12 from the reader and the comparison, 11 and 12 from the writer): */
 #define YARNGRAVEL_BAD_FORM 10u    /* a section's count is wrong, or something is left over */
-#define YARNGRAVEL_BAD_RANGE 11u   /* the station is not below n, or r not below B */
+#define YARNGRAVEL_BAD_RANGE 11u   /* the station is not below n, or r not below B, an engine's not below 2^63 */
 #define YARNGRAVEL_BAD_STAMP 12u   /* the stamp is not sound */
-#define YARNGRAVEL_LATE 13u        /* r is more than delta + epsilon behind the clock; one that is epsilon or more ahead is read as behind */
+#define YARNGRAVEL_LATE 13u        /* r is more than delta + epsilon behind the clock; one that is epsilon or more ahead is read as behind,
+                                      by an engine as ahead: it gets 14 */
 #define YARNGRAVEL_EARLY 14u       /* the sum is more than epsilon - 1 past the clock */
 #define YARNGRAVEL_BAD_COUNT 15u   /* a count for this clock or later is above n - 1; an observer does not ask it */
 #define YARNGRAVEL_REPEAT 16u      /* that station and r is on the shelf already */
+#define YARNGRAVEL_TOO_MANY 18u    /* the engine holds 64 messages already; no station or observer asks it */
 
 /* A number in English, for a log. */
 static inline const char *yarngravel_number_text(unsigned number) {
     switch (number) {
     case 0: return "accepted";
     case YARNGRAVEL_BAD_SETUP: return "the setup is not in its limits";
-    case YARNGRAVEL_BAD_CLOCK: return "the clock is not below B";
+    case YARNGRAVEL_BAD_CLOCK: return "the clock is not below B (an engine's: 2^63)";
     case YARNGRAVEL_BAD_SHELF: return "the shelf has not its exact length";
     case YARNGRAVEL_BAD_TICKET: return "the ticket is longer than 32 bytes";
     case YARNGRAVEL_BAD_BUNDLE: return "the bundle does not end exactly after its last entry";
     case YARNGRAVEL_BAD_BUFFERS: return "a buffer is too short, or a verdict is none";
     case YARNGRAVEL_BAD_FORM: return "the frame has a wrong count, or something is left over";
-    case YARNGRAVEL_BAD_RANGE: return "the frame's station is not below n, or its r not below B";
+    case YARNGRAVEL_BAD_RANGE: return "the frame's station is not below n, or its r not below B (an engine's: 2^63)";
     case YARNGRAVEL_BAD_STAMP: return "the frame's stamp is not sound";
     case YARNGRAVEL_LATE: return "the frame is too old, or its sender's clock too far ahead";
     case YARNGRAVEL_EARLY: return "the frame knows of a clock too far ahead";
     case YARNGRAVEL_BAD_COUNT: return "the frame counts more events than there can be";
     case YARNGRAVEL_REPEAT: return "the frame is on the shelf already";
+    case YARNGRAVEL_TOO_MANY: return "the engine holds 64 messages already";
     default: return "no number of this library";
     }
 }
 
-/* The fields of the answer of a tick or of an observer's call. A refusal is its number alone. */
+/* The fields of the answer of a tick, a station's or an engine's, or of an observer's call. A refusal is its number alone. */
 static inline unsigned yarngravel_number(uint64_t answer) { return (unsigned)(answer & 0xffu); }
 /* what had to be mended: 1 the tables (an observer's last clock) were not sound for this clock and were replaced, 2 the shelf was
    not sound and was emptied, 3 both */
@@ -198,12 +218,37 @@ static inline bool yarngravel_walk_next(struct yarngravel_walk *walk, uint32_t e
     return true;
 }
 
+/* The length of an engine's frame, and the walk over an engine's hand-out, which starts as a station's does. */
+static inline size_t yarngravel_long_frame_len(uint32_t epsilon, const uint8_t *frame) {
+    return 13u + 2u * (size_t)epsilon + frame[12u + 2u * (size_t)epsilon];
+}
+static inline bool yarngravel_long_walk_next(struct yarngravel_walk *walk, uint32_t epsilon) {
+    if (walk->left == 0) return false;
+    walk->left--;
+    walk->frame += walk->len;
+    walk->len = yarngravel_long_frame_len(epsilon, walk->frame);
+    return true;
+}
+
 /* The clock of the last accepted call, modulo B: from a station's tables, or from an observer's last clock. */
 static inline unsigned yarngravel_last_clock(const uint8_t *kept) { return kept[0] + 256u * kept[1]; }
 /* An observer's last clock at its start: the clock before its first call, modulo B. */
 static inline void yarngravel_fresh_last(uint32_t clock, uint8_t last[YARNGRAVEL_LAST]) {
     last[0] = (uint8_t)(clock & 0xffu);
     last[1] = (uint8_t)(clock >> 8 & 0xffu);
+}
+
+/* The clock of an engine's last accepted call, from its tables. */
+static inline uint64_t yarngravel_long_last_clock(const uint8_t tables[YARNGRAVEL_LONG_TABLES]) {
+    uint64_t clock = 0;
+    for (unsigned i = 8; i > 0; i--) clock = clock << 8 | tables[i - 1];
+    return clock;
+}
+/* An engine's fresh tables at a clock; epsilon is in its limits. Its first tick is for a clock 1 to epsilon later, and its shelf
+   starts as zeros. */
+static inline void yarngravel_long_fresh(uint32_t epsilon, uint64_t clock, uint8_t tables[YARNGRAVEL_LONG_TABLES]) {
+    for (unsigned i = 0; i < YARNGRAVEL_LONG_TABLES; i++) tables[i] = i < 8 ? (uint8_t)(clock >> 8 * i & 0xffu) : 0;
+    if (epsilon <= 16) tables[9 + epsilon] = 1;
 }
 
 /* Fresh tables at a clock (modulo B), for a station that starts there: its first tick is for a clock 1 to epsilon later. Its shelf
@@ -308,6 +353,39 @@ uint64_t yarngravel_listen(uint32_t n, uint32_t epsilon, uint32_t delta, uint32_
                            uint8_t last[YARNGRAVEL_LAST], uint8_t *shelf, size_t shelf_len, const uint8_t *bundle,
                            size_t bundle_len, uint8_t *verdicts, size_t verdicts_len, uint8_t *handout,
                            size_t handout_len);
+
+/* An engine: a plain station for the workbench, with clocks of 64 bits that are never reduced. On every run from fresh tables that
+ * keeps drift and delay, steps by 1 to epsilon, hears only what was sent in it, stays below 2^63 and never holds more than 64
+ * messages, its verdicts, tables, frames and hand-outs are call for call those of a station, with r modulo B in two bytes and the
+ * first section's count 3. That is proved. There are no words, no comparison and no poll for it.
+ *
+ * One tick of an engine, as yarngravel_tick but for
+ *   clock     below 2^63, not reduced
+ *   tables    in and out, YARNGRAVEL_LONG_TABLES bytes; yarngravel_long_fresh makes the first ones
+ *   shelf     in and out, exactly YARNGRAVEL_LONG_SHELF bytes: what is held, in the order heard. It is not judged for order; all
+ *             else makes it sound as a station's is, with at most 64 frames
+ *   bundle    with an engine's frames: the first section has count 9, the station and r in eight bytes, low byte first
+ *   outgoing  at least YARNGRAVEL_LONG_FRAME bytes
+ *   verdicts  0, 10 to 16, or 18 for a frame that passes all others while 64 are held. What is due before this clock is held until
+ *             the hand-out, and counted by 18
+ *   handout   all that is due at this clock or before, in delivery order; at least YARNGRAVEL_LONG_SHELF bytes
+ * Clocks are compared as the numbers that they are: a frame whose clock is far ahead gets 14.
+ */
+uint64_t yarngravel_long_tick(uint32_t n, uint32_t epsilon, uint32_t delta, uint32_t own, uint64_t clock,
+                              uint8_t tables[YARNGRAVEL_LONG_TABLES], uint8_t *shelf, size_t shelf_len, const uint8_t *bundle,
+                              size_t bundle_len, bool send, const uint8_t *ticket, size_t ticket_len, uint8_t *outgoing,
+                              size_t outgoing_len, uint8_t *verdicts, size_t verdicts_len, uint8_t *handout,
+                              size_t handout_len);
+
+/* Reads an engine's frame, as yarngravel_read does a station's. Refusals: 1, 10, 11 (r from 2^63 up too), 12. */
+uint64_t yarngravel_long_read(uint32_t n, uint32_t epsilon, uint32_t delta, uint32_t own, const uint8_t *frame, size_t frame_len,
+                              uint8_t tables[YARNGRAVEL_LONG_TABLES]);
+
+/* Writes an engine's frame, as yarngravel_write does a station's. Refusals: 1, 4, 11, 12, and 6 for a buffer shorter than the
+ * frame. */
+uint64_t yarngravel_long_write(uint32_t n, uint32_t epsilon, uint32_t delta, uint32_t own, uint32_t station,
+                               const uint8_t tables[YARNGRAVEL_LONG_TABLES], const uint8_t *ticket, size_t ticket_len,
+                               uint8_t *out, size_t out_len);
 
 #ifdef __cplusplus
 }

@@ -1,5 +1,5 @@
 #!/usr/bin/env python3
-"""Tries the edits of crates/CRATE/must-fail/together and controls, all or those of the crates named.
+"""Tries the edits of crates/CRATE/must-fail/together and controls: those of the crates named, or of all crates.
 
 `rt ci` tries each edit of crates/CRATE/must-fail by a check of its whole crate. The edits here are tried many at once, at most
 one for each function: a changed body touches the proof of its own function alone, and the prover says of each function by
@@ -9,9 +9,13 @@ of a definition is tried by itself. Of a contract it is again a fact in the proo
 proof of the crate, while the definitions and contracts themselves are well-formed. A message of the prover that is not known here, as
 one about a fact or as one that is not, fails the edits of its check.
 
+Those that are tried by themselves take a check each, and so most of the time. Where no crate is named, as in the gate, a quarter of them
+is tried, another one each day; `tests/edits.py all` tries all of all crates, and where crates are named all of theirs are tried.
+
 The edits of crates/CRATE/must-fail/controls are harmless. Each says what is expected of it, proved or refused, and is held to it: one
 that is refused shows that a refusal alone proves little, one that is proved that the prover sees through the change.
 """
+import datetime
 import os
 import re
 import shutil
@@ -24,6 +28,7 @@ from pathlib import Path
 
 ROOT = Path(__file__).resolve().parent.parent
 LIMIT = 300  # seconds that a check may take
+TURNS = 4  # days in which each edit that is tried by itself has its turn
 # two checks run at a time, so one prover for each; the lines of the log whole, for they are read
 SETTINGS = {**os.environ, "RT_JOBS": "1", "RT_CUT": "0"}
 # how the prover says that a fact does not hold, or that it is not proved by what should prove it
@@ -99,6 +104,13 @@ def place(crate, file, old):
     kinds = re.findall(r"^impl(?:<[^>]*>)? (\w+)", text[:at], re.M)
     module = [] if file in ("src/lib.rt", "src/main.rt") else [Path(file).stem]
     return "/".join(module + ([kinds[-1]] if heads[-1][1] else []) + [heads[-1][2]]), "⌜" not in line and "⌝" not in line
+
+
+def in_turn(edits, day):
+    """The edits whose turn it is on a day: all that are tried together, and of those that are tried alone one in so many."""
+    alone = [edit for edit in edits if edit.alone and not edit.control]
+    waiting = {edit.path for place, edit in enumerate(alone) if (place + day) % TURNS}
+    return [edit for edit in edits if edit.path not in waiting]
 
 
 def rounds(edits):
@@ -199,21 +211,21 @@ def verdict(edit, crate, log):
     return f"edit {crate}/{edit.name}: {'' if right else 'NOT ' + edit.expected.upper() + '; '}{said[:200]}", 0 if right else 1
 
 
-def try_crate(crate):
-    """The lines to print for a crate, and how many of its edits are not refused."""
+def try_crate(crate, day):
+    """The lines to print for a crate, and how many of its edits are not refused; on a day those in turn, else all."""
     with tempfile.TemporaryDirectory() as name:
         work = Path(name)
         for part in ("crates", "target"):
             shutil.copytree(ROOT / part, work / part, ignore=shutil.ignore_patterns("must-fail", "inc"))
         shutil.copy(ROOT / "crates.txt", work)
-        return try_rounds(work, crate)
+        return try_rounds(work, crate, day)
 
 
-def try_rounds(work, crate):
+def try_rounds(work, crate, day):
     """The same, in a copy of the repository. Without an edit the crate must be proved there; that is tried last, when most of it
     has been proved already."""
     clean, copy = ROOT / "crates" / crate, work / "crates" / crate
-    edits = edits_of(clean)
+    edits = edits_of(clean) if day is None else in_turn(edits_of(clean), day)
     verdicts = []
     for together in rounds(edits):
         restore(clean, copy)
@@ -264,9 +276,10 @@ def main():
     folders = {path.parent.parent for part in ("together", "controls") for path in ROOT.glob(f"crates/*/must-fail/{part}")}
     # the controls of model are tried against the theorems, by mutants.py
     tried = sorted(folders - {ROOT / "crates" / "model"}, key=cost, reverse=True)
-    crates = sys.argv[1:] or [folder.name for folder in tried]
+    day = None if sys.argv[1:] else datetime.datetime.now(datetime.timezone.utc).toordinal()
+    crates = [name for name in sys.argv[1:] if name != "all"] or [folder.name for folder in tried]
     with ThreadPoolExecutor(2) as pool:
-        summary("edits tried together", pool.map(try_crate, crates))
+        summary("edits tried together", pool.map(lambda crate: try_crate(crate, day), crates))
 
 
 if __name__ == "__main__":

@@ -1,6 +1,6 @@
 //! Times the tick, an observer's call and the poll: the proved library, the oracle and a twin tuned by
-//! hand, on the same calls in one run. First all must agree on every call, byte for byte, and on
-//! random ones.
+//! hand, on the same calls in one run; and the tick of an engine with long clocks beside its station's. First
+//! all must agree on every call, byte for byte, and on random ones.
 
 mod agreement;
 mod programs;
@@ -9,6 +9,7 @@ mod twin;
 mod workloads;
 mod yard;
 
+use oracle::generate::LongCase;
 use programs::{Case, Each};
 use workloads::Workload;
 
@@ -35,6 +36,12 @@ fn main() {
         let (answer, _) = agreement::agree(case);
         assert!(answer & 0xffff == 0, "an observer's call is refused or mends");
     }
+    // An engine beside each station where no more than 64 messages are held.
+    let engines = workloads::engines();
+    for case in engines.iter().flat_map(|workload| &workload.cases) {
+        let (answer, _) = agreement::agree(case);
+        assert!(answer & 0xffff == 0, "an engine's call is refused or mends");
+    }
     agreement::agree_on_random(RANDOM);
     println!("all agree on the workloads' calls and on {RANDOM} random ones\n");
     let mut rows: Vec<Row> = table.iter().map(Row::of).collect();
@@ -42,6 +49,7 @@ fn main() {
     rows.extend(observers.iter().map(Row::of));
     print_table(&rows);
     print_observers(&rows);
+    print_engines(&rows, &engines);
     print_forms(&rows);
     println!("\ngrowth              frames    proved    oracle      twin");
     shelves[0].iter().zip(&shelves[1]).for_each(|(half, full)| print_growth(half, full));
@@ -64,7 +72,8 @@ impl Row {
 
 fn print_table(rows: &[Row]) {
     println!("ns a call      frames    proved    oracle      twin   proved/twin   proved/oracle");
-    for Row { name, frames, times: [proved, oracle, twin, ..] } in rows {
+    for Row { name, frames, times } in rows {
+        let [proved, oracle, twin] = [0, 1, 2].map(|i: usize| times[i]);
         print!("{name:<14}{frames:>7.0}{proved:>10.0}{oracle:>10.0}{twin:>10.0}");
         println!("{:>14.2}{:>16.2}", proved / twin, proved / oracle);
     }
@@ -74,10 +83,24 @@ fn print_table(rows: &[Row]) {
 fn print_observers(rows: &[Row]) {
     println!("\nto the tick              proved    oracle      twin");
     for (observer, tick) in [("quiet observer", "empty tick"), ("observer", "largest yard")] {
-        let times = |name| rows.iter().find(|row| row.name == name).expect("a workload").times;
-        let (observers, ticks) = (times(observer), times(tick));
+        let (observers, ticks) = (times_of(rows, observer), times_of(rows, tick));
         let [proved, oracle, twin] = [0, 1, 2].map(|i: usize| observers[i] / ticks[i]);
         println!("{observer:<21}{proved:>10.2}{oracle:>10.2}{twin:>10.2}");
+    }
+}
+
+/// The times of a workload.
+fn times_of<'r>(rows: &'r [Row], name: &str) -> &'r Each {
+    &rows.iter().find(|row| row.name == name).expect("a workload").times
+}
+
+/// An engine's tick beside its station's in the same yard.
+fn print_engines(rows: &[Row], engines: &[Workload<LongCase>]) {
+    println!("\nengine         frames    proved    oracle   proved/oracle   proved/station's");
+    for Row { name, frames, times } in engines.iter().map(Row::of) {
+        let (proved, oracle, station) = (times[0], times[1], times_of(rows, name)[0]);
+        print!("{name:<14}{frames:>7.0}{proved:>10.0}{oracle:>10.0}");
+        println!("{:>16.2}{:>19.2}", proved / oracle, proved / station);
     }
 }
 
@@ -87,8 +110,9 @@ fn print_forms(rows: &[Row]) {
     println!(
         "\nto the twin    its comparison   its origins   its limits   all three   proved/all three"
     );
-    for Row { name, times: [proved, _, twin, with @ ..], .. } in rows {
-        let [comparison, origins, limits, all] = with.map(|time| time / twin);
+    for Row { name, times, .. } in rows {
+        let (proved, twin, with) = (times[0], times[2], &times[3..]);
+        let [comparison, origins, limits, all] = [0, 1, 2, 3].map(|i: usize| with[i] / twin);
         print!("{name:<15}{comparison:>14.2}{origins:>14.2}{limits:>13.2}{all:>12.2}");
         println!("{:>19.2}", proved / with[3]);
     }

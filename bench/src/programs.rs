@@ -2,22 +2,19 @@
 
 use crate::twin::{self, Bits, Bytes, Forms, Loop, Number, Own, Widest};
 use oracle::abi::{self, library};
-use oracle::generate::{ListenCase, PollCase, TickCase};
+use oracle::generate::{ListenCase, LongCase, PollCase, TickCase};
 
 /// Makes a call and answers its packed answer.
 pub type Program<C> = fn(&mut C) -> u64;
 
-/// How many programs there are.
-pub const COUNT: usize = 7;
-
 /// A number for each program.
-pub type Each = [f64; COUNT];
+pub type Each = Vec<f64>;
 
 /// A call that is timed.
-pub trait Case: Clone + PartialEq {
+pub trait Case: Clone + PartialEq + 'static {
     /// The proved library, the oracle, the twin; then the twin with the proved program's comparison, with its origins, with its way
-    /// to hold counts to their limits, and with all three.
-    const PROGRAMS: [Program<Self>; COUNT];
+    /// to hold counts to their limits, and with all three. An engine has no twin.
+    const PROGRAMS: &'static [Program<Self>];
 
     fn shelf(&self) -> &[u8];
 
@@ -26,7 +23,7 @@ pub trait Case: Clone + PartialEq {
 }
 
 impl Case for TickCase {
-    const PROGRAMS: [Program<Self>; COUNT] = [
+    const PROGRAMS: &'static [Program<Self>] = &[
         library::tick,
         |case| abi::pack_tick(&case.run()),
         tick::<(Number, Bits, Widest)>,
@@ -47,7 +44,7 @@ impl Case for TickCase {
 }
 
 impl Case for PollCase {
-    const PROGRAMS: [Program<Self>; COUNT] = [
+    const PROGRAMS: &'static [Program<Self>] = &[
         library::poll,
         |case| abi::pack_poll(case.run()),
         poll::<(Number, Bits, Widest)>,
@@ -66,7 +63,7 @@ impl Case for PollCase {
 }
 
 impl Case for ListenCase {
-    const PROGRAMS: [Program<Self>; COUNT] = [
+    const PROGRAMS: &'static [Program<Self>] = &[
         library::listen,
         |case| abi::pack_tick(&case.run()),
         listen::<(Number, Bits, Widest)>,
@@ -82,6 +79,20 @@ impl Case for ListenCase {
 
     fn put_back(&mut self, given: &Self) {
         self.last = given.last;
+        self.holdback.copy_from_slice(&given.holdback);
+    }
+}
+
+impl Case for LongCase {
+    const PROGRAMS: &'static [Program<Self>] =
+        &[library::long_tick, |case| abi::pack_tick(&case.run())];
+
+    fn shelf(&self) -> &[u8] {
+        &self.holdback
+    }
+
+    fn put_back(&mut self, given: &Self) {
+        self.state = given.state;
         self.holdback.copy_from_slice(&given.holdback);
     }
 }

@@ -1,6 +1,6 @@
 //! Nanoseconds a call, the best of many rounds.
 
-use crate::programs::{Case, Each, Program, COUNT};
+use crate::programs::{Case, Each, Program};
 use crate::workloads::Workload;
 use std::hint::black_box;
 use std::time::Instant;
@@ -19,13 +19,13 @@ struct Part<'w, C> {
 
 impl<'w, C: Case> Part<'w, C> {
     fn new(cases: &'w [C]) -> Self {
-        Part { cases, work: cases.to_vec(), best: [f64::MAX; COUNT] }
+        Part { cases, work: cases.to_vec(), best: vec![f64::MAX; C::PROGRAMS.len()] }
     }
 
     /// Times each program once.
     fn round(&mut self) {
-        for (program, best) in C::PROGRAMS.into_iter().zip(&mut self.best) {
-            *best = best.min(time(program, self.cases, &mut self.work));
+        for (program, best) in C::PROGRAMS.iter().zip(&mut self.best) {
+            *best = best.min(time(*program, self.cases, &mut self.work));
         }
     }
 }
@@ -43,8 +43,8 @@ pub fn measure<C: Case, const W: usize>(workloads: [&Workload<C>; W]) -> [Each; 
     let timer = (0..1_000).map(|_| time::<C>(|_| 0, &[], &mut [])).fold(f64::MAX, f64::min);
     parts.map(|parts| {
         let calls = (parts.len() * size) as f64;
-        let mean = |i| parts.iter().map(|part| part.best[i] - timer).sum::<f64>() / calls;
-        std::array::from_fn(mean)
+        let mean = |i| parts.iter().map(|part: &Part<C>| part.best[i] - timer).sum::<f64>() / calls;
+        (0..C::PROGRAMS.len()).map(mean).collect()
     })
 }
 

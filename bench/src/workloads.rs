@@ -1,9 +1,9 @@
 //! The calls that are timed. Each workload has 256 of them: of a few the processor would learn which way their branches go.
 
 use crate::programs::Case;
-use crate::yard::Yard;
+use crate::yard::{Engines, Yard};
 use oracle::board::{judge, Owner};
-use oracle::generate::{frames, ListenCase, PollCase, Prng, TickCase};
+use oracle::generate::{frames, ListenCase, LongCase, PollCase, Prng, TickCase};
 use oracle::holdback::Holdback;
 use oracle::{batch, Setup, Timestamp};
 
@@ -29,19 +29,46 @@ impl<C: Case> Workload<C> {
 /// The six workloads of ticks.
 pub fn all() -> Vec<Workload<TickCase>> {
     let [empty, largest, flood] = on_shelf(true);
-    let idle =
-        Workload { name: "idle tick", cases: Yard::fresh(TYPICAL, 16).run(CALLS / TYPICAL.n, 0) };
-    let typical = Workload { name: "typical yard", cases: steady(TYPICAL, 16, TYPICAL.n) };
-    let nudged = Workload { name: "nudged yard", cases: nudged() };
+    let idle = Workload { name: "idle tick", cases: idle() };
+    let typical = Workload { name: "typical yard", cases: steady(TYPICAL, 16, TYPICAL.n).1 };
+    let nudged = Workload { name: "nudged yard", cases: nudged().1 };
     vec![idle, typical, empty, largest, flood, nudged]
 }
 
-/// Calls of a yard whose clocks are nudged: each steps by 2 to ε and has frames to hand out that were due before its clock.
-fn nudged() -> Vec<TickCase> {
+/// The same calls of engines, in those of these workloads in which no more than 64 messages are held.
+pub fn engines() -> Vec<Workload<LongCase>> {
+    let beside = |(before, cases): (Vec<TickCase>, Vec<TickCase>)| {
+        let mut engines = Engines::fresh(before.first().unwrap_or(&cases[0]).setup);
+        before.iter().for_each(|case| drop(engines.tick(case)));
+        cases.iter().map(|case| engines.tick(case)).collect()
+    };
+    let idle = Workload { name: "idle tick", cases: beside((vec![], idle())) };
+    let typical = Workload { name: "typical yard", cases: beside(steady(TYPICAL, 16, TYPICAL.n)) };
+    vec![idle, typical, Workload { name: "nudged yard", cases: nudged_engines() }]
+}
+
+/// Calls of a yard in which nobody sends.
+fn idle() -> Vec<TickCase> {
+    Yard::fresh(TYPICAL, 16).run(CALLS / TYPICAL.n, 0)
+}
+
+/// Calls of a yard whose clocks are nudged: each steps by 2 to ε and has frames to hand out that were due before its clock. The calls
+/// of all stations before the first of them and between them come with them.
+fn nudged() -> (Vec<TickCase>, Vec<TickCase>) {
     let mut yard = Yard::nudged(NUDGED, 16);
-    yard.run(2 * (NUDGED.delta + 4 * NUDGED.epsilon), NUDGED.n);
-    let cases = yard.run(CALLS, NUDGED.n).into_iter().filter(has_early);
-    cases.take(CALLS as usize).collect()
+    let mut all = yard.run(2 * (NUDGED.delta + 4 * NUDGED.epsilon), NUDGED.n);
+    let later = yard.run(CALLS, NUDGED.n);
+    let cases = later.iter().filter(|case| has_early(case)).take(CALLS as usize).cloned().collect();
+    all.extend(later);
+    (all, cases)
+}
+
+/// The same of engines.
+fn nudged_engines() -> Vec<LongCase> {
+    let (all, cases) = nudged();
+    let mut engines = Engines::fresh(NUDGED);
+    let made = all.into_iter().map(|case| (engines.tick(&case), case));
+    made.filter(|(_, case)| cases.contains(case)).map(|(engine, _)| engine).collect()
 }
 
 /// Has a call's shelf frames that are due before its clock?
@@ -54,7 +81,7 @@ fn has_early(case: &TickCase) -> bool {
 
 /// The largest yard, where all of it or only half has been sending: an empty tick, one that hears everybody, and a flood.
 pub fn on_shelf(full: bool) -> [Workload<TickCase>; 3] {
-    let heard = steady(LARGEST, 32, if full { LARGEST.n } else { LARGEST.n / 2 });
+    let (_, heard) = steady(LARGEST, 32, if full { LARGEST.n } else { LARGEST.n / 2 });
     let mut empty = heard.clone();
     let mut flood = heard.clone();
     let mut rng = Prng::new(2);
@@ -88,12 +115,13 @@ pub fn observers(name: &'static str, ticks: &Workload<TickCase>) -> Workload<Lis
     Workload { name, cases: ticks.cases.iter().cloned().map(ListenCase::of).collect() }
 }
 
-/// Calls of a yard in its steady state, where only some send until shortly before the end and then all do.
-fn steady(setup: Setup, payload: usize, senders: i64) -> Vec<TickCase> {
+/// Calls of a yard in its steady state, where only some send until shortly before the end and then all do; before them those by
+/// which it came there.
+fn steady(setup: Setup, payload: usize, senders: i64) -> (Vec<TickCase>, Vec<TickCase>) {
     let mut yard = Yard::fresh(setup, payload);
-    yard.run(2 * (setup.delta + 4 * setup.epsilon), senders);
-    yard.run(3, setup.n);
-    yard.run(CALLS / setup.n, setup.n)
+    let mut before = yard.run(2 * (setup.delta + 4 * setup.epsilon), senders);
+    before.extend(yard.run(3, setup.n));
+    (before, yard.run(CALLS / setup.n, setup.n))
 }
 
 /// 255 frames that are all refused: random bytes, damaged frames, late, early and forged ones, repeats.

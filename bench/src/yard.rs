@@ -2,9 +2,11 @@
 //! and everybody hears each frame one to three ticks later. Its ticks step by one, or all clocks are nudged: then those of a round
 //! step by 2 to ε.
 
-use oracle::generate::{Prng, TickCase};
+use oracle::generate::engines::fresh_tables;
+use oracle::generate::{LongCase, Prng, TickCase};
+use oracle::long::holdback_len;
 use oracle::timestamp::fresh;
-use oracle::{batch, ClockState, Setup};
+use oracle::{batch, ClockState, LongState, Setup};
 
 pub struct Yard {
     setup: Setup,
@@ -89,4 +91,39 @@ impl Yard {
 /// How far a station's clock is ahead of the slowest.
 fn lead(setup: &Setup, k: i64) -> i64 {
     k * setup.epsilon / setup.n
+}
+
+/// An engine beside each station of a yard, whose clocks stay below B.
+pub struct Engines {
+    rng: Prng,
+    memories: Vec<(LongState, Vec<u8>)>,
+}
+
+impl Engines {
+    /// All fresh, beside a yard of fresh stations.
+    pub fn fresh(setup: Setup) -> Self {
+        let shelf = vec![0; holdback_len(&setup)];
+        let memory = |k| (fresh_tables(&setup, lead(&setup, k) as u64), shelf.clone());
+        Engines { rng: Prng::new(5), memories: (0..setup.n).map(memory).collect() }
+    }
+
+    /// The tick of an engine where its station makes this call; the call as it was given.
+    pub fn tick(&mut self, station: &TickCase) -> LongCase {
+        let (tables, shelf) = &mut self.memories[station.setup.own as usize];
+        let clock = station.clock as u64;
+        let mut case = LongCase::idle(&mut self.rng, station.setup, clock, *tables, shelf.clone());
+        let heard = batch::entries(&station.batch).expect("an exact bundle");
+        case.batch = batch::encode(&heard.into_iter().map(lengthened).collect::<Vec<_>>());
+        (case.send, case.payload) = (station.send, station.payload.clone());
+        let given = case.clone();
+        let answer = case.run();
+        assert!(answer.number == 0 && answer.repair == 0 && answer.taken == station.batch[0]);
+        (*tables, *shelf) = (case.state, case.holdback);
+        given
+    }
+}
+
+/// A station's frame as an engine's.
+fn lengthened(frame: &[u8]) -> Vec<u8> {
+    [&[9, frame[1], frame[2], frame[3], 0, 0, 0, 0, 0, 0], &frame[4..]].concat()
 }

@@ -135,8 +135,9 @@ pub mod library {
     //! The calls themselves.
 
     use crate::generate::{CompareCase, FreshCase, ListenCase, PollCase, ReadCase};
+    use crate::generate::{LongCase, LongReadCase, LongWriteCase};
     use crate::generate::{TickCase, WordsCase, WriteCase};
-    use crate::{ClockState, LastClock, Setup};
+    use crate::{ClockState, LastClock, LongState, Setup};
 
     #[link(name = "yarngravel", kind = "static")]
     extern "C" {
@@ -252,6 +253,51 @@ pub mod library {
             verdicts_len: usize,
             delivery: *mut u8,
             delivery_len: usize,
+        ) -> u64;
+
+        fn yarngravel_long_tick(
+            n: u32,
+            epsilon: u32,
+            delta: u32,
+            own: u32,
+            clock: u64,
+            state: *mut LongState,
+            holdback: *mut u8,
+            holdback_len: usize,
+            batch: *const u8,
+            batch_len: usize,
+            send: bool,
+            payload: *const u8,
+            payload_len: usize,
+            outgoing: *mut u8,
+            outgoing_len: usize,
+            verdicts: *mut u8,
+            verdicts_len: usize,
+            delivery: *mut u8,
+            delivery_len: usize,
+        ) -> u64;
+
+        fn yarngravel_long_read(
+            n: u32,
+            epsilon: u32,
+            delta: u32,
+            own: u32,
+            frame: *const u8,
+            frame_len: usize,
+            state: *mut LongState,
+        ) -> u64;
+
+        fn yarngravel_long_write(
+            n: u32,
+            epsilon: u32,
+            delta: u32,
+            own: u32,
+            node: u32,
+            state: *const LongState,
+            payload: *const u8,
+            payload_len: usize,
+            out: *mut u8,
+            out_len: usize,
         ) -> u64;
     }
 
@@ -404,6 +450,63 @@ pub mod library {
                 case.verdicts.len(),
                 case.delivery.as_mut_ptr(),
                 case.delivery.len(),
+            )
+        }
+    }
+
+    /// An engine's tick.
+    pub fn long_tick(case: &mut LongCase) -> u64 {
+        let [n, epsilon, delta, _, own] = numbers(&case.setup);
+        // SAFETY: as in `tick`.
+        unsafe {
+            yarngravel_long_tick(
+                n,
+                epsilon,
+                delta,
+                own,
+                case.clock,
+                &mut case.state,
+                case.holdback.as_mut_ptr(),
+                case.holdback.len(),
+                case.batch.as_ptr(),
+                case.batch.len(),
+                case.send,
+                case.payload.as_ptr(),
+                case.payload.len(),
+                case.outgoing.as_mut_ptr(),
+                case.outgoing.len(),
+                case.verdicts.as_mut_ptr(),
+                case.verdicts.len(),
+                case.delivery.as_mut_ptr(),
+                case.delivery.len(),
+            )
+        }
+    }
+
+    /// An engine's reader.
+    pub fn long_read(case: &mut LongReadCase) -> u64 {
+        let [n, epsilon, delta, _, own] = numbers(&case.setup);
+        let (frame, length) = (case.frame.as_ptr(), case.frame.len());
+        // SAFETY: as in `tick`.
+        unsafe { yarngravel_long_read(n, epsilon, delta, own, frame, length, &mut case.state) }
+    }
+
+    /// An engine's writer.
+    pub fn long_write(case: &mut LongWriteCase) -> u64 {
+        let [n, epsilon, delta, _, own] = numbers(&case.setup);
+        // SAFETY: as in `tick`.
+        unsafe {
+            yarngravel_long_write(
+                n,
+                epsilon,
+                delta,
+                own,
+                narrow(case.node),
+                &case.state,
+                case.payload.as_ptr(),
+                case.payload.len(),
+                case.out.as_mut_ptr(),
+                case.out.len(),
             )
         }
     }

@@ -47,11 +47,16 @@ pub struct Board<'a> {
     holdback: Holdback<'a>,
 }
 
-/// Checks 5 and 6, that of the outgoing buffer aside; then the batch's entries.
-pub fn check<'a>(setup: &Setup, batch: &'a [u8], buffers: &Buffers) -> Result<Vec<&'a [u8]>, u8> {
+/// Checks 5 and 6, that of the outgoing buffer aside, with the queue's length; then the batch's
+/// entries.
+pub fn check<'a>(
+    holdback_len: usize,
+    batch: &'a [u8],
+    buffers: &Buffers,
+) -> Result<Vec<&'a [u8]>, u8> {
     let entries = batch::entries(batch).ok_or(5)?;
     ask(buffers.verdicts.len() >= VERDICTS, 6)?;
-    ask(buffers.delivery.len() >= setup.holdback_len(), 6)?;
+    ask(buffers.delivery.len() >= holdback_len, 6)?;
     Ok(entries)
 }
 

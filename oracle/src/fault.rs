@@ -1,4 +1,4 @@
-//! Forty-seven small faults that can be planted in the oracle, to show that a comparison finds them.
+//! Sixty-three small faults that can be planted in the oracle, to show that a comparison finds them.
 //! Without the feature `plant` nothing of this is left in the code.
 //!
 //!  1. the writer alone refuses a buffer of exactly the frame's length
@@ -48,11 +48,31 @@
 //! 45. the give lines of yard are without the node
 //! 46. yard takes 1,001 steps
 //! 47. yard lets an overlong trace pass
+//! 48. an engine asks 18 before 16
+//! 49. an engine takes a 65th message
+//! 50. an engine's queue of 65 frames passes as sound
+//! 51. an engine's frame with an r of 2^63 passes 11
+//! 52. an engine's clock of 2^63 passes 2
+//! 53. r stands in an engine's frames with its high byte first
+//! 54. an engine hands out in the order heard
+//! 55. what is due before v is not counted by 18
+//! 56. an engine's queue is judged for order
+//! 57. an engine puts what stays into delivery order
+//! 58. an engine reads a clock ε or more ahead as behind
+//! 59. with an engine a held frame due at the last clock passes as sound
+//! 60. where an engine's tables are replaced, a held frame due one before v passes as sound
+//! 61. an engine's tables pass as sound after a step of ε + 1
+//! 62. an engine's writer refuses a buffer of exactly the frame's length
+//! 63. the byte after an engine's last held frame is not cleared
+
+use std::ops::RangeInclusive;
 
 /// How many faults there are.
-pub const COUNT: u8 = 47;
-/// From this one on they are in the program `yard` alone.
-pub const FIRST_OF_YARD: u8 = 39;
+pub const COUNT: u8 = 63;
+/// Those that are in the program `yard` alone.
+pub const OF_YARD: RangeInclusive<u8> = 39..=47;
+/// Those that are in engines (02, 2.9) alone.
+pub const OF_ENGINES: RangeInclusive<u8> = 48..=63;
 
 #[cfg(feature = "plant")]
 mod switch {

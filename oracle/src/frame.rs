@@ -20,18 +20,24 @@ pub struct Frame<'a> {
 impl<'a> Frame<'a> {
     /// The frame at the front of some bytes, ending where its counts say, and what follows.
     pub fn split(setup: &Setup, bytes: &'a [u8]) -> Option<(Self, &'a [u8])> {
-        let (origin, rest) = section(bytes)?;
+        Self::split_by(setup, origin, bytes)
+    }
+
+    /// The same, with what reads the first section: the sender and r, if it has the right length.
+    pub fn split_by(
+        setup: &Setup,
+        origin: fn(&[u8]) -> Option<(u8, i64)>,
+        bytes: &'a [u8],
+    ) -> Option<(Self, &'a [u8])> {
+        let (first, rest) = section(bytes)?;
         let (clocks, rest) = section(rest)?;
         let (payload, rest) = section(rest)?;
-        let &[node, low, high] = origin else {
-            return None;
-        };
+        let (node, r) = origin(first)?;
         let (&c, kn) = clocks.split_first()?;
         if kn.len() != setup.width() || payload.len() > MAX_PAYLOAD {
             return None;
         }
-        let r = u16::from_le_bytes([low, high]);
-        let timestamp = Timestamp { r: r.into(), c: c.into(), kn };
+        let timestamp = Timestamp { r, c: c.into(), kn };
         let bytes = &bytes[..bytes.len() - rest.len()];
         let payload = &bytes[bytes.len() - payload.len() - skew(11) as usize..];
         Some((Frame { node: node.into(), timestamp, payload, bytes }, rest))
@@ -44,6 +50,14 @@ impl<'a> Frame<'a> {
         check_origin(setup, frame.node, &frame.timestamp)?;
         Ok(frame)
     }
+}
+
+/// A first section: the sender, and r in two bytes.
+fn origin(section: &[u8]) -> Option<(u8, i64)> {
+    let &[node, low, high] = section else {
+        return None;
+    };
+    Some((node, u16::from_le_bytes([low, high]).into()))
 }
 
 /// Checks 11 and 12.
@@ -75,13 +89,18 @@ pub fn write(
     Ok(put(node, &timestamp, payload, out))
 }
 
-/// Lays down the three sections, each after its count, and answers the frame's length.
+/// Lays down a frame and answers its length.
 pub fn put(node: i64, timestamp: &Timestamp, payload: &[u8], out: &mut [u8]) -> usize {
     let [low, high] = (timestamp.r as u16).to_le_bytes();
-    let width = timestamp.kn.len();
-    let start = [3, node as u8, low, high, 1 + width as u8, timestamp.c as u8];
+    lay(&[node as u8, low, high], timestamp, payload, out)
+}
+
+/// Lays down the three sections, each after its count, and answers the frame's length.
+pub fn lay(origin: &[u8], timestamp: &Timestamp, payload: &[u8], out: &mut [u8]) -> usize {
+    let clocks = [1 + timestamp.kn.len() as u8, timestamp.c as u8];
+    let (first, last) = ([origin.len() as u8], [payload.len() as u8]);
     let mut at = 0;
-    for part in [&start, timestamp.kn, &[payload.len() as u8], payload] {
+    for part in [&first, origin, &clocks, timestamp.kn, &last, payload] {
         out[at..at + part.len()].copy_from_slice(part);
         at += part.len();
     }

@@ -6,10 +6,12 @@
 pub mod abi;
 pub mod batch;
 pub mod board;
+pub mod engine;
 pub mod fault;
 pub mod frame;
 pub mod generate;
 pub mod holdback;
+pub mod long;
 pub mod node;
 pub mod observer;
 pub mod playing;
@@ -26,7 +28,9 @@ pub mod yard;
 pub mod yard_trace;
 
 pub use board::Buffers;
+pub use engine::{long_tick, LongCall};
 pub use frame::{read, write, Frame};
+pub use long::{long_read, long_write, LongState};
 pub use node::{tick, Answer, Call};
 pub use observer::{listen, LastClock, Listening};
 pub use poll::{poll, Outlook};

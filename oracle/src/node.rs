@@ -53,7 +53,7 @@ fn check<'a>(call: &Call<'a>, outgoing: &[u8], buffers: &Buffers) -> Result<Vec<
     ask(setup.is_valid(), 1)?;
     holdback::check(setup, call.clock, buffers.holdback)?;
     ask(call.payload.len() <= MAX_PAYLOAD, 4)?;
-    let entries = board::check(setup, call.batch, buffers)?;
+    let entries = board::check(setup.holdback_len(), call.batch, buffers)?;
     ask(outgoing.len() >= setup.longest_frame(), 6)?;
     Ok(entries)
 }

@@ -37,7 +37,7 @@ fn check<'a>(call: &Listening<'a>, buffers: &Buffers) -> Result<Vec<&'a [u8]>, u
     let setup = &call.setup;
     ask(if planted(36) { setup.is_valid() } else { setup.is_in_limits() }, 1)?;
     holdback::check(setup, call.clock, buffers.holdback)?;
-    board::check(setup, call.batch, buffers)
+    board::check(setup.holdback_len(), call.batch, buffers)
 }
 
 /// An accepted call with this last clock.

@@ -14,7 +14,7 @@ pub struct Setup {
     pub epsilon: i64,
     /// δ, the delay limit.
     pub delta: i64,
-    /// B; clocks are given modulo this.
+    /// B; clocks are given modulo this. An engine's calls (02, 2.9) do not look at it.
     pub modulus: i64,
     /// The node's own number; an observer has none, and its calls do not look at it.
     pub own: i64,
@@ -26,17 +26,26 @@ impl Setup {
         6 * self.epsilon + self.delta + 1
     }
 
-    /// Check 1 without the own number: is the setup in its limits?
-    pub fn is_in_limits(&self) -> bool {
+    /// Are n, ε and δ in their limits?
+    pub fn has_limits(&self) -> bool {
         (1..=16).contains(&self.n)
             && (1..=16).contains(&self.epsilon)
             && (0..=64).contains(&self.delta)
-            && (self.least_modulus()..=65_535).contains(&self.modulus)
+    }
+
+    /// Check 1 without the own number: is the setup in its limits?
+    pub fn is_in_limits(&self) -> bool {
+        self.has_limits() && (self.least_modulus()..=65_535).contains(&self.modulus)
+    }
+
+    /// Is the own number that of a node?
+    pub fn is_member(&self) -> bool {
+        (0..self.n).contains(&self.own)
     }
 
     /// Check 1: the own number too?
     pub fn is_valid(&self) -> bool {
-        self.is_in_limits() && (0..self.n).contains(&self.own)
+        self.is_in_limits() && self.is_member()
     }
 
     /// How many counts a timestamp has.

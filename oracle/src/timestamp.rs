@@ -134,6 +134,11 @@ impl LocalTimestamp {
 
     /// The new tables.
     pub fn to_state(&self, setup: &Setup, r: i64) -> ClockState {
-        Timestamp { r, c: self.c, kn: &self.kn[..setup.width()] }.to_state()
+        self.timestamp(setup, r).to_state()
+    }
+
+    /// The new timestamp.
+    pub fn timestamp(&self, setup: &Setup, r: i64) -> Timestamp<'_> {
+        Timestamp { r, c: self.c, kn: &self.kn[..setup.width()] }
     }
 }

@@ -16,6 +16,6 @@ freshNumber s own clock = firstNo (askSetup s own ∷ ask (ltb clock (s .modulus
 unfoldable pub freshBytes : Setup → ℕ → ℕ → List ℕ → List ℕ
 freshBytes s own clock tables = cond (eqb (freshNumber s own clock) 0) (tablesBytes (widened (fresh (s .epsilon) clock))) tables
 
--- the version 2.8.0: major, minor and patch in a byte each, the patch lowest
+-- the version 2.9.0: major, minor and patch in a byte each, the patch lowest
 abbrev pub version : ℕ
-version = 133120
+version = 133376

@@ -1,5 +1,5 @@
--- The boundary to C: the tables are 35 bytes (r low byte first, c, 32 counts), an observer's last clock two (low byte first), and an answer
--- is one number of 64 bits.
+-- The boundary to C: the tables are 35 bytes (r low byte first, c, 32 counts), an engine's 41 (r in eight bytes), an observer's last clock two
+-- (low byte first), and an answer is one number of 64 bits.
 -- Assumes nothing.
 use Prim.Native.Nat.{ℕ, _+_, _*_}
 use mathlib.Core.Bool.{Bool, cond}
@@ -15,32 +15,54 @@ use Rattle.model.specs.Comparison.{CompareAnswer}
 use Rattle.model.specs.Tick.{Input, Answer, Output}
 use Rattle.model.specs.Poll.{PollAnswer}
 use Rattle.model.specs.Observer.{Listening, Listened}
+use Rattle.model.specs.Long.{lowFirst, numberAt}
 use Rattle.words.specs.Words.{WordsAnswer}
 
 -- how many bytes the tables have
 abbrev pub tablesLength : ℕ
 tablesLength = 35
 
+-- 02, 2.9: and how many those of an engine
+abbrev pub longTablesLength : ℕ
+longTablesLength = 41
+
+-- tables with that r, whose c stands at a place of the bytes, and the counts behind it
+abbrev pub tablesAt : ℕ → ℕ → List ℕ → Timestamp
+tablesAt at r s = record { r = r; c = getD s at 0; kn = take widest (drop (at + 1) s) }
+
 -- the tables that stand in those bytes
 unfoldable pub tablesIn : List ℕ → Timestamp
-tablesIn s = record { r = twoAt s 0; c = getD s 2 0; kn = take widest (drop 3 s) }
+tablesIn s = tablesAt 2 (twoAt s 0) s
 
--- the bytes of tables
+unfoldable pub longTablesIn : List ℕ → Timestamp
+longTablesIn s = tablesAt 8 (numberAt 8 s 0) s
+
+-- the bytes of tables, from those of r
+abbrev pub tablesBehind : List ℕ → Timestamp → List ℕ
+tablesBehind r t = r ++ (t .c ∷ t .kn)
+
 unfoldable pub tablesBytes : Timestamp → List ℕ
-tablesBytes t = twoBytes (t .r) ++ (t .c ∷ t .kn)
+tablesBytes t = tablesBehind (twoBytes (t .r)) t
+
+unfoldable pub longTablesBytes : Timestamp → List ℕ
+longTablesBytes t = tablesBehind (lowFirst 8 (t .r)) t
 
 -- a setup of the numbers of a call
 abbrev pub setupBy : ℕ → ℕ → ℕ → ℕ → Setup
 setupBy n epsilon delta modulus = record { n = n; epsilon = epsilon; delta = delta; modulus = modulus }
 
--- the arguments of a tick
-abbrev pub inputBy : Setup → ℕ → ℕ → List ℕ → List ℕ → List ℕ → Bool → List ℕ → List ℕ → List ℕ → List ℕ → Input
-inputBy setup own clock tables holdback batch send payload outgoing verdicts delivery =
+-- 02, 2.9: an engine's "setup has no B"; 0 stands in its place
+abbrev pub longSetupBy : ℕ → ℕ → ℕ → Setup
+longSetupBy n epsilon delta = setupBy n epsilon delta 0
+
+-- the arguments of a tick, by its tables
+abbrev pub inputWith : Setup → ℕ → ℕ → Timestamp → List ℕ → List ℕ → Bool → List ℕ → List ℕ → List ℕ → List ℕ → Input
+inputWith setup own clock tables holdback batch send payload outgoing verdicts delivery =
     record {
       setup = setup;
       own = own;
       clock = clock;
-      tables = tablesIn tables;
+      tables = tables;
       holdback = holdback;
       batch = batch;
       send = send;
@@ -49,6 +71,15 @@ inputBy setup own clock tables holdback batch send payload outgoing verdicts del
       verdicts = verdicts;
       delivery = delivery;
     }
+
+-- and by their bytes
+abbrev pub inputBy : Setup → ℕ → ℕ → List ℕ → List ℕ → List ℕ → Bool → List ℕ → List ℕ → List ℕ → List ℕ → Input
+inputBy setup own clock tables holdback batch send payload outgoing verdicts delivery =
+    inputWith setup own clock (tablesIn tables) holdback batch send payload outgoing verdicts delivery
+
+abbrev pub longInputBy : Setup → ℕ → ℕ → List ℕ → List ℕ → List ℕ → Bool → List ℕ → List ℕ → List ℕ → List ℕ → Input
+longInputBy setup own clock tables holdback batch send payload outgoing verdicts delivery =
+    inputWith setup own clock (longTablesIn tables) holdback batch send payload outgoing verdicts delivery
 
 -- the number in bits 0 to 7, 01's mend in 8 to 15, frames taken in 16 to 23, the outgoing length in 24 to 31, frames handed out from 32 on
 abbrev pub figures : ℕ → ℕ → ℕ → ℕ → ℕ → ℕ
@@ -70,9 +101,15 @@ abbrev pub returned : ℕ → List ℕ → List ℕ → List ℕ → List ℕ �
 returned word tables holdback outgoing verdicts delivery =
     record { word = word; tables = tables; holdback = holdback; outgoing = outgoing; verdicts = verdicts; delivery = delivery }
 
--- the packing of a tick's output
+-- the packing of a tick's output, by how its tables stand in bytes
+abbrev pub packedWith : (Timestamp → List ℕ) → Output → Returned
+packedWith bytes o = returned (answerWord (o .answer)) (bytes (o .answer .tables)) (o .holdback) (o .outgoing) (o .verdicts) (o .delivery)
+
 unfoldable pub packed : Output → Returned
-packed o = returned (answerWord (o .answer)) (tablesBytes (o .answer .tables)) (o .holdback) (o .outgoing) (o .verdicts) (o .delivery)
+packed o = packedWith tablesBytes o
+
+unfoldable pub longPacked : Output → Returned
+longPacked o = packedWith longTablesBytes o
 
 -- the arguments of an observer's call; its last clock stands in two bytes
 abbrev pub listeningBy : Setup → ℕ → List ℕ → List ℕ → List ℕ → List ℕ → List ℕ → Listening
@@ -106,17 +143,30 @@ returnedListening word last holdback verdicts delivery =
 unfoldable pub packedListening : Listened → ReturnedListening
 packedListening o = returnedListening (listenWord o) (twoBytes (o .last)) (o .holdback) (o .verdicts) (o .delivery)
 
--- where the payload of a frame that was read starts; 0 of a refused one
-unfoldable pub placeOf : ℕ → ReadAnswer → ℕ
-placeOf epsilon a = cond (eqb (a .number) 0) (payloadCountAt epsilon + 1) 0
+-- where the payload of a frame that was read starts, by where it does in an accepted one; 0 of a refused one
+abbrev pub placeWith : ℕ → ReadAnswer → ℕ
+placeWith at a = cond (eqb (a .number) 0) at 0
 
 -- the number in bits 0 to 7, the station in 8 to 15, the place of the payload in 16 to 31, its length in 32 to 47
+abbrev pub readWordWith : ℕ → ReadAnswer → ℕ
+readWordWith at a = a .number + 256 * (a .station + 256 * (placeWith at a + 65536 * length (a .payload)))
+
 unfoldable pub readWord : ℕ → ReadAnswer → ℕ
-readWord epsilon a = a .number + 256 * (a .station + 256 * (placeOf epsilon a + 65536 * length (a .payload)))
+readWord epsilon a = readWordWith (payloadCountAt epsilon + 1) a
+
+-- 02, 2.9: an engine's frame has a first section longer by six
+unfoldable pub longReadWord : ℕ → ReadAnswer → ℕ
+longReadWord epsilon a = readWordWith (6 + (payloadCountAt epsilon + 1)) a
 
 -- what the reader leaves in the tables; a refused one "writes nothing"
+abbrev pub readTablesWith : (Timestamp → List ℕ) → ReadAnswer → List ℕ → List ℕ
+readTablesWith bytes a tables = cond (eqb (a .number) 0) (bytes (a .stamp)) tables
+
 unfoldable pub readTables : ReadAnswer → List ℕ → List ℕ
-readTables a tables = cond (eqb (a .number) 0) (tablesBytes (a .stamp)) tables
+readTables a tables = readTablesWith tablesBytes a tables
+
+unfoldable pub longReadTables : ReadAnswer → List ℕ → List ℕ
+longReadTables a tables = readTablesWith longTablesBytes a tables
 
 -- the number in bits 0 to 7, the frame's length in 8 to 23
 unfoldable pub writeWord : WriteAnswer → ℕ

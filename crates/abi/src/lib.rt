@@ -1,6 +1,7 @@
 // The boundary to C: the tick, the reader, the writer, the words, the comparison, the poll and an observer's call over numbers and byte slices. A slice is a
 // pointer and a length; the tables are a pointer to 35 bytes (r low, r high, c, 32 counts); the answer is one number. Any arguments get
 // an answer.
+mod engine;
 mod packing;
 
 use comparing::compare_call;
@@ -290,5 +291,5 @@ pub extern "C" fn yarngravel_fresh(
 pub extern "C" fn yarngravel_version() -> u32
     ensures { λ r. ⌜ r ≡ version ⌝ }
 {
-    0x020800
+    0x020900
 }

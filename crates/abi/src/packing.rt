@@ -1,4 +1,4 @@
-// Tables in 35 bytes, and answers in one number.
+// Tables in 35 bytes, an engine's in 41, and answers in one number.
 use comparing::Compared;
 use node::Answer;
 use observer::Listened;
@@ -7,6 +7,7 @@ use polling::Polled;
 use timestamp::Timestamp;
 use timestamp::counts_of;
 ghost use mathlib.Core.Path.{_≡_};
+ghost use mathlib.Core.List.{_∷_};
 ghost use Prim.Native.Nat.{_+_, _*_, _<_};
 ghost use lib.ListN.{length};
 ghost use Rattle.model.specs.Frame.{twoBytes, twoAt};
@@ -14,7 +15,18 @@ ghost use Rattle.timestamp.specs.Views.{stampOf};
 ghost use Rattle.comparing.specs.Answers.{compareAnswer};
 ghost use Rattle.node.specs.Answers.{answerOf};
 ghost use Rattle.polling.specs.Answers.{SmallNext, nextOf, pollAnswer};
-ghost use Rattle.abi.specs.Packing.{tablesLength, tablesIn, tablesBytes, figures, answerWord, compareWord, nextBits, pollWord};
+ghost use Rattle.splice.specs.Bytes.{pasted};
+ghost use Rattle.abi.specs.Packing.{tablesLength, tablesAt, tablesIn, tablesBytes, longTablesLength, longTablesIn, longTablesBytes, figures, answerWord, compareWord, nextBits, pollWord};
+
+// Tables with that r, whose c stands at a place of the bytes, and the 32 counts behind it.
+fn tables_at(s: &[u8], at: usize, r: usize) -> Timestamp
+    requires { ⌜ at + 33 ≡ length (now s) ⌝ }
+    ensures { λ t. ⌜ stampOf t ≡ tablesAt at r (now (s .entry)) ⌝ }
+{
+    let kn = counts_of(s, at + 1, Timestamp::WIDTH);
+    let c = s[at] as usize;
+    Timestamp { r, c, kn }
+}
 
 // The tables that stand in the bytes: r in two, the low one first, c, and 32 counts. Written back they are those bytes.
 pub fn tables_of(s: &[u8]) -> Timestamp
@@ -22,10 +34,26 @@ pub fn tables_of(s: &[u8]) -> Timestamp
     ensures { λ r. ⌜ stampOf r ≡ tablesIn (now (s .entry)) ⌝ }
     ensures { λ r. ⌜ tablesBytes (stampOf r) ≡ now (s .entry) ⌝ }
 {
-    let kn = counts_of(s, 3, Timestamp::WIDTH);
-    let r = splice::two_at(s, 0);
-    let c = s[2] as usize;
-    Timestamp { r, c, kn }
+    tables_at(s, 2, splice::two_at(s, 0))
+}
+
+// 02, 2.9: an engine's tables: r in eight bytes.
+pub fn long_tables_of(s: &[u8]) -> Timestamp
+    requires { ⌜ length (now s) ≡ longTablesLength ⌝ }
+    ensures { λ r. ⌜ stampOf r ≡ longTablesIn (now (s .entry)) ⌝ }
+    ensures { λ r. ⌜ longTablesBytes (stampOf r) ≡ now (s .entry) ⌝ }
+{
+    tables_at(s, 8, splice::eight_at(s, 0) as usize)
+}
+
+// Writes c and the counts of tables into their last bytes, from a place on.
+fn put_tables_at(s: &mut [u8], at: usize, stamp: Timestamp)
+    requires { ⌜ (at + 33 ≡ length (now s)) × (stamp .c < 256) ⌝ }
+    ensures { λ _. ⌜ now (s .exit) ≡ pasted (now (s .entry)) at (stamp .c ∷ stamp .kn) ⌝ }
+{
+    let kn = stamp.kn;
+    s[at] = stamp.c as u8;
+    splice::copy_into(s, at + 1, &kn);
 }
 
 // Writes tables into their bytes.
@@ -34,10 +62,18 @@ pub fn put_tables(s: &mut [u8], stamp: Timestamp)
     requires { ⌜ (stamp .r < 65536) × (stamp .c < 256) ⌝ }
     ensures { λ _. ⌜ now (s .exit) ≡ tablesBytes (stampOf stamp) ⌝ }
 {
-    let kn = stamp.kn;
     splice::put_u16(s, 0, stamp.r);
-    s[2] = stamp.c as u8;
-    splice::copy_into(s, 3, &kn);
+    put_tables_at(s, 2, stamp);
+}
+
+// 02, 2.9: the same of an engine.
+pub fn put_long_tables(s: &mut [u8], stamp: Timestamp)
+    requires { ⌜ length (now s) ≡ longTablesLength ⌝ }
+    requires { ⌜ stamp .c < 256 ⌝ }
+    ensures { λ _. ⌜ now (s .exit) ≡ longTablesBytes (stampOf stamp) ⌝ }
+{
+    splice::put_u64(s, 0, stamp.r);
+    put_tables_at(s, 8, stamp);
 }
 
 // An observer's last clock from its two bytes, the low one first. Written back it is those bytes.

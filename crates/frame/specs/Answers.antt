@@ -1,7 +1,7 @@
 -- The answers of reader and writer in the model's terms. Assumes nothing.
 use Prim.Native.Nat.{ℕ}
-use mathlib.Core.List.{List}
-use Rattle.model.specs.Codec.{ReadAnswer, WriteAnswer}
+use mathlib.Core.List.{List, []}
+use Rattle.model.specs.Codec.{ReadAnswer, WriteAnswer, noTimestamp}
 use Rattle.timestamp.specs.Views.{stampOf}
 use Rattle.frame.specs.declared.reader.Reading.{Reading}
 use Rattle.frame.specs.declared.writer.Written.{Written}
@@ -10,6 +10,10 @@ use Rattle.frame.specs.declared.writer.Written.{Written}
 abbrev pub readAnswer : Reading → List ℕ → ReadAnswer
 readAnswer a payload =
     record { number = a .number; station = a .station; stamp = stampOf (a .stamp); payload = payload }
+
+-- 01: a refused reader "answers the number alone"
+abbrev pub refusedReading : ℕ → ReadAnswer
+refusedReading number = record { number = number; station = 0; stamp = noTimestamp; payload = [] }
 
 -- the writer's answer, with its buffer as it left it
 abbrev pub writeAnswer : Written → List ℕ → WriteAnswer

@@ -13,7 +13,7 @@ ghost use mathlib.Core.Bool.{true};
 ghost use Prim.Native.Nat.{ℕ, _≤_};
 ghost use Rattle.model.specs.Setup.{inLimits};
 ghost use lib.ListN.{length};
-ghost use Rattle.model.specs.Frame.{frameEnd, wellFormed, countsOf, payloadCountAt, decode};
+ghost use Rattle.model.specs.Frame.{frameEnd, laterFormed, wellFormed, countsOf, payloadCountAt, decode};
 ghost use Rattle.model.specs.Timestamp.{widened};
 ghost use Rattle.model.specs.Question.{firstNo, frameQuestions};
 ghost use Rattle.setup.specs.Views.{setupOf};
@@ -44,6 +44,20 @@ pub fn frame_end(epsilon: usize, s: &[u8]) -> usize
     at + 1 + byte_at(s, at) as usize
 }
 
+// 01, 10, of the second and the third section: are their counts right, "and is nothing left over?"
+pub fn later_formed(epsilon: usize, s: &[u8]) -> bool
+    requires { ⌜ epsilon ≤ 16 ⌝ }
+    ensures { λ r. ⌜ r ≡ laterFormed epsilon (now (s .entry)) ⌝ }
+{
+    if byte_at(s, STAMP_AT) as usize != 1 + 2 * epsilon {
+        return false;
+    }
+    if LONGEST_PAYLOAD < byte_at(s, COUNTS_AT + 2 * epsilon) as usize {
+        return false;
+    }
+    s.len() == frame_end(epsilon, s)
+}
+
 // 01, 10: "Are the three counts right, and is nothing left over?"
 fn well_formed(epsilon: usize, s: &[u8]) -> bool
     requires { ⌜ epsilon ≤ 16 ⌝ }
@@ -52,13 +66,7 @@ fn well_formed(epsilon: usize, s: &[u8]) -> bool
     if byte_at(s, 0) != NODE_SIZE {
         return false;
     }
-    if byte_at(s, STAMP_AT) as usize != 1 + 2 * epsilon {
-        return false;
-    }
-    if LONGEST_PAYLOAD < byte_at(s, COUNTS_AT + 2 * epsilon) as usize {
-        return false;
-    }
-    s.len() == frame_end(epsilon, s)
+    later_formed(epsilon, s)
 }
 
 // 01: the station.

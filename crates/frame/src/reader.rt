@@ -7,10 +7,11 @@ use setup::Setup;
 use setup::valid_for;
 use timestamp::Timestamp;
 ghost use mathlib.Core.Path.{_≡_};
+ghost use mathlib.Core.List.{[]};
 ghost use Rattle.model.specs.Question.{firstNo};
 ghost use Rattle.model.specs.Codec as codec;
 ghost use Rattle.setup.specs.Views.{setupOf};
-ghost use Rattle.frame.specs.Answers.{readAnswer};
+ghost use Rattle.frame.specs.Answers.{readAnswer, refusedReading};
 
 // What the reader answers, by value; the payload (01: the ticket) is the answer of `payload_of`.
 pub struct Reading {
@@ -30,6 +31,19 @@ fn check_read(setup: Setup, own: u32, frame: &[u8]) -> u8
     check(setup, frame)
 }
 
+// 01: a refused reader "answers the number alone".
+pub fn refused(number: u8) -> Reading
+    ensures { λ r. ⌜ readAnswer r [] ≡ refusedReading number ⌝ }
+{
+    let kn = [0u8; Timestamp::WIDTH];
+    let stamp = Timestamp { r: 0, c: 0, kn };
+    Reading {
+        number,
+        station: 0,
+        stamp,
+    }
+}
+
 // The answer of the reader.
 pub fn read(setup: Setup, own: u32, frame: &[u8]) -> Reading
     ensures { λ r. ⌜ readAnswer r (codec.read (setupOf setup) own (now (frame .entry)) .payload)
@@ -37,13 +51,7 @@ pub fn read(setup: Setup, own: u32, frame: &[u8]) -> Reading
 {
     let number = check_read(setup, own, frame);
     if number != 0 {
-        let kn = [0u8; Timestamp::WIDTH];
-        let stamp = Timestamp { r: 0, c: 0, kn };
-        return Reading {
-            number,
-            station: 0,
-            stamp,
-        };
+        return refused(number);
     }
     let stamp = stamp_of(setup.epsilon as usize, frame);
     Reading {

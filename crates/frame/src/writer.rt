@@ -23,7 +23,7 @@ ghost use Rattle.model.specs.Codec as codec;
 ghost use Rattle.splice.specs.Bytes.{pasted};
 ghost use Rattle.setup.specs.Views.{setupOf};
 ghost use Rattle.timestamp.specs.Views.{stampOf};
-ghost use Rattle.frame.specs.Lay.{Room, Laid};
+ghost use Rattle.frame.specs.Lay.{Room, Laid, LaterRoom, LaterLaid, contentsQuestions};
 ghost use Rattle.frame.specs.Answers.{writeAnswer};
 
 // 01: the first section, "3 (station, r in two bytes)", laid down at the front.
@@ -57,6 +57,17 @@ fn put_payload(rest: &mut [u8], payload: &[u8])
     splice::copy_into(rest, 1, payload);
 }
 
+// The second and the third section, laid down behind the four bytes of the first: says where they end.
+pub fn lay_later(epsilon: usize, stamp: Timestamp, payload: &[u8], out: &mut [u8]) -> usize
+    requires { ⌜ LaterRoom epsilon (stampOf stamp) (now payload) (now out) ⌝ }
+    ensures { λ r. ⌜ LaterLaid r (now (out .exit)) (frameOf epsilon 0 (stampOf stamp) (now (payload .entry))) (now (out .entry)) ⌝ }
+{
+    put_stamp(out, epsilon, stamp);
+    let at = COUNTS_AT + 2 * epsilon;
+    put_payload(&mut out[at..], payload);
+    at + 1 + payload.len()
+}
+
 // The writer with no questions asked, for callers that have answered them: lays the frame down and says how long it is.
 pub fn lay(
     epsilon: usize,
@@ -69,10 +80,7 @@ pub fn lay(
     ensures { λ r. ⌜ Laid r (now (out .exit)) (frameOf epsilon station (stampOf stamp) (now (payload .entry))) (now (out .entry)) ⌝ }
 {
     put_node(out, station, stamp.r);
-    put_stamp(out, epsilon, stamp);
-    let at = COUNTS_AT + 2 * epsilon;
-    put_payload(&mut out[at..], payload);
-    at + 1 + payload.len()
+    lay_later(epsilon, stamp, payload, out)
 }
 
 // What the writer answers.
@@ -81,6 +89,33 @@ pub struct Written {
     pub number: u8,
     // how many bytes it wrote
     pub size: usize,
+}
+
+// 01, 4, 11 and 12, of what is to be written: the number of the first no, or 0. `bound` is what r must be below.
+pub fn check_contents(
+    n: usize,
+    epsilon: usize,
+    bound: usize,
+    station: usize,
+    stamp: Timestamp,
+    payload: &[u8],
+) -> u8
+    requires { ⌜ (n ≤ 16) × ((1 ≤ epsilon) × (epsilon ≤ 16)) ⌝ }
+    ensures { λ r. ⌜ r ≡ firstNo (contentsQuestions n epsilon bound (frameOf epsilon station (stampOf stamp) (now (payload .entry)))) ⌝ }
+{
+    if LONGEST_PAYLOAD < payload.len() {
+        return 4;
+    }
+    if n <= station {
+        return 11;
+    }
+    if bound <= stamp.r {
+        return 11;
+    }
+    if !stamp.is_sound(n, epsilon) {
+        return 12;
+    }
+    0
 }
 
 // 01: "the writer asks 1, 4, 11, 12, then 6 if its buffer is shorter than this frame": the number of the first no, or 0.
@@ -100,17 +135,9 @@ fn check_write(
     let n = setup.n as usize;
     let epsilon = setup.epsilon as usize;
     let modulus = setup.modulus as usize;
-    if LONGEST_PAYLOAD < payload.len() {
-        return 4;
-    }
-    if n <= station {
-        return 11;
-    }
-    if modulus <= stamp.r {
-        return 11;
-    }
-    if !stamp.is_sound(n, epsilon) {
-        return 12;
+    let contents = check_contents(n, epsilon, modulus, station, stamp, payload);
+    if contents != 0 {
+        return contents;
     }
     if out.len() < OVERHEAD + 2 * epsilon + payload.len() {
         return 6;

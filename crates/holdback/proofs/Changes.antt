@@ -9,11 +9,11 @@ use mathlib.Core.List.{List, [], _∷_, _++_, append-assoc, append-nil}
 use lib.ListN.{length, take, drop, replicate, length-append, length-drop, length-replicate, take-append-drop, drop-of-length-le}
 use lib.Seq.{drop-drop, length-take-le, take-all, take-at, drop-at}
 use Rattle.laws.specs.Lists.{tab, every, joined, overlay, padded, insertAt}
-use Rattle.laws.proofs.Lists.{length-tab, take-tab, joined-append, joined-insertAt, length-insertAt}
+use Rattle.laws.proofs.Lists.{length-tab, take-tab, joined-append, joined-halves, joined-insertAt, length-insertAt}
 use Rattle.splice.specs.Bytes.{pasted, part, cleared, inserted, cutOut, zeros}
 use Rattle.splice.proofs.Laws.{pasted-pieces, inserted-pieces, cutOut-cleared, pasted-right, pasted-left}
 use Rattle.model.specs.Frame.{Frame, twoBytes, twoAt, encode, decode, wellFormed}
-use Rattle.model.specs.Holdback.{heldBytes, held, encodeFrames, encodeHoldback}
+use Rattle.model.specs.Holdback.{heldBytes, held, framesBy, encodeFrames, encodeHoldback}
 use Rattle.holdback.specs.Queue.{frameStart, bytesAt, frameAt, Spans}
 use Rattle.holdback.proofs.RoundTrip.{Bytes, encode-decode}
 use Rattle.holdback.proofs.Frames.{heldBytes-tab, held-tab, FormedUpTo, take-start, start-within}
@@ -48,7 +48,7 @@ module _ (epsilon : ℕ) (s : List ℕ) (bytes : Bytes s) (two : 2 ≤ length s)
       let x : List ℕ = joined encode (take k q) in
       let y : List ℕ = joined encode (drop k q) in
       let all : joined encode (tab n (frameAt epsilon s)) ≡ x ++ y =
-      ap (joined encode) (sym (held-tab epsilon s)) ∙ ap (joined encode) (sym (take-append-drop k q)) ∙ joined-append encode (take k q) (drop k q) in
+      ap (joined encode) (sym (held-tab epsilon s)) ∙ joined-halves encode k q in
       let some : tab k (frameAt epsilon s) ≡ take k q =
       sym (take-tab k n (frameAt epsilon s) h) ∙ ap (take k) (sym (held-tab epsilon s)) in
       let f : frameStart epsilon s k ≡ 2 + length x =
@@ -100,6 +100,37 @@ put-pieces c d x y rest src at end same a e =
     ∙ append-assoc c x (src ++ (y ++ drop (length src) rest)))
     ∙ pasted-pieces [] c (x ++ (src ++ (y ++ drop (length src) rest))) d 0 refl (sym same)
 
+-- a frame put in before frame k of a queue, however its frames are written
+pub put-frames :
+    (bytes : Frame → List ℕ) (queue : List Frame) (k : ℕ) (f : Frame) (s rest : List ℕ) (at end : ℕ) → s ≡ framesBy bytes queue ++ rest
+    → at ≡ 2 + length (joined bytes (take k queue)) → end ≡ at + length (joined bytes (drop k queue))
+    → pasted (inserted s end at (bytes f)) 0 (twoBytes (length queue + 1)) ≡ overlay (framesBy bytes (insertAt k f queue)) s
+unfolding overlay twoBytes
+put-frames bytes queue k f s rest at end is front back =
+    let n : ℕ = length queue in
+    let x : List ℕ = joined bytes (take k queue) in
+    let y : List ℕ = joined bytes (drop k queue) in
+    let src : List ℕ = bytes f in
+    let whole : s ≡ twoBytes n ++ (x ++ (y ++ rest)) =
+    is
+    ∙ ap (λ (r : List ℕ). (twoBytes n ++ r) ++ rest) (joined-halves bytes k queue)
+    ∙ append-assoc (twoBytes n) (x ++ y) rest
+    ∙ ap (λ (r : List ℕ). twoBytes n ++ r) (append-assoc x y rest) in
+    let behind : drop end s ≡ rest =
+    ap (drop end) (is ∙ ap (λ (r : List ℕ). (twoBytes n ++ r) ++ rest) (joined-halves bytes k queue))
+    ∙ drop-at (twoBytes n ++ (x ++ y)) rest end (omega (arith, length-append x y)) in
+    let new : framesBy bytes (insertAt k f queue) ≡ twoBytes (n + 1) ++ (x ++ (src ++ y)) =
+    ap₂ (λ (m : ℕ) (r : List ℕ). twoBytes m ++ r) (length-insertAt k f queue ∙ omega arith) (joined-insertAt bytes k f queue) in
+    let size : length (framesBy bytes (insertAt k f queue)) ≡ end + length src =
+    ap length new ∙ omega (arith, length-append x (src ++ y), length-append src y) in
+    ap (λ (r : List ℕ). pasted (inserted r end at src) 0 (twoBytes (n + 1))) whole
+    ∙ put-pieces (twoBytes n) (twoBytes (n + 1)) x y rest src at end refl front back
+    ∙ sym
+    (ap₂ _++_ new (ap (λ (m : ℕ). drop m s) size ∙ sym (drop-drop (length src) end s) ∙ ap (drop (length src)) behind)
+    ∙ append-assoc (twoBytes (n + 1)) (x ++ (src ++ y)) (drop (length src) rest)
+    ∙ ap (λ (r : List ℕ). twoBytes (n + 1) ++ r)
+    (append-assoc x (src ++ y) (drop (length src) rest) ∙ ap (λ (r : List ℕ). x ++ r) (append-assoc src y (drop (length src) rest))))
+
 module _ (epsilon : ℕ) (s : List ℕ) (k : ℕ) (p : Pieces epsilon s k) where
   abbrev q : List Frame
   q = held epsilon s
@@ -116,23 +147,17 @@ module _ (epsilon : ℕ) (s : List ℕ) (k : ℕ) (p : Pieces epsilon s k) where
   put-made : (f : Frame) (src l : List ℕ) → encode f ≡ src
       → l ≡ pasted (inserted s end (frameStart epsilon s k) src) 0 (twoBytes (twoAt s 0 + 1))
       → l ≡ overlay (encodeFrames (insertAt k f q)) s
-  unfolding overlay encodeFrames twoBytes
+  unfolding encodeFrames
   put-made f src l e made =
-      let n : ℕ = twoAt s 0 in
-      let tail : List ℕ = drop (length src) (drop end s) in
-      let new : encodeFrames (insertAt k f q) ≡ twoBytes (n + 1) ++ (first ++ (src ++ others)) =
-      ap₂ (λ (m : ℕ) (r : List ℕ). twoBytes m ++ r)
-      (length-insertAt k f q ∙ omega (arith, length-held epsilon s))
-      (joined-insertAt encode k f q ∙ ap (λ (r : List ℕ). first ++ (r ++ others)) e) in
-      let size : length (encodeFrames (insertAt k f q)) ≡ end + length src =
-      ap length new ∙ omega (arith, length-append first (src ++ others), length-append src others, p .front, p .back) in
-      made
-      ∙ ap (λ (r : List ℕ). pasted (inserted r end (frameStart epsilon s k) src) 0 (twoBytes (n + 1))) (p .split)
-      ∙ put-pieces (twoBytes n) (twoBytes (n + 1)) first others (drop end s) src (frameStart epsilon s k) end refl (p .front) (p .back)
+      let whole : s ≡ encodeFrames q ++ drop end s =
+      p .split
       ∙ sym
-      (ap₂ _++_ new (ap (λ (m : ℕ). drop m s) size ∙ sym (drop-drop (length src) end s))
-      ∙ append-assoc (twoBytes (n + 1)) (first ++ (src ++ others)) tail
-      ∙ ap (λ (r : List ℕ). twoBytes (n + 1) ++ r) (append-assoc first (src ++ others) tail ∙ ap (λ (r : List ℕ). first ++ r) (append-assoc src others tail)))
+      (ap₂ (λ (n : ℕ) (r : List ℕ). (twoBytes n ++ r) ++ drop end s) (length-held epsilon s) (joined-halves encode k q)
+      ∙ append-assoc (twoBytes (twoAt s 0)) (first ++ others) (drop end s)
+      ∙ ap (λ (r : List ℕ). twoBytes (twoAt s 0) ++ r) (append-assoc first others (drop end s))) in
+      made
+      ∙ ap₂ (λ (r : List ℕ) (n : ℕ). pasted (inserted s end (frameStart epsilon s k) r) 0 (twoBytes (n + 1))) (sym e) (sym (length-held epsilon s))
+      ∙ put-frames encode q k f s (drop end s) (frameStart epsilon s k) end whole (p .front) (p .back)
 
   -- ---- cutting off the first k frames
 

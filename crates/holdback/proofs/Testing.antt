@@ -100,11 +100,17 @@ places-placed s v f rank e = ap (placesTo s) e
 pub rank-read : (s : Setup) (v : ℕ) (f : Frame) (reading : ℕ) {rank : Rank} → rank ≡ rankAt reading f → reading ≡ readingOf s v f → rank ≡ rankOf s v f
 rank-read s v f reading e r = e ∙ ap (λ (x : ℕ). rankAt x f) r
 
+-- the key of a rank and counts is that of their frame, with its r at the reading
+pub key-read : (epsilon reading : ℕ) (f : Frame) (rank : Rank) (kn : List ℕ) → rank ≡ rankAt reading f → kn ≡ f .stamp .kn
+    → keyBy epsilon (rank .reading) (rankedFrame rank kn) ≡ keyBy epsilon reading f
+unfolding keyBy countsDown
+key-read epsilon reading f rank kn er ek =
+    ap₂ (λ (q : Rank) (l : List ℕ). keyBy epsilon (q .reading) (rankedFrame q l)) er ek
+
 pub key-ranked : (s : Setup) (v : ℕ) (f : Frame) (rank : Rank) (kn : List ℕ) → rank ≡ rankOf s v f → kn ≡ f .stamp .kn
     → keyBy (s .epsilon) (rank .reading) (rankedFrame rank kn) ≡ keyNear s v f
-unfolding keyNear key keyBy countsDown
-key-ranked s v f rank kn er ek =
-    ap₂ (λ (q : Rank) (l : List ℕ). keyBy (s .epsilon) (q .reading) (rankedFrame q l)) er ek
+unfolding keyNear key
+key-ranked s v f rank kn er ek = key-read (s .epsilon) (readingOf s v f) f rank kn er ek
 
 less-first : (tags : Tags) (o : Comparison) → tags .tag o ≡ 0 → true ≡ isLess (comparisonOf o .order)
 less-first tags (First reason) t = refl
@@ -147,13 +153,18 @@ ranked s v bytes kn rank limits ok ek e =
       long = omega arith;
     }
 
+pub rank-low : (s : Setup) (v : ℕ) (f : Frame) (rank : Rank) → Limits s → rank ≡ rankOf s v f → rank .reading ≤ 2 ^ 17
+rank-low s v f rank limits e =
+    let er : rank .reading ≡ readingOf s v f = ap (λ (q : Rank). q .reading) e in
+    omega (arith, reading-high s v f limits)
+
 -- what a frame that fits says of its rank
 pub rank-fits : (s : Setup) (v least : ℕ) (bytes : List ℕ) (rank : Rank) → Limits s → fits s v least bytes ≡ true → rank ≡ rankOf s v (decode (s .epsilon) bytes)
     → (rank .reading ≤ 2 ^ 17) × ((rank .c < s .epsilon) × (timely s least rank ≡ true))
 rank-fits s v least bytes rank limits h e =
     let ok = fits-passes s v least bytes h in
     let o = ranked s v bytes (decode (s .epsilon) bytes .stamp .kn) rank limits ok refl e in
-    (o .small, (o .lead, fits-by s v least bytes rank ok e ∙ h))
+    (rank-low s v (decode (s .epsilon) bytes) rank limits e, (o .lead, fits-by s v least bytes rank ok e ∙ h))
 
 -- by ranks and counts as by the frames themselves
 pub before-by : (s : Setup) (v : ℕ) (f g : Frame) (rf rg : Rank) (kf kg : List ℕ) → rf ≡ rankOf s v f → kf ≡ f .stamp .kn → rg ≡ rankOf s v g → kg ≡ g .stamp .kn

@@ -35,7 +35,7 @@ use Rattle.holdback.proofs.Judging.{fitting, frame-fits, frame-follows,
 use Rattle.holdback.proofs.Started.{changed-long, place-inside, sums-rise, starts-by, start-at, filled-more, spans-small}
 use Rattle.holdback.proofs.Seen.{fitting-placeable, within, rank-slot, seen-at, seen-more, length-seen}
 use Rattle.holdback.proofs.Newest.{newest-before}
-use Rattle.holdback.proofs.Testing.{check-yes, unfit-passes, fits-by, ranked, rank-fits, places-placed, before-by}
+use Rattle.holdback.proofs.Testing.{check-yes, unfit-passes, fits-by, ranked, rank-low, rank-fits, places-placed, before-by}
 
 -- ---- two frames compared, by the counts that the code lends
 
@@ -180,7 +180,7 @@ module _ {s : Setup} {v least : ℕ} {b table : List ℕ} {i prev : ℕ} {last :
           ranked s v (bytesAt (s .epsilon) b i) (countsAt (s .epsilon) b at) rank limits own-passes own-counts own-rank
 
       pub rank-small : Limits s → (rank .reading ≤ 2 ^ 17) × (rank .c < s .epsilon)
-      rank-small limits = let o = own-ranked limits in (o .small, o .lead)
+      rank-small limits = (rank-low s v (frameAt (s .epsilon) b i) rank limits own-rank, own-ranked limits .lead)
 
       pub compared : Limits s → Compared (s .epsilon) b i prev last at rank
       compared limits = record { narrow = limits .epsilon-most; own = own-ranked limits; previous = λ n. ranked-before limits i refl n }

@@ -13,6 +13,7 @@ mod timing;
 pub use change::Place;
 pub use change::empty;
 pub use change::put;
+pub use compare::comes_before;
 pub use compare::rank_of;
 pub use due::cut_due;
 pub use due::due_prefix;

@@ -11,9 +11,9 @@ use mathlib.Core.Option.{none, some, Option·elim}
 use mathlib.Core.Path.{_≡_, refl, sym, ap, ap₂, _∙_}
 use lib.Dec.{leb, eqb, eqb·zero-suc, eqb·suc-zero, eqb·suc-suc}
 use lib.ListN.{length, take, drop, getD, set, replicate, getElem?}
-use lib.ListN.{length-append, length-drop, length-replicate, List·getD-eq-default}
+use lib.ListN.{length-append, length-drop, length-replicate, take-append-drop, List·getD-eq-default}
 use borrow.Author.Tests.{eqb-true, eq-eqb, leb-true}
-use lib.Seq.{take-nil, take-append-seam, drop-append-seam}
+use lib.Seq.{take-nil, length-take-le, take-append-seam, drop-append-seam, drop-append-add, drop-drop}
 use Rattle.laws.specs.Lists.{tab, every, any, select, selectFrom, sameList, leading, insertAt, overlay, joined, largest, smallest, padded}
 use Rattle.laws.proofs.Numbers.{lt-or-ge, true-or-false, clash, and-intro, and-left, and-right, or-left, or-right, or-cases, or-false-left, or-false-right, false-of-no}
 
@@ -422,6 +422,19 @@ module _ {A : Type 0} where
   unfolding overlay
   drop-overlay new old = drop-append-seam new (drop (length new) old)
 
+  pub overlay-own : (n : ℕ) (l : List A) → n ≤ length l → overlay (take n l) l ≡ l
+  unfolding overlay
+  overlay-own n l h = ap (λ (k : ℕ). take n l ++ drop k l) (length-take-le n l h) ∙ take-append-drop n l
+
+  -- what is laid over a shorter one hides it
+  pub overlay-hides : (a b l : List A) → length b ≤ length a → overlay a (overlay b l) ≡ overlay a l
+  unfolding overlay
+  overlay-hides a b l h =
+      let n : ℕ = length a - length b in
+      let e : length a ≡ length b + n = omega arith in
+      ap (λ (r : List A). a ++ r)
+      (ap (λ (k : ℕ). drop k (b ++ drop (length b) l)) e ∙ drop-append-add b (drop (length b) l) n ∙ drop-drop n (length b) l ∙ ap (λ (k : ℕ). drop k l) (sym e))
+
   -- elements by position
   pub getElem?-append : (l r : List A) (i : ℕ) → i < length l → getElem? (l ++ r) i ≡ getElem? l i
   getElem?-append [] r i h = absurd (not-suc-le-zero h)
@@ -665,6 +678,10 @@ module _ {A B : Type 0} where
   unfolding joined
   joined-append f [] b = refl
   joined-append f (x ∷ a) b = rw (joined-append f a b, append-assoc)
+
+  -- by the first k elements and the others
+  pub joined-halves : (f : A → List B) (k : ℕ) (l : List A) → joined f l ≡ joined f (take k l) ++ joined f (drop k l)
+  joined-halves f k l = ap (joined f) (sym (take-append-drop k l)) ∙ joined-append f (take k l) (drop k l)
 
   pub joined-insertAt : (f : A → List B) (i : ℕ) (x : A) (l : List A) → joined f (insertAt i x l) ≡ joined f (take i l) ++ (f x ++ joined f (drop i l))
   unfolding joined insertAt

@@ -11,6 +11,7 @@ use mathlib.Core.Path.{_≡_, refl, sym, ap, ap₂, _∙_}
 use mathlib.Core.Option.{some}
 use lib.Dec.{eqb}
 use lib.ListN.{length, take, drop, getD, getElem?, take-append-drop}
+use lib.Seq.{take-append-seam}
 use borrow.Author.Tests.{eqb-true, eqb-false, eq-eqb, ne-eqb}
 use Rattle.laws.specs.Lists.{every, any, select, selectFrom, leading, insertAt, chained, apart}
 use Rattle.laws.specs.Lex.{isLess, lexCompare}
@@ -366,6 +367,15 @@ module _ {A : Type 0} (same : A → A → Bool) where
   apart-append a b h k f =
       apart-of-pairwise (a ++ b)
       (pairwise-append (λ x y. not (same x y)) a b (pairwise-of-apart a h) (pairwise-of-apart b k) (λ x y m n. not-of-false (f x y m n)))
+
+  pub apart-front : (a b : List A) → apart same (a ++ b) ≡ true → apart same a ≡ true
+  apart-front a b h =
+      apart-of-pairwise a
+      (rw (take-append-seam a b) at (pairwise-take (λ x y. not (same x y)) (length a) (a ++ b) (pairwise-of-apart (a ++ b) h)))
+
+  pub apart-across : (a b : List A) {x y : A} → apart same (a ++ b) ≡ true → List·Memᴰ x a → List·Memᴰ y b → same x y ≡ false
+  apart-across a b {x} {y} h m n =
+      false-of-not (same x y) (pairwise-across (λ x y. not (same x y)) a b (pairwise-of-apart (a ++ b) h) m n)
 
 -- how many there can be
 module _ {A : Type 0} where

@@ -1,17 +1,16 @@
 -- What a tick and an observer's call do alike: the shelf opened, the bundle heard by whatever is asked, and what is delivered and kept.
 -- Assumes nothing.
-use Prim.Native.Nat.{ℕ, zero, suc, _+_, _-_, _*_, _%_, _≤_, _<_}
+use Prim.Native.Nat.{ℕ, _+_, _-_, _*_, _%_, _≤_, _<_}
 use native.Mathlib.Omega.{arith}
-use native.Mathlib.Nat.{mod-eq-of-lt, add-zero, zero-add}
-use mathlib.Core.Path.{_≡_, refl, sym, ap, subst, _∙_}
+use native.Mathlib.Nat.{mod-eq-of-lt, zero-add}
+use mathlib.Core.Path.{_≡_, sym, ap, subst, _∙_}
 use mathlib.Core.Logic.{_⊎_, inl, inr}
 use mathlib.Core.Bool.{true}
-use mathlib.Core.List.{List, [], _∷_, _++_, map, List·Memᴰ, List·Memᴰ·append-cases, append-nil, append-assoc}
+use mathlib.Core.List.{List, [], _∷_, _++_, map, List·Memᴰ, List·Memᴰ·append-cases}
 use mathlib.Core.Option.{some}
-use lib.ListN.{length, take, drop, getD, getElem?, length-append, List·getD-append}
-use lib.Seq.{getD-append-seam}
-use Rattle.laws.specs.Lists.{select, overlay, foldLeft}
-use Rattle.laws.proofs.Lists.{mem-of-select, take-overlay, getElem?-lt}
+use lib.ListN.{length, take, drop, getD, getElem?, length-append}
+use Rattle.laws.specs.Lists.{select, overlay}
+use Rattle.laws.proofs.Lists.{mem-of-select}
 use Rattle.laws.proofs.Sorted.{Sorted}
 use Rattle.model.specs.Setup.{Setup, depth}
 use Rattle.model.specs.Timestamp.{clockStep}
@@ -19,11 +18,12 @@ use Rattle.model.specs.Frame.{Frame, encode, decode}
 use Rattle.model.specs.Order.{keyNear}
 use Rattle.model.specs.Holdback.{heldBytes, held, soundHoldback, encodeFrames, encodeHoldback}
 use Rattle.model.specs.Question.{firstNo}
-use Rattle.model.specs.Judge.{Asking, Heard, verdictBy, judge, hearBy, hear, hearOne, placeFor}
+use Rattle.model.specs.Judge.{Asking, Heard, judge, hear, hearOne, placeFor}
 use Rattle.model.specs.Tick.{holdbackSize, openingQueue, dueBefore, dueNow, earlyIn, openingIn, deliveredIn, keptIn}
 use Rattle.lemmas.proofs.Bounds.{Limits, FrameOk, QueueOk}
 use Rattle.lemmas.proofs.Reading.{step-true}
 use Rattle.lemmas.proofs.RoundTrip.{held-encode, held-holdback, length-holdback}
+use Rattle.lemmas.proofs.Hearing.{by-verdict, by-queue, numbersBy, fold-queue, fold-verdicts, fold-length, all-length, all-front, all-verdict}
 use Rattle.lemmas.proofs.Queue.{Places, opening-queue, queue-rest, queue-take, early-few, due-few, both-few, due-sorted, queue-sound, queue-bound, queue-room, QueueLeft, queue-left, left-later, left-ok, left-room, depth-small}
 
 -- one entry, one step of the hearing: the queue stays sound
@@ -31,84 +31,35 @@ pub hearing-one :
     (s : Setup) (v : ℕ) (asking : Asking) (h : Heard) (bytes : List ℕ) → Limits s → v < s .modulus → Places s v asking
     → QueueOk s v (s .modulus) (h .queue) → QueueOk s v (s .modulus) (hearOne s v asking h bytes .queue)
 unfolding hearOne judge
-hearing-one s v asking h bytes lim below places hg = go (firstNo (asking (h .queue) bytes)) refl
-  where
-    f : Frame
-    f = decode (s .epsilon) bytes
-
-    place : ℕ
-    place = placeFor s v (h .queue) f
-
-    go : (k : ℕ) → firstNo (asking (h .queue) bytes) ≡ k → QueueOk s v (s .modulus) (hearBy (verdictBy k place) f h .queue)
-    go zero e = queue-take s v (h .queue) f lim below hg (places (h .queue) bytes e)
-    go (suc k) e = hg
+hearing-one s v asking h bytes lim below places hg =
+    let f = decode (s .epsilon) bytes in
+    by-queue (QueueOk s v (s .modulus)) (firstNo (asking (h .queue) bytes)) (placeFor s v (h .queue) f) f h
+    (λ e. queue-take s v (h .queue) f lim below hg (places (h .queue) bytes e)) hg
 
 pub hearing-all :
     (s : Setup) (v : ℕ) (asking : Asking) (h : Heard) (entries : List (List ℕ)) → Limits s → v < s .modulus → Places s v asking
     → QueueOk s v (s .modulus) (h .queue) → QueueOk s v (s .modulus) (hear s v asking h entries .queue)
-unfolding hear foldLeft
-hearing-all s v asking h [] lim below places hg = hg
-hearing-all s v asking h (bytes ∷ rest) lim below places hg =
-    hearing-all s v asking (hearOne s v asking h bytes) rest lim below places (hearing-one s v asking h bytes lim below places hg)
+unfolding hear
+hearing-all s v asking h entries lim below places hg =
+    fold-queue asking (hearOne s v asking) (QueueOk s v (s .modulus)) (λ x bytes p. hearing-one s v asking x bytes lim below places p) h entries hg
 
 -- each entry's verdict is written behind those before it
 pub hear-one-verdict : (s : Setup) (v : ℕ) (asking : Asking) (h : Heard) (bytes : List ℕ) → hearOne s v asking h bytes .verdicts ≡ h .verdicts ++ (firstNo (asking (h .queue) bytes) ∷ [])
 unfolding hearOne judge
-hear-one-verdict s v asking h bytes = go (firstNo (asking (h .queue) bytes))
-  where
-    go : (k : ℕ) → hearBy (verdictBy k (placeFor s v (h .queue) (decode (s .epsilon) bytes))) (decode (s .epsilon) bytes) h .verdicts ≡ h .verdicts ++ (k ∷ [])
-    go zero = refl
-    go (suc k) = refl
+hear-one-verdict s v asking h bytes =
+    by-verdict (firstNo (asking (h .queue) bytes)) (placeFor s v (h .queue) (decode (s .epsilon) bytes)) (decode (s .epsilon) bytes) h
 
 -- the verdicts of the entries, without those before them
-unfoldable pub numbersOf : Setup → ℕ → Asking → Heard → List (List ℕ) → List ℕ
-numbersOf s v asking h [] = []
-numbersOf s v asking h (bytes ∷ rest) = firstNo (asking (h .queue) bytes) ∷ numbersOf s v asking (hearOne s v asking h bytes) rest
+abbrev pub numbersOf : Setup → ℕ → Asking → Heard → List (List ℕ) → List ℕ
+numbersOf s v asking h entries = numbersBy asking (hearOne s v asking) h entries
 
 pub hear-verdicts : (s : Setup) (v : ℕ) (asking : Asking) (h : Heard) (entries : List (List ℕ)) → hear s v asking h entries .verdicts ≡ h .verdicts ++ numbersOf s v asking h entries
-unfolding hear foldLeft numbersOf
-hear-verdicts s v asking h [] = sym (append-nil (h .verdicts))
-hear-verdicts s v asking h (bytes ∷ rest) =
-    hear-verdicts s v asking (hearOne s v asking h bytes) rest
-    ∙ (ap (λ (l : List ℕ). l ++ numbersOf s v asking (hearOne s v asking h bytes) rest) (hear-one-verdict s v asking h bytes)
-    ∙ append-assoc (h .verdicts) (firstNo (asking (h .queue) bytes) ∷ []) (numbersOf s v asking (hearOne s v asking h bytes) rest))
-
-pub hear-one-length : (s : Setup) (v : ℕ) (asking : Asking) (h : Heard) (bytes : List ℕ) → length (hearOne s v asking h bytes .verdicts) ≡ length (h .verdicts) + 1
-hear-one-length s v asking h bytes = rw (hear-one-verdict s v asking h bytes) (length-append (h .verdicts) _)
+unfolding hear
+hear-verdicts s v asking h entries = fold-verdicts asking (hearOne s v asking) (hear-one-verdict s v asking) h entries
 
 pub hear-length : (s : Setup) (v : ℕ) (asking : Asking) (h : Heard) (entries : List (List ℕ)) → length (hear s v asking h entries .verdicts) ≡ length (h .verdicts) + length entries
-unfolding hear foldLeft
-hear-length s v asking h [] = sym (add-zero (length (h .verdicts)))
-hear-length s v asking h (bytes ∷ rest) =
-    let one = hear-one-length s v asking h bytes in
-    let all = hear-length s v asking (hearOne s v asking h bytes) rest in
-    omega arith
-
--- what was written stays
-pub hear-keeps : (s : Setup) (v : ℕ) (asking : Asking) (h : Heard) (entries : List (List ℕ)) (k : ℕ) → k < length (h .verdicts) → getD (hear s v asking h entries .verdicts) k 0 ≡ getD (h .verdicts) k 0
-unfolding hear foldLeft
-hear-keeps s v asking h [] k below = refl
-hear-keeps s v asking h (bytes ∷ rest) k below =
-    hear-keeps s v asking (hearOne s v asking h bytes) rest k (omega (arith, hear-one-length s v asking h bytes))
-    ∙ (ap (λ (l : List ℕ). getD l k 0) (hear-one-verdict s v asking h bytes) ∙ List·getD-append (h .verdicts) _ 0 k below)
-
-pub hear-verdict :
-    (s : Setup) (v : ℕ) (asking : Asking) (h : Heard) (entries : List (List ℕ)) (k : ℕ) (entry : List ℕ) → getElem? entries k ≡ some entry
-    → getD (hear s v asking h entries .verdicts) (length (h .verdicts) + k) 0 ≡ firstNo (asking (hear s v asking h (take k entries) .queue) entry)
-unfolding hear foldLeft
-hear-verdict s v asking h [] k entry e = absurd (let z : _≡_ {A = ℕ} 0 1 = cc in omega arith)
-hear-verdict s v asking h (bytes ∷ rest) zero entry e =
-    let same : bytes ≡ entry = cc in
-    let after = hearOne s v asking h bytes in
-    rw (add-zero (length (h .verdicts)))
-    (hear-keeps s v asking after rest (length (h .verdicts)) (omega (arith, hear-one-length s v asking h bytes))
-    ∙ (ap (λ (l : List ℕ). getD l (length (h .verdicts)) 0) (hear-one-verdict s v asking h bytes)
-    ∙ (getD-append-seam (h .verdicts) (firstNo (asking (h .queue) bytes)) [] 0
-    ∙ ap (λ (b : List ℕ). firstNo (asking (h .queue) b)) same)))
-hear-verdict s v asking h (bytes ∷ rest) (suc k) entry e =
-    let after = hearOne s v asking h bytes in
-    let there : length (h .verdicts) + suc k ≡ length (after .verdicts) + k = omega (arith, hear-one-length s v asking h bytes) in
-    rw there (hear-verdict s v asking after rest k entry e)
+unfolding hear
+hear-length s v asking h entries = fold-length asking (hearOne s v asking) (hear-one-verdict s v asking) h entries
 
 -- the step to the clock k later
 pub step-later : (s : Setup) (v k : ℕ) → Limits s → v < s .modulus → k ≤ s .epsilon → clockStep (s .modulus) v ((v + k) % s .modulus) ≡ k
@@ -140,19 +91,18 @@ module _ (s : Setup) (v least : ℕ) (asking : Asking) (holdback : List ℕ) (en
 
   -- the verdict buffer
   pub board-length : length (boardHeard .verdicts) ≡ length entries
-  board-length = hear-length s v asking (openingIn s v boardOpened) entries ∙ zero-add (length entries)
+  unfolding hear
+  board-length = all-length asking (hearOne s v asking) (hear-one-verdict s v asking) (openingIn s v boardOpened .queue) entries
 
   pub board-front : (old : List ℕ) → take (length entries) (overlay (boardHeard .verdicts) old) ≡ boardHeard .verdicts
-  board-front old = ap (λ (k : ℕ). take k (overlay (boardHeard .verdicts) old)) (sym board-length) ∙ take-overlay (boardHeard .verdicts) old
+  unfolding hear
+  board-front = all-front asking (hearOne s v asking) (hear-one-verdict s v asking) (openingIn s v boardOpened .queue) entries
 
   pub board-verdict :
       (old : List ℕ) (k : ℕ) (entry : List ℕ) → getElem? entries k ≡ some entry
       → getD (overlay (boardHeard .verdicts) old) k 0 ≡ firstNo (asking (hear s v asking (openingIn s v boardOpened) (take k entries) .queue) entry)
-  unfolding overlay
-  board-verdict old k entry e =
-      let inside = getElem?-lt entries k e in
-      List·getD-append (boardHeard .verdicts) (drop (length (boardHeard .verdicts)) old) 0 k (omega (arith, board-length, inside))
-      ∙ (ap (λ (m : ℕ). getD (boardHeard .verdicts) m 0) (sym (zero-add k)) ∙ hear-verdict s v asking (openingIn s v boardOpened) entries k entry e)
+  unfolding hear
+  board-verdict = all-verdict asking (hearOne s v asking) (hear-one-verdict s v asking) (openingIn s v boardOpened .queue) entries
 
   module _ (board : Board s v least asking) where
     pub board-opened : QueueOk s v least boardOpened

@@ -23,6 +23,14 @@ pub record Limits (s : Setup) : Type 0 where
   pub modulus-least : 6 * s .epsilon + s .delta + 1 ≤ s .modulus
   pub modulus-most : s .modulus ≤ 65535
 
+-- those of an engine's setup (02, 2.9), which has no B
+pub record LongLimits (s : Setup) : Type 0 where
+  pub n-pos : 1 ≤ s .n
+  pub n-most : s .n ≤ 16
+  pub epsilon-pos : 1 ≤ s .epsilon
+  pub epsilon-most : s .epsilon ≤ 16
+  pub delta-most : s .delta ≤ 64
+
 -- a sound timestamp of 2ε counts
 pub record Sound (n epsilon : ℕ) (t : Timestamp) : Type 0 where
   pub wide : length (t .kn) ≡ width epsilon

@@ -174,17 +174,24 @@ pub clock-sound : (epsilon B v r k : ℕ) → r < B → clockStep B r v ≡ k �
 unfolding within
 clock-sound epsilon B v r k below e pos few = and-intro (lt-ltb r B below) (rw e (and-intro (le-leb 1 k pos) (le-leb k epsilon few)))
 
--- the tests that tables pass besides
-tables-rest : (n epsilon B v : ℕ) (t : Timestamp) → soundTables n epsilon B v t ≡ true → (soundClock epsilon B v (t .r) && atMost (n - 1) (countsFrom epsilon 0 (t .kn) 1)) ≡ true
-unfolding soundTables
-tables-rest n epsilon B v t h = and-right (soundTimestamp n epsilon t) _ h
+-- the tests that tables pass: of their stamp, of their clock, whatever it is, and of the counts past it
+beside-rest : (clock : Bool) (n epsilon : ℕ) (t : Timestamp) → soundBeside clock n epsilon t ≡ true → (clock && atMost (n - 1) (countsFrom epsilon 0 (t .kn) 1)) ≡ true
+beside-rest clock n epsilon t h = and-right (soundTimestamp n epsilon t) _ h
+
+pub beside-clock : (clock : Bool) (n epsilon : ℕ) (t : Timestamp) → soundBeside clock n epsilon t ≡ true → clock ≡ true
+beside-clock clock n epsilon t h = and-left clock _ (beside-rest clock n epsilon t h)
+
+beside-sound : (clock : Bool) (n epsilon : ℕ) (t : Timestamp) → soundBeside clock n epsilon t ≡ true → soundTimestamp n epsilon t ≡ true
+beside-sound clock n epsilon t h = and-left (soundTimestamp n epsilon t) _ h
+
+-- no count of sound tables past their clock is full
+beside-room : (clock : Bool) (n epsilon : ℕ) (t : Timestamp) → soundBeside clock n epsilon t ≡ true → (i : ℕ) → epsilon < i → placedAt 0 (t .kn) i ≤ n - 1
+beside-room clock n epsilon t h i k =
+    at-most-past (n - 1) epsilon 0 (t .kn) 1 (and-right clock _ (beside-rest clock n epsilon t h)) i (omega arith)
 
 pub tables-clock : (n epsilon B v : ℕ) (t : Timestamp) → soundTables n epsilon B v t ≡ true → soundClock epsilon B v (t .r) ≡ true
-tables-clock n epsilon B v t h = and-left (soundClock epsilon B v (t .r)) _ (tables-rest n epsilon B v t h)
-
-pub tables-sound : (n epsilon B v : ℕ) (t : Timestamp) → soundTables n epsilon B v t ≡ true → soundTimestamp n epsilon t ≡ true
 unfolding soundTables
-tables-sound n epsilon B v t h = and-left (soundTimestamp n epsilon t) _ h
+tables-clock n epsilon B v t h = beside-clock (soundClock epsilon B v (t .r)) n epsilon t h
 
 -- the step of sound tables is 1 to ε
 pub tables-step : (n epsilon B v : ℕ) (t : Timestamp) → soundTables n epsilon B v t ≡ true → (1 ≤ clockStep B (t .r) v) × (clockStep B (t .r) v ≤ epsilon)
@@ -192,12 +199,6 @@ tables-step n epsilon B v t h = clock-steps epsilon B v (t .r) (tables-clock n e
 
 pub tables-below : (n epsilon B v : ℕ) (t : Timestamp) → soundTables n epsilon B v t ≡ true → t .r < B
 tables-below n epsilon B v t h = ltb-true (t .r) B (and-left (ltb (t .r) B) _ (tables-clock n epsilon B v t h))
-
--- no count of sound tables past their clock is full
-pub tables-room : (n epsilon B v : ℕ) (t : Timestamp) → soundTables n epsilon B v t ≡ true → (i : ℕ) → epsilon < i → placedAt 0 (t .kn) i ≤ n - 1
-tables-room n epsilon B v t h i k =
-    at-most-past (n - 1) epsilon 0 (t .kn) 1
-    (and-right (soundClock epsilon B v (t .r)) _ (tables-rest n epsilon B v t h)) i (omega arith)
 
 pub trimmed-wide : (epsilon : ℕ) (t : Timestamp) → length (trimmed epsilon t .kn) ≡ width epsilon
 unfolding trimmed
@@ -251,9 +252,9 @@ pub record Left (n epsilon : ℕ) (t : Timestamp) : Type 0 where
   pub sound : Sound n epsilon t
   pub room : (i : ℕ) → epsilon < i → placedAt 0 (t .kn) i ≤ n - 1
 
-pub tables-left : (n epsilon B v : ℕ) (t : Timestamp) → 1 ≤ epsilon → length (t .kn) ≡ width epsilon → soundTables n epsilon B v t ≡ true → Left n epsilon t
-tables-left n epsilon B v t e w h =
-    record { sound = sound-from n epsilon t e w (tables-sound n epsilon B v t h); room = tables-room n epsilon B v t h }
+pub beside-left : (clock : Bool) (n epsilon : ℕ) (t : Timestamp) → 1 ≤ epsilon → length (t .kn) ≡ width epsilon → soundBeside clock n epsilon t ≡ true → Left n epsilon t
+beside-left clock n epsilon t e w h =
+    record { sound = sound-from n epsilon t e w (beside-sound clock n epsilon t h); room = beside-room clock n epsilon t h }
 
 -- tick 1 and 2, with a step of k
 pub opened-step : (n epsilon k v : ℕ) (t : Timestamp) → 1 ≤ n → 1 ≤ k → k ≤ width epsilon → Left n epsilon t → Opened n epsilon (step k v t)

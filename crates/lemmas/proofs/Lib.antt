@@ -4,10 +4,14 @@ pub mod Reading
 pub mod Counts
 pub mod RoundTrip
 pub mod LongFrames
+pub mod LongPassing
 pub mod LongStamps
 pub mod Queue
+pub mod Hearing
+pub mod LongOrder
 pub mod Board
 pub mod OneTick
 pub mod OneListening
+pub mod LongTick
 pub mod NextTick
 pub mod Comparing

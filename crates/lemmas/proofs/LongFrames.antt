@@ -1,26 +1,27 @@
 -- 02, 2.9: the frames of an engine with long clocks, and its shelf: what is written reads back the same.
 -- Assumes nothing.
-use Prim.Native.Nat.{ℕ, zero, suc, _+_, _/_, _%_, _^_, _≤_, _<_}
+use Prim.Native.Nat.{ℕ, zero, suc, _+_, _*_, _/_, _%_, _^_, _≤_, _<_}
 use native.Mathlib.Omega.{arith}
 use native.Mathlib.Nat.{pow-zero, pow-suc}
+use native.Mathlib.Numerals.{add-one}
 use mathlib.Core.Path.{_≡_, refl, sym, ap, ap₂, _∙_}
 use mathlib.Core.Bool.{true}
 use mathlib.Core.List.{List, [], _∷_, _++_, map, append-assoc, append-nil, List·Memᴰ}
-use lib.Dec.{eqb}
-use lib.ListN.{length, drop, getD, length-append}
-use lib.Seq.{getD-append-seam, take-append-seam, drop-append-seam}
-use borrow.Author.Tests.{lt-ltb, eq-eqb, le-leb}
-use Rattle.laws.specs.Lists.{joined}
-use Rattle.laws.proofs.Numbers.{and-intro}
-use Rattle.laws.proofs.Lists.{length-padded}
+use lib.Dec.{eqb, ltb}
+use lib.ListN.{length, take, drop, getD, length-append, length-drop, take-append-drop}
+use lib.Seq.{getD-append-seam, take-append-seam, drop-append-seam, drop-cons, drop-drop}
+use borrow.Author.Tests.{lt-ltb, eq-eqb, le-leb, eqb-true, ltb-true}
+use Rattle.laws.specs.Lists.{every, joined}
+use Rattle.laws.proofs.Numbers.{and-intro, and-left, and-right}
+use Rattle.laws.proofs.Lists.{length-padded, every-index}
 use Rattle.model.specs.Setup.{Setup, width}
 use Rattle.model.specs.Frame.{Frame, section, twoAt, laterSections, frameEnd, decode}
 use Rattle.model.specs.Question.{Question, firstNo, askRange, askStamp}
 use Rattle.model.specs.Batch.{endsAfter, entriesOf}
-use Rattle.model.specs.Long.{longBound, plainly, lowFirst, numberAt, longEncode, longFrameEnd, longFormed, longDecode, longFrameQuestions, longPasses, longestLong, longMost, longHoldbackSize, longHeldBytes, longHeld, longEncodeFrames, longEncodeHoldback}
+use Rattle.model.specs.Long.{longBound, plainly, sixOn, lowFirst, numberAt, longEncode, longFrameEnd, longFormed, longDecode, longFrameQuestions, longPasses, longestLong, longMost, longHoldbackSize, longHeldBytes, longHeld, longEncodeFrames, longEncodeHoldback}
 use Rattle.lemmas.proofs.Bounds.{FrameOk}
 use Rattle.lemmas.proofs.Counts.{sound-to}
-use Rattle.lemmas.proofs.RoundTrip.{behindFour, decode-later, later-end, later-formed, two-at-frames, cut-frames, decode-each, length-frames}
+use Rattle.lemmas.proofs.RoundTrip.{behindFour, decode-later, later-end, later-formed, LaterFormed, later-formed-from, later-wide, later-payload, later-decoded, none-no, bounds-passed, two-at-frames, cut-frames, decode-each, length-frames}
 
 -- a number in k bytes, wherever it stands
 pub number-low :
@@ -108,6 +109,79 @@ pub long-passes-encode : (s : Setup) (f : Frame) → FrameOk (plainly s) f → l
 unfolding longPasses firstNo
 long-passes-encode s f ok =
     ap (λ (n : ℕ). eqb n 0) (ap firstNo (sym (append-nil (longFrameQuestions s (longEncode f)))) ∙ long-frame-passes s f [] ok)
+
+-- what question 10 says
+pub record LongFormed (epsilon : ℕ) (s : List ℕ) : Type 0 where
+  pub first : getD s 0 0 ≡ 9
+  pub later : LaterFormed epsilon (sixOn s)
+  pub long : length s ≡ 6 + length (sixOn s)
+
+pub long-formed-from : (epsilon : ℕ) (s : List ℕ) → longFormed epsilon s ≡ true → LongFormed epsilon s
+unfolding longFormed
+long-formed-from epsilon s h =
+    let later = later-formed-from epsilon (sixOn s) (and-right (eqb (getD s 0 0) 9) _ h) in
+    record { first = eqb-true (getD s 0 0) 9 (and-left _ _ h); later = later; long = omega (arith, length-drop 6 s, later .size) }
+
+-- questions 10 to 12, with others behind them: what they say
+pub long-form-passed : (s : Setup) (bytes : List ℕ) (qs : List Question) → firstNo (longFrameQuestions s bytes ++ qs) ≡ 0 → longFormed (s .epsilon) bytes ≡ true
+unfolding longFrameQuestions
+long-form-passed s bytes qs e =
+    none-no (longFormed (s .epsilon) bytes) 9 (askRange (plainly s) (longDecode (s .epsilon) bytes) ∷ askStamp (plainly s) (longDecode (s .epsilon) bytes) ∷ qs) e .0
+
+pub long-frame-passed :
+    (s : Setup) (bytes : List ℕ) (qs : List Question) → 1 ≤ s .epsilon → firstNo (longFrameQuestions s bytes ++ qs) ≡ 0
+    → FrameOk (plainly s) (longDecode (s .epsilon) bytes) × (firstNo qs ≡ 0)
+unfolding longFrameQuestions longDecode
+long-frame-passed s bytes qs some e =
+    let f = longDecode (s .epsilon) bytes in
+    let q10 = none-no (longFormed (s .epsilon) bytes) 9 (askRange (plainly s) f ∷ askStamp (plainly s) f ∷ qs) e in
+    let o = long-formed-from (s .epsilon) bytes (q10 .0) .later in
+    bounds-passed (plainly s) f qs some (later-wide (s .epsilon) (sixOn bytes) o)
+    (rw (later-payload (s .epsilon) (sixOn bytes) o) (o .third)) (q10 .1)
+
+pub long-passes-formed : (s : Setup) (bytes : List ℕ) → longPasses s bytes ≡ true → longFormed (s .epsilon) bytes ≡ true
+unfolding longPasses
+long-passes-formed s bytes h =
+    long-form-passed s bytes [] (ap firstNo (append-nil (longFrameQuestions s bytes)) ∙ eqb-true (firstNo (longFrameQuestions s bytes)) 0 h)
+
+pub long-passes-decode : (s : Setup) (bytes : List ℕ) → 1 ≤ s .epsilon → longPasses s bytes ≡ true → FrameOk (plainly s) (longDecode (s .epsilon) bytes)
+unfolding longPasses
+long-passes-decode s bytes some h =
+    long-frame-passed s bytes [] some (ap firstNo (append-nil (longFrameQuestions s bytes)) ∙ eqb-true (firstNo (longFrameQuestions s bytes)) 0 h) .0
+
+-- the bytes of a number, from the number that they make; a byte is below 256
+pub low-number :
+    (k : ℕ) (s : List ℕ) (at : ℕ) → ((i : ℕ) → i < length s → getD s i 0 < 256) → at + k ≤ length s → lowFirst k (numberAt k s at) ≡ take k (drop at s)
+unfolding numberAt lowFirst
+low-number zero s at bytes h = refl
+low-number (suc k) s at bytes h =
+    let here : getD s at 0 < 256 = bytes at (omega arith) in
+    let low : (getD s at 0 + 256 * numberAt k s (at + 1)) % 256 ≡ getD s at 0 = omega arith in
+    let high : (getD s at 0 + 256 * numberAt k s (at + 1)) / 256 ≡ numberAt k s (at + 1) = omega arith in
+    rw (low, high, low-number k s (at + 1) bytes (omega arith), drop-cons s at 0 (omega arith), add-one at)
+
+-- the bytes of a frame, opened
+pub long-bytes : (f : Frame) → longEncode f ≡ 9 ∷ f .station ∷ (lowFirst 8 (f .stamp .r) ++ laterSections f)
+unfolding longEncode section lowFirst
+long-bytes f = refl
+
+-- a list by its first two places and the eight behind them
+front-of : (s : List ℕ) → 10 ≤ length s → getD s 0 0 ∷ getD s 1 0 ∷ (take 8 (drop 2 s) ++ drop 10 s) ≡ s
+front-of s h =
+    let two : s ≡ getD s 0 0 ∷ getD s 1 0 ∷ drop 2 s = drop-cons s 0 0 (omega arith) ∙ ap (λ (l : List ℕ). getD s 0 0 ∷ l) (drop-cons s 1 0 (omega arith)) in
+    let rest : take 8 (drop 2 s) ++ drop 10 s ≡ drop 2 s = ap (λ (l : List ℕ). take 8 (drop 2 s) ++ l) (sym (drop-drop 8 2 s)) ∙ take-append-drop 8 (drop 2 s) in
+    ap (λ (l : List ℕ). getD s 0 0 ∷ getD s 1 0 ∷ l) rest ∙ sym two
+
+-- an accepted frame is the one that the writer makes of its contents; a byte is below 256
+pub long-encode-decode : (epsilon : ℕ) (s : List ℕ) → every (λ b. ltb b 256) s ≡ true → longFormed epsilon s ≡ true → longEncode (longDecode epsilon s) ≡ s
+unfolding longDecode
+long-encode-decode epsilon s bytes formed =
+    let o = long-formed-from epsilon s formed in
+    let later : laterSections (longDecode epsilon s) ≡ drop 10 s = unfold longDecode in later-decoded epsilon (sixOn s) (o .later) ∙ drop-drop 4 6 s in
+    let size : 10 ≤ length s = omega arith in
+    let small : (i : ℕ) → i < length s → getD s i 0 < 256 = λ i h. ltb-true (getD s i 0) 256 (every-index (λ b. ltb b 256) s 0 bytes i h) in
+    long-bytes (longDecode epsilon s)
+    ∙ (ap₂ _∷_ (sym (o .first)) (ap (λ (l : List ℕ). getD s 1 0 ∷ l) (ap₂ _++_ (low-number 8 s 2 small size) later)) ∙ front-of s size)
 
 -- the frames of a shelf or a hand-out, whatever stands behind them
 module _ (s : Setup) (queue : List Frame) (ok : (f : Frame) → List·Memᴰ f queue → FrameOk (plainly s) f) where

@@ -15,6 +15,7 @@ use Rattle.model.specs.Batch.{batchEntries}
 use Rattle.model.specs.Question.{firstNo}
 use Rattle.model.specs.Judge.{Asking, Heard, verdictBy, judge, hearBy, hear, hearOne, judgeQuestions, placeFor}
 use Rattle.model.specs.Tick.{Input, Output, stepOf, leastDue, openingQueue, openedQueue, dueBefore, earlyOf, opening, heardOf, takenCount, deliveredOf, dueNow, keptOf, acceptance, tick}
+use Rattle.lemmas.proofs.Hearing.{numbersBy}
 use Rattle.lemmas.proofs.Board.{step-later, numbersOf}
 use Rattle.lemmas.proofs.OneTick.{Accepted, new-r, tables-are, tables-next, kept-held, shelf-sound, heard-verdicts}
 
@@ -49,7 +50,7 @@ none-taken (suc k) verdicts e = ((λ z. omega arith), rw (ne-eqb (suc k) 0 (λ z
 pub hear-none :
     (s : Setup) (v : ℕ) (asking : Asking) (h : Heard) (entries : List (List ℕ)) → takenCount (numbersOf s v asking h entries) ≡ 0
     → hear s v asking h entries .queue ≡ h .queue
-unfolding hear foldLeft numbersOf hearOne judge
+unfolding hear foldLeft numbersBy hearOne judge
 hear-none s v asking h [] e = refl
 hear-none s v asking h (bytes ∷ rest) e =
     let none = none-taken (firstNo (asking (h .queue) bytes)) (numbersOf s v asking (hearOne s v asking h bytes) rest) e in

@@ -14,20 +14,21 @@ use Rattle.laws.proofs.Numbers.{and-left}
 use Rattle.laws.proofs.Lists.{take-overlay, select-append}
 use Rattle.laws.proofs.Sorted.{Sorted}
 use Rattle.model.specs.Setup.{Setup, width, longestFrame, inLimits, isMember, depth}
-use Rattle.model.specs.Timestamp.{Timestamp, sum, countsFrom, atMost, trimmed, step, widened, replaced, absorb, countOwn, soundTables}
+use Rattle.model.specs.Timestamp.{Timestamp, sum, countsFrom, atMost, trimmed, step, widened, replaced, absorb, countOwn, clockStep, soundClock, soundBeside, soundTables}
 use Rattle.model.specs.Order.{readingOf, keyNear}
 use Rattle.model.specs.Frame.{Frame, encode, decode}
 use Rattle.model.specs.Batch.{batchEntries, exactBatch}
 use Rattle.model.specs.Holdback.{heldBytes, held, notEarly, soundHoldback, encodeFrames, encodeHoldback}
 use Rattle.model.specs.Question.{askSetup, firstNo}
 use Rattle.model.specs.Codec.{askPayload}
-use Rattle.model.specs.Judge.{Heard, hear, hearOne, judgeQuestions, absorbBy, absorbAll, absorbEach}
+use Rattle.model.specs.Judge.{Heard, hear, hearOne, judgeQuestions, absorbBy, absorbAll}
 use Rattle.model.specs.Tick.{Input, Output, holdbackSize, roomy, callQuestions, tablesSound, stepOf, leastDue, openingStamp, openedQueue, earlyOf, opening, heardOf, heardStamp, newStamp, sentBytes, takenCount, deliveredOf, keptOf, acceptance, refusal, tickBy, tick}
 use Rattle.lemmas.proofs.Bounds.{Limits, Sound, Opened, FrameOk, QueueOk}
 use Rattle.lemmas.proofs.Questions.{first-yes, other-yes, setup-from}
-use Rattle.lemmas.proofs.Counts.{Left, tables-step, tables-left, left-tables, opened-step, opened-replaced, opened-absorb, own-left, trimmed-wide, trimmed-widened}
+use Rattle.lemmas.proofs.Counts.{Left, clock-steps, tables-step, beside-clock, beside-left, left-tables, opened-step, opened-replaced, opened-absorb, own-left, trimmed-wide, trimmed-widened}
 use Rattle.lemmas.proofs.Reading.{near-high}
 use Rattle.lemmas.proofs.Queue.{Passed, judged-passed, judged-counts, QueueLeft}
+use Rattle.lemmas.proofs.Hearing.{fold-stamp}
 use Rattle.lemmas.proofs.Board.{numbersOf, hear-verdicts, step-later, Board, board-opened, board-heard, board-kept, board-held, board-size, board-sound, board-frames, board-sorted, board-fewest, board-few, board-small, board-bytes, board-verdict, board-front}
 
 -- the tick by the number of the first question that gets a no
@@ -98,24 +99,33 @@ least-bounds s v tables limits = go (tablesSound s v tables) refl
         (omega (arith, steps .0), omega (arith, steps .1, limits .modulus-least))
     go false e = (omega arith, omega (arith, limits .epsilon-pos))
 
-pub opening-stamp : (s : Setup) (v : ℕ) (tables : Timestamp) → Limits s → Absorbing s v (openingStamp s v tables)
-unfolding openingStamp tablesSound width
-opening-stamp s v tables limits = go (tablesSound s v tables) refl
+-- tick 1 and 2, by the test of the tables' clock and by the step, which is 1 to ε where that holds
+pub opening-any :
+    (s : Setup) (v k : ℕ) (clock : Bool) (tables : Timestamp) → 1 ≤ s .n → 1 ≤ s .epsilon → (clock ≡ true → (1 ≤ k) × (k ≤ s .epsilon))
+    → Absorbing s v
+    (cond (soundBeside clock (s .n) (s .epsilon) (trimmed (s .epsilon) tables)) (step k v (trimmed (s .epsilon) tables)) (replaced (s .epsilon) v))
+unfolding width
+opening-any s v k clock tables n-pos epsilon-pos steps = go (soundBeside clock (s .n) (s .epsilon) own) refl
   where
     own : Timestamp
     own = trimmed (s .epsilon) tables
 
-    go : (b : Bool) → tablesSound s v tables ≡ b → Absorbing s v (cond b (step (stepOf s v tables) v own) (replaced (s .epsilon) v))
+    go : (b : Bool) → soundBeside clock (s .n) (s .epsilon) own ≡ b → Absorbing s v (cond b (step k v own) (replaced (s .epsilon) v))
     go true e =
-        let steps = step-bounds s v tables e in
+        let (pos, few) = steps (beside-clock clock (s .n) (s .epsilon) own e) in
         record {
           opened =
-              opened-step (s .n) (s .epsilon) (stepOf s v tables) v own (limits .n-pos) (steps .0) (omega (arith, steps .1))
-              (tables-left (s .n) (s .epsilon) (s .modulus) v own (limits .epsilon-pos) (trimmed-wide (s .epsilon) tables) e);
+              opened-step (s .n) (s .epsilon) k v own n-pos pos (omega (arith, few))
+              (beside-left clock (s .n) (s .epsilon) own epsilon-pos (trimmed-wide (s .epsilon) tables) e);
           r-is = unfold step in refl;
         }
-    go false e =
-        record { opened = opened-replaced (s .n) (s .epsilon) v (limits .n-pos) (limits .epsilon-pos); r-is = unfold replaced in refl }
+    go false e = record { opened = opened-replaced (s .n) (s .epsilon) v n-pos epsilon-pos; r-is = unfold replaced in refl }
+
+pub opening-stamp : (s : Setup) (v : ℕ) (tables : Timestamp) → Limits s → Absorbing s v (openingStamp s v tables)
+unfolding openingStamp tablesSound soundTables stepOf trimmed
+opening-stamp s v tables limits =
+    opening-any s v (clockStep (s .modulus) (tables .r) v) (soundClock (s .epsilon) (s .modulus) v (tables .r)) tables (limits .n-pos) (limits .epsilon-pos)
+    (clock-steps (s .epsilon) (s .modulus) v (tables .r))
 
 -- the half that goes into the stamp: one frame that is taken
 pub absorbing-taken :
@@ -145,11 +155,10 @@ absorbing-one s v queue t bytes lim hg = go (firstNo (judgeQuestions s v queue b
 pub absorbing-all :
     (s : Setup) (v : ℕ) (h : Heard) (t : Timestamp) (entries : List (List ℕ)) → Limits s → Absorbing s v t
     → Absorbing s v (absorbAll s v t entries (numbersOf s v (judgeQuestions s v) h entries))
-unfolding absorbAll absorbEach numbersOf
-absorbing-all s v h t [] lim hg = hg
-absorbing-all s v h t (bytes ∷ rest) lim hg =
-    absorbing-all s v (hearOne s v (judgeQuestions s v) h bytes)
-    (absorbBy (firstNo (judgeQuestions s v (h .queue) bytes)) s v (decode (s .epsilon) bytes) t) rest lim (absorbing-one s v (h .queue) t bytes lim hg)
+unfolding absorbAll
+absorbing-all s v h t entries lim hg =
+    fold-stamp (judgeQuestions s v) (hearOne s v (judgeQuestions s v)) (λ number bytes u. absorbBy number s v (decode (s .epsilon) bytes) u) (Absorbing s v)
+    (λ queue bytes u p. absorbing-one s v queue u bytes lim p) h t entries hg
 
 -- the half that goes on the queue: what the call shares with an observer's
 pub tick-board : (i : Input) → Accepted i → Board (i .setup) (i .clock) (leastDue (i .setup) (i .clock) (i .tables)) (judgeQuestions (i .setup) (i .clock))

@@ -9,13 +9,14 @@ use lib.Dec.{leb, ltb, eqb}
 use lib.ListN.{length}
 use borrow.Author.Tests.{leb-true, ltb-true, eqb-true, le-leb, lt-ltb}
 use Rattle.laws.specs.Lists.{within, every}
-use Rattle.laws.proofs.Numbers.{and-left, and-right, and-intro, within-low, within-high}
+use Rattle.laws.proofs.Numbers.{and-left, and-right, and-intro, within-low, within-high, within-intro}
 use Rattle.model.specs.Setup.{Setup, inLimits, isMember, leastModulus}
 use Rattle.model.specs.Frame.{decode}
 use Rattle.model.specs.Question.{Question, ask, firstNo}
 use Rattle.model.specs.Tick.{holdbackSize, holdbackQuestions}
 use Rattle.model.specs.Codec.{readQuestions, readBy, read}
-use Rattle.lemmas.proofs.Bounds.{Limits}
+use Rattle.model.specs.Long.{longLimits}
+use Rattle.lemmas.proofs.Bounds.{Limits, LongLimits}
 
 -- a list with no no: the first question gets a yes, and so do the others
 pub first-yes : (holds : Bool) (k : ℕ) (qs : List Question) → firstNo (ask holds (suc k) ∷ qs) ≡ 0 → holds ≡ true
@@ -99,6 +100,25 @@ limits-to s l =
     (and-intro (and-intro (le-leb _ _ (l .epsilon-pos)) (le-leb _ _ (l .epsilon-most)))
     (and-intro (le-leb _ _ (l .delta-most))
     (and-intro (le-leb _ _ (l .modulus-least)) (le-leb _ _ (l .modulus-most)))))
+
+-- the limits of an engine's setup, both ways
+pub long-limits-from : (s : Setup) → longLimits s ≡ true → LongLimits s
+unfolding longLimits
+long-limits-from s h =
+    let h₁ = and-right (within 1 16 (s .n)) _ h in
+    record {
+      n-pos = within-low 1 16 (s .n) (and-left _ _ h);
+      n-most = within-high 1 16 (s .n) (and-left _ _ h);
+      epsilon-pos = within-low 1 16 (s .epsilon) (and-left _ _ h₁);
+      epsilon-most = within-high 1 16 (s .epsilon) (and-left _ _ h₁);
+      delta-most = leb-true (s .delta) 64 (and-right (within 1 16 (s .epsilon)) _ h₁);
+    }
+
+pub long-limits-to : (s : Setup) → LongLimits s → longLimits s ≡ true
+unfolding longLimits
+long-limits-to s l =
+    and-intro (within-intro (l .n-pos) (l .n-most))
+    (and-intro (within-intro (l .epsilon-pos) (l .epsilon-most)) (le-leb (s .delta) 64 (l .delta-most)))
 
 -- question 1: the limits of the group, and the own number
 pub setup-from : (s : Setup) (own : ℕ) → (inLimits s && isMember s own) ≡ true → Limits s × (own < s .n)

@@ -21,9 +21,9 @@ use Rattle.model.specs.Setup.{Setup, width, depth}
 use Rattle.model.specs.Timestamp.{sum, countsFrom, atMost}
 use Rattle.model.specs.Frame.{Frame, encode, decode, twoAt}
 use Rattle.model.specs.Order.{readingOf, countsDown, keyBy, key, keyNear, compareFrames, before, due, dueNear}
-use Rattle.model.specs.Holdback.{sameOrigin, passes, notEarly, notOverdue, heldBytes, held, soundHoldback, encodeFrames, encodeHoldback}
-use Rattle.model.specs.Question.{Question, firstNo}
-use Rattle.model.specs.Judge.{Asking, askLate, askEarly, askCounts, askRepeat, placeQuestions, judgeQuestions, observerPlaceQuestions, observerQuestions, placeFor}
+use Rattle.model.specs.Holdback.{sameOrigin, passes, notEarlyAt, notEarly, notOverdue, heldBytes, held, soundHoldback, encodeFrames, encodeHoldback}
+use Rattle.model.specs.Question.{Question, ask, firstNo}
+use Rattle.model.specs.Judge.{Asking, askLateAt, askLate, askEarly, askCounts, askRepeat, placeQuestions, judgeQuestions, observerPlaceQuestions, observerQuestions, placeFor}
 use Rattle.model.specs.Tick.{openingQueue, dueBefore, dueNow, holdbackSize}
 use Rattle.lemmas.proofs.Bounds.{Limits, FrameOk, QueueOk}
 use Rattle.lemmas.proofs.Reading.{near-true, near-high, near-later, near-injective}
@@ -101,15 +101,20 @@ pub record Passed (s : Setup) (v : ℕ) (queue : List Frame) (f : Frame) : Type 
 abbrev pub Places : Setup → ℕ → Asking → Type 0
 Places s v asking = (queue : List Frame) (bytes : List ℕ) → firstNo (asking queue bytes) ≡ 0 → Passed s v queue (decode (s .epsilon) bytes)
 
--- 13 and 14, and then 16
-passed-times : (s : Setup) (v : ℕ) (f : Frame) (qs : List Question) → firstNo (askLate s v f ∷ askEarly s v f ∷ qs) ≡ 0 → (s .modulus ≤ readingOf s v f + (s .delta + s .epsilon)) × (notEarly s v f ≡ true) × (firstNo qs ≡ 0)
-unfolding askLate askEarly
-passed-times s v f qs e =
-    let q13 = none-no (leb (s .modulus) (readingOf s v f + (s .delta + s .epsilon))) 12 (askEarly s v f ∷ qs) e in
-    let q14 = none-no (notEarly s v f) 13 qs (q13 .1) in
-    (leb-true (s .modulus) (readingOf s v f + (s .delta + s .epsilon)) (q13 .0), q14 .0, q14 .1)
+-- 13 and 14, wherever r and v are read, and then 16
+pub times-passed :
+    (s : Setup) (at reading : ℕ) (f : Frame) (qs : List Question) → firstNo (askLateAt s at reading ∷ ask (notEarlyAt s at reading f) 14 ∷ qs) ≡ 0
+    → (at ≤ reading + (s .delta + s .epsilon)) × (notEarlyAt s at reading f ≡ true) × (firstNo qs ≡ 0)
+times-passed s at reading f qs e =
+    let q13 = none-no (leb at (reading + (s .delta + s .epsilon))) 12 (ask (notEarlyAt s at reading f) 14 ∷ qs) e in
+    let q14 = none-no (notEarlyAt s at reading f) 13 qs (q13 .1) in
+    (leb-true at (reading + (s .delta + s .epsilon)) (q13 .0), q14 .0, q14 .1)
 
-passed-new : (queue : List Frame) (f : Frame) (qs : List Question) → firstNo (askRepeat queue f ∷ qs) ≡ 0 → any (sameOrigin f) queue ≡ false
+passed-times : (s : Setup) (v : ℕ) (f : Frame) (qs : List Question) → firstNo (askLate s v f ∷ askEarly s v f ∷ qs) ≡ 0 → (s .modulus ≤ readingOf s v f + (s .delta + s .epsilon)) × (notEarly s v f ≡ true) × (firstNo qs ≡ 0)
+unfolding askLate askEarly notEarly
+passed-times s v f qs e = times-passed s (s .modulus) (readingOf s v f) f qs e
+
+pub passed-new : (queue : List Frame) (f : Frame) (qs : List Question) → firstNo (askRepeat queue f ∷ qs) ≡ 0 → any (sameOrigin f) queue ≡ false
 unfolding askRepeat
 passed-new queue f qs e = false-of-not (any (sameOrigin f) queue) (none-no (not (any (sameOrigin f) queue)) 15 qs e .0)
 

@@ -105,6 +105,22 @@ frame-end epsilon f rest wide =
     ap (λ (l : List ℕ). frameEnd epsilon (l ++ rest)) (encode-later f)
     ∙ (later-end 3 (f .station) (f .stamp .r % 256) (f .stamp .r / 256) epsilon f wide rest ∙ sym (length-encode f))
 
+-- what question 10 says of the second and the third section
+pub record LaterFormed (epsilon : ℕ) (s : List ℕ) : Type 0 where
+  pub second : getD s 4 0 ≡ suc (width epsilon)
+  pub third : getD s (6 + width epsilon) 0 ≤ 32
+  pub size : length s ≡ 7 + width epsilon + getD s (6 + width epsilon) 0
+
+pub later-formed-from : (epsilon : ℕ) (s : List ℕ) → laterFormed epsilon s ≡ true → LaterFormed epsilon s
+unfolding frameEnd payloadCountAt
+later-formed-from epsilon s h =
+    let w = width epsilon in
+    let c = getD s (6 + w) 0 in
+    let h₂ = and-right (eqb (getD s 4 0) (1 + w)) _ h in
+    let second = eqb-true (getD s 4 0) (1 + w) (and-left _ _ h) in
+    let size = eqb-true (length s) (6 + w + 1 + c) (and-right (leb c 32) _ h₂) in
+    record { second = omega arith; third = leb-true c 32 (and-left _ _ h₂); size = omega arith }
+
 -- what question 10 says
 pub record Formed (epsilon : ℕ) (s : List ℕ) : Type 0 where
   pub first : getD s 0 0 ≡ 3
@@ -113,20 +129,10 @@ pub record Formed (epsilon : ℕ) (s : List ℕ) : Type 0 where
   pub size : length s ≡ 7 + width epsilon + getD s (6 + width epsilon) 0
 
 pub formed-from : (epsilon : ℕ) (s : List ℕ) → wellFormed epsilon s ≡ true → Formed epsilon s
-unfolding wellFormed frameEnd payloadCountAt
+unfolding wellFormed
 formed-from epsilon s h =
-    let w = width epsilon in
-    let c = getD s (6 + w) 0 in
-    let h₁ = and-right (eqb (getD s 0 0) 3) _ h in
-    let h₂ = and-right (eqb (getD s 4 0) (1 + w)) _ h₁ in
-    let second = eqb-true (getD s 4 0) (1 + w) (and-left _ _ h₁) in
-    let size = eqb-true (length s) (6 + w + 1 + c) (and-right (leb c 32) _ h₂) in
-    record {
-      first = eqb-true (getD s 0 0) 3 (and-left _ _ h);
-      second = omega arith;
-      third = leb-true c 32 (and-left _ _ h₂);
-      size = omega arith;
-    }
+    let l = later-formed-from epsilon s (and-right (eqb (getD s 0 0) 3) _ h) in
+    record { first = eqb-true (getD s 0 0) 3 (and-left _ _ h); second = l .second; third = l .third; size = l .size }
 
 pub formed-to : (epsilon : ℕ) (s : List ℕ) → Formed epsilon s → wellFormed epsilon s ≡ true
 unfolding wellFormed frameEnd payloadCountAt
@@ -143,14 +149,23 @@ unfolding wellFormed
 well-formed-encode epsilon f wide short =
     rw (encode-later f) (later-formed 3 (f .station) (f .stamp .r % 256) (f .stamp .r / 256) epsilon f wide short)
 
--- what a well-formed frame holds
-pub decode-wide : (epsilon : ℕ) (s : List ℕ) → Formed epsilon s → length (decode epsilon s .stamp .kn) ≡ width epsilon
+-- what a well-formed frame holds, by its later sections
+later-of : {epsilon : ℕ} {s : List ℕ} → Formed epsilon s → LaterFormed epsilon s
+later-of o = record { second = o .second; third = o .third; size = o .size }
+
+pub later-wide : (epsilon : ℕ) (s : List ℕ) → LaterFormed epsilon s → length (decode epsilon s .stamp .kn) ≡ width epsilon
 unfolding decode countsOf
-decode-wide epsilon s o = rw (length-take, length-drop) (omega arith)
+later-wide epsilon s o = rw (length-take, length-drop) (omega arith)
+
+pub later-payload : (epsilon : ℕ) (s : List ℕ) → LaterFormed epsilon s → length (decode epsilon s .payload) ≡ getD s (6 + width epsilon) 0
+unfolding decode payloadCountAt
+later-payload epsilon s o = rw length-drop (omega arith)
+
+pub decode-wide : (epsilon : ℕ) (s : List ℕ) → Formed epsilon s → length (decode epsilon s .stamp .kn) ≡ width epsilon
+decode-wide epsilon s o = later-wide epsilon s (later-of o)
 
 pub decode-payload : (epsilon : ℕ) (s : List ℕ) → Formed epsilon s → length (decode epsilon s .payload) ≡ getD s (6 + width epsilon) 0
-unfolding decode payloadCountAt
-decode-payload epsilon s o = rw length-drop (omega arith)
+decode-payload epsilon s o = later-payload epsilon s (later-of o)
 
 -- a list by its first six places
 six-front : (s : List ℕ) → 6 ≤ length s → s ≡ getD s 0 0 ∷ getD s 1 0 ∷ getD s 2 0 ∷ getD s 3 0 ∷ getD s 4 0 ∷ getD s 5 0 ∷ drop 6 s
@@ -160,6 +175,15 @@ six-front s h = sym (take-append-drop 6 s) ∙ ap (λ (l : List ℕ). l ++ drop 
 -- the rest, by its counts, the count of the payload and the payload
 rest-of : (w : ℕ) (s : List ℕ) → 6 + w < length s → take w (drop 6 s) ++ (getD s (6 + w) 0 ∷ drop (6 + w + 1) s) ≡ drop 6 s
 rest-of w s h = rw (add-one (6 + w), ← drop-cons s (6 + w) 0 h, ← drop-drop w 6 s) (take-append-drop w (drop 6 s))
+
+-- the later sections of a frame, from what stands there
+pub later-decoded : (epsilon : ℕ) (s : List ℕ) → LaterFormed epsilon s → laterSections (decode epsilon s) ≡ drop 4 s
+unfolding decode countsOf payloadCountAt section
+later-decoded epsilon s o =
+    let w = later-wide epsilon s o in
+    let p = later-payload epsilon s o in
+    let t = rest-of (width epsilon) s (omega arith) in
+    rw (w, p, t, ← o .second) (sym (drop-cons s 4 0 (omega arith) ∙ ap (λ (l : List ℕ). getD s 4 0 ∷ l) (drop-cons s 5 0 (omega arith))))
 
 -- an accepted frame is the one that the writer makes of its contents; a byte is below 256
 pub encode-decode : (epsilon : ℕ) (s : List ℕ) → every (λ b. ltb b 256) s ≡ true → wellFormed epsilon s ≡ true → encode (decode epsilon s) ≡ s
@@ -196,16 +220,16 @@ none-no holds k qs e = (first-yes holds k qs e, other-yes holds k qs e)
 
 -- questions 11 and 12
 pub bounds-passed :
-    (s : Setup) (f : Frame) (qs : List Question) → Limits s → length (f .stamp .kn) ≡ width (s .epsilon) → length (f .payload) ≤ 32
+    (s : Setup) (f : Frame) (qs : List Question) → 1 ≤ s .epsilon → length (f .stamp .kn) ≡ width (s .epsilon) → length (f .payload) ≤ 32
     → firstNo (askRange s f ∷ askStamp s f ∷ qs) ≡ 0 → FrameOk s f × (firstNo qs ≡ 0)
 unfolding askRange askStamp
-bounds-passed s f qs limits wide short e =
+bounds-passed s f qs some wide short e =
     let q11 = none-no (ltb (f .station) (s .n) && ltb (f .stamp .r) (s .modulus)) 10 (askStamp s f ∷ qs) e in
     let q12 = none-no (soundTimestamp (s .n) (s .epsilon) (f .stamp)) 11 qs (q11 .1) in (
       record {
         station-below = ltb-true (f .station) (s .n) (and-left (ltb (f .station) (s .n)) (ltb (f .stamp .r) (s .modulus)) (q11 .0));
         r-below = ltb-true (f .stamp .r) (s .modulus) (and-right (ltb (f .station) (s .n)) (ltb (f .stamp .r) (s .modulus)) (q11 .0));
-        sound = sound-from (s .n) (s .epsilon) (f .stamp) (limits .epsilon-pos) wide (q12 .0);
+        sound = sound-from (s .n) (s .epsilon) (f .stamp) some wide (q12 .0);
         short = short;
       },
       q12 .1,
@@ -223,7 +247,7 @@ frame-passed s bytes qs limits e =
     let f = decode (s .epsilon) bytes in
     let q10 = none-no (wellFormed (s .epsilon) bytes) 9 (askRange s f ∷ askStamp s f ∷ qs) e in
     let o = formed-from (s .epsilon) bytes (q10 .0) in
-    bounds-passed s f qs limits (decode-wide (s .epsilon) bytes o) (rw (decode-payload (s .epsilon) bytes o) (o .third)) (q10 .1)
+    bounds-passed s f qs (limits .epsilon-pos) (decode-wide (s .epsilon) bytes o) (rw (decode-payload (s .epsilon) bytes o) (o .third)) (q10 .1)
 
 pub passes-decode : (s : Setup) (bytes : List ℕ) → Limits s → passes s bytes ≡ true → FrameOk s (decode (s .epsilon) bytes)
 unfolding passes frameQuestions

@@ -16,7 +16,8 @@ use Rattle.model.specs.Judge.{askLate, askEarly, askCounts, askRepeat, p
 use Rattle.model.specs.Tick.{roomy, callQuestions, refusal, tablesSound, stepOf, leastDue, shelfSound, repairOf, openingStamp, openingQueue, openedQueue, dueBefore, earlyOf, heardOf, heardStamp, newStamp, sentBytes, dueNow, deliveredOf, keptOf, takenCount, acceptance, tick}
 use Rattle.model.specs.Observer.{listenQuestions, notListened, lastSound, observerLeast, observerRepair, observerOpened, observerHeard, observerDelivered, observerKept, listened, listen}
 use Rattle.model.specs.Poll.{pollQuestions, polledQueue, soonestDue, nextDue, dueWithin, numberWithin, poll}
+use Rattle.model.specs.Long.{longLimits, askLongSetup, lowFirst, numberAt, longEncode, longFrameEnd, longFormed, longDecode, longFrameQuestions, longestLong, longHoldbackSize, longNotEarly, askLongEarly, askHeld, longPlaceQuestions, longCallQuestions}
 
 unfoldable pub computing : Unit {0}
-unfolding Option·elim within tab every any select leading insertAt chained apart overlay joined smallest placedAt padded lexCompare firstDifference leastModulus inLimits isMember width longestFrame depth holdbackLength countAt countsFrom sum atMost soundTimestamp ahead clockStep soundTables trimmed widened near fresh replaced shift step absorb countOwn twoBytes twoAt section encode countsOf payloadCountAt frameEnd wellFormed decode readingOf countsDown keyBy key keyNear compareFrames before decidedAt due dueNear clockAt reasonAt compareKeys countClock compared compareQuestions compareCall endsAfter exactBatch entriesOf batchEntries firstNo askSetup askForm askRange askStamp frameQuestions cutFrames cutBy heldBytes held sameOrigin passes notEarly notOverdue soundHoldback encodeFrames encodeHoldback askPayload frameOf askLate askEarly askCounts askRepeat placeQuestions judgeQuestions observerPlaceQuestions observerQuestions placeFor judge hearOne hear foldLeft absorbAll absorbEach roomy callQuestions refusal tablesSound stepOf leastDue shelfSound repairOf openingStamp openingQueue openedQueue dueBefore earlyOf heardOf heardStamp newStamp sentBytes dueNow deliveredOf keptOf takenCount acceptance tick listenQuestions notListened lastSound observerLeast observerRepair observerOpened observerHeard observerDelivered observerKept listened listen pollQuestions polledQueue soonestDue nextDue dueWithin numberWithin poll
+unfolding Option·elim within tab every any select leading insertAt chained apart overlay joined smallest placedAt padded lexCompare firstDifference leastModulus inLimits isMember width longestFrame depth holdbackLength countAt countsFrom sum atMost soundTimestamp ahead clockStep soundTables trimmed widened near fresh replaced shift step absorb countOwn twoBytes twoAt section encode countsOf payloadCountAt frameEnd wellFormed decode readingOf countsDown keyBy key keyNear compareFrames before decidedAt due dueNear clockAt reasonAt compareKeys countClock compared compareQuestions compareCall endsAfter exactBatch entriesOf batchEntries firstNo askSetup askForm askRange askStamp frameQuestions cutFrames cutBy heldBytes held sameOrigin passes notEarly notOverdue soundHoldback encodeFrames encodeHoldback askPayload frameOf askLate askEarly askCounts askRepeat placeQuestions judgeQuestions observerPlaceQuestions observerQuestions placeFor judge hearOne hear foldLeft absorbAll absorbEach roomy callQuestions refusal tablesSound stepOf leastDue shelfSound repairOf openingStamp openingQueue openedQueue dueBefore earlyOf heardOf heardStamp newStamp sentBytes dueNow deliveredOf keptOf takenCount acceptance tick listenQuestions notListened lastSound observerLeast observerRepair observerOpened observerHeard observerDelivered observerKept listened listen pollQuestions polledQueue soonestDue nextDue dueWithin numberWithin poll longLimits askLongSetup lowFirst numberAt longEncode longFrameEnd longFormed longDecode longFrameQuestions longestLong longHoldbackSize longNotEarly askLongEarly askHeld longPlaceQuestions longCallQuestions
 computing = tt

@@ -3,3 +3,4 @@ pub mod Samples
 pub mod Comparisons
 pub mod Polls
 pub mod Observers
+pub mod Engines

@@ -1,85 +1,99 @@
 -- The questions of a call, one by one, as the code asks them. Assumes nothing.
 use Prim.Native.Nat.{ℕ, _≤_, _<_}
-use mathlib.Core.Path.{_≡_, refl, sym, _∙_}
+use mathlib.Core.Path.{_≡_, refl, sym, ap, _∙_}
 use mathlib.Core.Bool.{Bool, true, false, _&&_}
 use mathlib.Core.List.{List, [], _∷_, _++_}
+use lib.Dec.{leb}
 use lib.ListN.{length}
 use borrow.Author.Tests.{le-leb, lt-leb}
 use Rattle.laws.specs.Lists.{every}
-use Rattle.model.specs.Setup.{inLimits, isMember, longestPayload, longestFrame}
+use Rattle.model.specs.Setup.{inLimits, isMember, longestPayload, longestFrame, verdictLength}
 use Rattle.model.specs.Batch.{exactBatch}
 use Rattle.model.specs.Question.{Question, ask, firstNo, askSetup}
 use Rattle.model.specs.Codec.{askPayload}
-use Rattle.model.specs.Tick.{Input, boardRoomy, roomy, holdbackQuestions, callQuestions}
-use Rattle.lemmas.proofs.Questions.{yes-cons, no-cons, yes-append, no-append}
+use Rattle.model.specs.Tick.{Input, holdbackSize, roomy, holdbackQuestions, callQuestions}
+use Rattle.lemmas.proofs.Questions.{yes-cons, no-cons, yes-append, no-append, shelf-passed}
+use Rattle.node.specs.Views.{bufferQuestions}
 
-module _ (i : Input) where
+-- ---- 4 to 6
+
+module _ (longest size : ℕ) (batch payload outgoing verdicts delivery : List ℕ) where
+  -- what question 6 asks of the board's buffers
+  abbrev board : Bool
+  board = leb verdictLength (length verdicts) && leb size (length delivery)
+
   -- the questions from each on
   abbrev from6 : List Question
-  from6 = ask (roomy i) 6 ∷ []
+  from6 = ask (leb longest (length outgoing) && board) 6 ∷ []
 
   abbrev from5 : List Question
-  from5 = ask (exactBatch (i .batch)) 5 ∷ from6
+  from5 = ask (exactBatch batch) 5 ∷ from6
 
-  abbrev from4 : List Question
-  from4 = askPayload (i .payload) ∷ from5
+  abbrev asked : List Question
+  asked = bufferQuestions longest size batch payload outgoing verdicts delivery
 
+  pub payload-no : longestPayload < length payload → 4 ≡ firstNo asked
+  unfolding bufferQuestions askPayload
+  payload-no h = sym (no-cons _ 4 from5 (lt-leb (length payload) longestPayload h))
+
+  module _ (h4 : length payload ≤ longestPayload) where
+    left5 : firstNo asked ≡ firstNo from5
+    unfolding bufferQuestions askPayload
+    left5 = yes-cons _ 4 from5 (le-leb (length payload) longestPayload h4)
+
+    pub batch-no : exactBatch batch ≡ false → 5 ≡ firstNo asked
+    batch-no h = sym (left5 ∙ no-cons _ 5 from6 h)
+
+    module _ (h5 : exactBatch batch ≡ true) where
+      left6 : firstNo asked ≡ firstNo from6
+      left6 = left5 ∙ yes-cons _ 5 from6 h5
+
+      pub outgoing-no : length outgoing < longest → 6 ≡ firstNo asked
+      outgoing-no h = sym (left6 ∙ no-cons (leb longest (length outgoing) && board) 6 [] (rw (lt-leb longest (length outgoing) h)))
+
+      module _ (h6 : longest ≤ length outgoing) where
+        roomy-is : (leb longest (length outgoing) && board) ≡ board
+        roomy-is = rw (le-leb longest (length outgoing) h6)
+
+        pub board-no : board ≡ false → 6 ≡ firstNo asked
+        board-no h = sym (left6 ∙ no-cons (leb longest (length outgoing) && board) 6 [] (roomy-is ∙ h))
+
+        pub none-no : board ≡ true → 0 ≡ firstNo asked
+        unfolding firstNo
+        none-no h = sym (left6 ∙ yes-cons (leb longest (length outgoing) && board) 6 [] (roomy-is ∙ h))
+
+-- ---- 1 to 6 of a station's
+
+module _ (i : Input) where
   -- questions 2 and 3
   abbrev shelf : List Question
   shelf = holdbackQuestions (i .setup) (i .clock) (i .holdback)
+
+  -- questions 4 to 6
+  abbrev buffers : ℕ → List Question
+  buffers size = bufferQuestions (longestFrame (i .setup .epsilon)) size (i .batch) (i .payload) (i .outgoing) (i .verdicts) (i .delivery)
 
   -- what question 1 asks
   abbrev valid : Bool
   valid = inLimits (i .setup) && isMember (i .setup) (i .own)
 
+  call-is : callQuestions i ≡ ask valid 1 ∷ (shelf ++ buffers (holdbackSize (i .setup)))
+  unfolding callQuestions askSetup roomy bufferQuestions
+  call-is = refl
+
   pub setup-no : valid ≡ false → 1 ≡ firstNo (callQuestions i)
-  unfolding callQuestions askSetup
-  setup-no h = sym (no-cons valid 1 (shelf ++ from4) h)
+  setup-no h = sym (ap firstNo call-is ∙ no-cons valid 1 (shelf ++ buffers (holdbackSize (i .setup))) h)
 
   module _ (h1 : valid ≡ true) where
-    left2 : firstNo (callQuestions i) ≡ firstNo (shelf ++ from4)
-    unfolding callQuestions askSetup
-    left2 = yes-cons valid 1 (shelf ++ from4) h1
+    left2 : firstNo (callQuestions i) ≡ firstNo (shelf ++ buffers (holdbackSize (i .setup)))
+    left2 = ap firstNo call-is ∙ yes-cons valid 1 (shelf ++ buffers (holdbackSize (i .setup))) h1
 
     pub shelf-no : (k : ℕ) → k ≡ firstNo shelf → (k ≡ 0 → ⊥) → k ≡ firstNo (callQuestions i)
-    shelf-no k e h = no-append shelf from4 k e h ∙ sym left2
+    shelf-no k e h = no-append shelf (buffers (holdbackSize (i .setup))) k e h ∙ sym left2
 
-    module _ (h2 : firstNo shelf ≡ 0) where
-      left4 : firstNo (callQuestions i) ≡ firstNo from4
-      unfolding every
-      left4 = left2 ∙ yes-append shelf from4 refl h2
-
-      pub payload-no : longestPayload < length (i .payload) → 4 ≡ firstNo (callQuestions i)
-      unfolding askPayload
-      payload-no h = sym (left4 ∙ no-cons _ 4 from5 (lt-leb (length (i .payload)) longestPayload h))
-
-      module _ (h4 : length (i .payload) ≤ longestPayload) where
-        left5 : firstNo (callQuestions i) ≡ firstNo from5
-        unfolding askPayload
-        left5 = left4 ∙ yes-cons _ 4 from5 (le-leb (length (i .payload)) longestPayload h4)
-
-        pub batch-no : exactBatch (i .batch) ≡ false → 5 ≡ firstNo (callQuestions i)
-        batch-no h = sym (left5 ∙ no-cons _ 5 from6 h)
-
-        module _ (h5 : exactBatch (i .batch) ≡ true) where
-          left6 : firstNo (callQuestions i) ≡ firstNo from6
-          left6 = left5 ∙ yes-cons _ 5 from6 h5
-
-          room-no : roomy i ≡ false → 6 ≡ firstNo (callQuestions i)
-          room-no h = sym (left6 ∙ no-cons (roomy i) 6 [] h)
-
-          pub outgoing-no : length (i .outgoing) < longestFrame (i .setup .epsilon) → 6 ≡ firstNo (callQuestions i)
-          unfolding roomy
-          outgoing-no h = room-no (rw (lt-leb (longestFrame (i .setup .epsilon)) (length (i .outgoing)) h))
-
-          module _ (h6 : longestFrame (i .setup .epsilon) ≤ length (i .outgoing)) where
-            roomy-is : roomy i ≡ boardRoomy (i .setup) (i .verdicts) (i .delivery)
-            unfolding roomy
-            roomy-is = rw (le-leb (longestFrame (i .setup .epsilon)) (length (i .outgoing)) h6)
-
-            pub board-no : boardRoomy (i .setup) (i .verdicts) (i .delivery) ≡ false → 6 ≡ firstNo (callQuestions i)
-            board-no h = room-no (roomy-is ∙ h)
-
-            pub none-no : boardRoomy (i .setup) (i .verdicts) (i .delivery) ≡ true → 0 ≡ firstNo (callQuestions i)
-            unfolding firstNo
-            none-no h = sym (left6 ∙ yes-cons (roomy i) 6 [] (roomy-is ∙ h))
+    -- the shelf has its length, so the hand-out buffer is held to it
+    pub buffers-left : (k : ℕ) → firstNo shelf ≡ 0 → k ≡ firstNo (buffers (length (i .holdback))) → k ≡ firstNo (callQuestions i)
+    unfolding every
+    buffers-left k h2 e =
+        e ∙ ap (λ (size : ℕ). firstNo (buffers size)) (shelf-passed (i .setup) (i .clock) (i .holdback) h2 .1)
+        ∙ sym (left2 ∙ yes-append shelf (buffers (holdbackSize (i .setup))) refl h2)

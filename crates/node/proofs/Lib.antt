@@ -6,8 +6,10 @@ mod Times
 mod Verdicts
 -- `Places` has the queue's buffer within a tick.
 mod Places
--- `StampTurns` and `Turns` have the hearing loop, turn by turn: what goes into the stamp, and what goes on the queue.
-mod StampTurns
+-- `HearTurns` and `StampTurns` have the hearing loop, turn by turn, whatever hears: what is held with the verdicts, and what goes into the stamp.
+-- `Turns` has what goes on a node's queue.
+pub mod HearTurns
+pub mod StampTurns
 mod Turns
 -- `Clocks` has the last clock, and `Shared` what a node and an observer share, from its parts.
 mod Clocks

@@ -6,11 +6,10 @@ use mathlib.Core.Path.{_≡_, refl, sym, ap, ap₂, _∙_}
 use mathlib.Core.Bool.{Bool, true, false, not, cond}
 use mathlib.Core.List.{List, [], _++_, List·Memᴰ}
 use lib.Dec.{leb}
-use lib.ListN.{length, take, drop, take-append-drop}
-use lib.Seq.{length-take-le, drop-append-add, drop-drop}
+use lib.ListN.{length, take, drop}
 use Rattle.laws.proofs.Numbers.{and-left, and-right}
 use Rattle.laws.specs.Lists.{every, select, joined, overlay, insertAt}
-use Rattle.laws.proofs.Lists.{every-mem, every-of-mem, leading-le, length-insertAt, length-overlay, length-joined-le, select-length-le}
+use Rattle.laws.proofs.Lists.{every-mem, every-of-mem, leading-le, length-insertAt, length-overlay, overlay-own, length-joined-le, select-length-le}
 use Rattle.model.specs.Setup.{Setup, width, depth, longestFrame, holdbackLength}
 use Rattle.model.specs.Frame.{Frame, twoAt, twoBytes, wellFormed, encode, decode}
 use Rattle.model.specs.Timestamp.{sum}
@@ -82,20 +81,6 @@ both-small s v buffer p index due limits sound few e =
     )
 
 -- ---- the bytes of a queue are its frames, and what stands behind them
-
-module _ {A : Type 0} where
-  overlay-own : (n : ℕ) (l : List A) → n ≤ length l → overlay (take n l) l ≡ l
-  unfolding overlay
-  overlay-own n l h = ap (λ (k : ℕ). take n l ++ drop k l) (length-take-le n l h) ∙ take-append-drop n l
-
-  -- what is laid over a shorter one hides it
-  pub overlay-hides : (a b l : List A) → length b ≤ length a → overlay a (overlay b l) ≡ overlay a l
-  unfolding overlay
-  overlay-hides a b l h =
-      let n : ℕ = length a - length b in
-      let e : length a ≡ length b + n = omega arith in
-      ap (λ (r : List A). a ++ r)
-      (ap (λ (k : ℕ). drop k (b ++ drop (length b) l)) e ∙ drop-append-add b (drop (length b) l) n ∙ drop-drop n (length b) l ∙ ap (λ (k : ℕ). drop k l) (sym e))
 
 pub queue-own : (s : Setup) (v least : ℕ) (buffer : List ℕ) → Bytes buffer → 2 ≤ length buffer → soundHoldback s v least buffer ≡ true
     → buffer ≡ overlay (encodeFrames (held (s .epsilon) buffer)) buffer

@@ -6,7 +6,7 @@ use mathlib.Core.Bool.{Bool, not}
 use mathlib.Core.List.{List, _++_, List·Memᴰ}
 use lib.ListN.{length, length-append}
 use Rattle.laws.specs.Lists.{every, select, joined, overlay}
-use Rattle.laws.proofs.Lists.{mem-of-select, every-map, every-of-mem, length-overlay, joined-append}
+use Rattle.laws.proofs.Lists.{mem-of-select, every-map, every-of-mem, length-overlay, overlay-hides, joined-append}
 use Rattle.model.specs.Setup.{Setup}
 use Rattle.model.specs.Timestamp.{Timestamp, trimmed, widened}
 use Rattle.model.specs.Frame.{Frame, twoBytes, twoAt, encode, wellFormed}
@@ -22,7 +22,7 @@ use Rattle.holdback.specs.Queue.{frameStart, Spans}
 use Rattle.holdback.specs.Sound.{Recent}
 use Rattle.holdback.proofs.Placed.{Wide, written-whole}
 use Rattle.node.specs.States.{Timed, earlyOnes, HandedEarly, QueueOpened, heardWith, heardAll, HeardQueue, HeardStamp, absorbedFor, Closing, Delivered, attendedAll, AttendedQueue, AttendedStamp}
-use Rattle.node.proofs.Places.{size-two, frames-long, overlay-hides}
+use Rattle.node.proofs.Places.{size-two, frames-long}
 
 -- more frames are no shorter
 more-longer : (q r : List Frame) → length (encodeFrames q) ≤ length (encodeFrames (q ++ r))

@@ -1,112 +1,107 @@
--- The hearing loop, the half that goes into the stamp: what is absorbed so far, and what absorbing the rest makes of it, is what
--- absorbing all entries makes. Assumes nothing.
+-- The hearing loop, the half that goes into the stamp, whatever an entry's share of it is: what is absorbed so far, and what absorbing the rest
+-- makes of it, is what absorbing all entries makes. Assumes nothing.
 use Prim.Native.Nat.{ℕ, zero, suc, _+_, _-_, _≤_, _<_}
 use native.Mathlib.Nat.{sub-zero}
 use native.Mathlib.Omega.{arith}
 use mathlib.Core.Path.{_≡_, refl, sym, ap, ap₂, _∙_}
 use mathlib.Core.Bool.{Bool, true, false, cond}
-use mathlib.Core.List.{List, _∷_}
-use lib.ListN.{drop}
-use Rattle.model.specs.Setup.{Setup}
+use mathlib.Core.List.{List, [], _∷_}
+use lib.ListN.{length, drop}
+use Rattle.model.specs.Setup.{Setup, width}
 use Rattle.model.specs.Timestamp.{Timestamp, trimmed, widened}
 use Rattle.model.specs.Order.{readingOf}
 use Rattle.model.specs.Frame.{Frame, decode}
 use Rattle.model.specs.Batch.{exactBatch, batchEntries}
 use Rattle.model.specs.Judge.{absorbBy, absorbAll, absorbEach}
-use Rattle.lemmas.proofs.Counts.{trimmed-widened, absorb-wide}
+use Rattle.lemmas.proofs.Counts.{trimmed-wide, trimmed-widened, absorb-wide}
 use Rattle.batch.specs.Walk.{countOf, entryAt, nextAt}
 use Rattle.batch.proofs.Walk.{walked, batch-walked}
 use Rattle.node.specs.States.{absorbedFor}
+use Rattle.node.proofs.HearTurns.{walk-more}
 
-pub walk-more : (batch : List ℕ) (at i : ℕ) → i < countOf batch → walked (countOf batch - i) batch at ≡ entryAt batch at ∷ walked (countOf batch - (i + 1)) batch (nextAt batch at)
-unfolding walked
-walk-more batch at i h =
-    let e : countOf batch - i ≡ suc (countOf batch - (i + 1)) = omega arith in
-    rw e
+-- an entry's share of the stamp, by its verdict's number
+abbrev pub Share : Type 0
+Share = ℕ → List ℕ → Timestamp → Timestamp
 
--- one entry's share of the stamp; one that only listens absorbs none
-abbrev absorbedOne : Bool → ℕ → Setup → ℕ → Frame → Timestamp → Timestamp
-absorbedOne listens x s v f t = cond listens t (absorbBy x s v f t)
-
-absorbed-more :
-    (listens : Bool) (s : Setup) (v : ℕ) (t : Timestamp) (bytes : List ℕ) (rest : List (List ℕ)) (x : ℕ) (numbers : List ℕ)
-    → absorbedFor listens s v t (bytes ∷ rest) (x ∷ numbers) ≡ absorbedFor listens s v (absorbedOne listens x s v (decode (s .epsilon) bytes) t) rest numbers
-unfolding absorbedFor absorbAll absorbEach
-absorbed-more true s v t bytes rest x numbers = refl
-absorbed-more false s v t bytes rest x numbers = refl
-
--- a refused frame is not absorbed
-absorbed-none : (listens : Bool) (s : Setup) (v x : ℕ) (f : Frame) (t : Timestamp) → (x ≡ 0 → ⊥) → absorbedOne listens x s v f t ≡ t
-absorbed-none true s v x f t h = refl
-absorbed-none false s v zero f t h = absurd (h refl)
-absorbed-none false s v (suc k) f t h = refl
-
--- a taken one is, and the places past the 2ε counts stay 0
-absorbed-taken :
-    (listens : Bool) (s : Setup) (v : ℕ) (f : Frame) (t t′ : Timestamp) → s .epsilon ≤ 16 → t ≡ widened (trimmed (s .epsilon) t)
-    → t′ ≡ cond listens t (widened (absorbBy 0 s v f (trimmed (s .epsilon) t)))
-    → (t′ ≡ widened (trimmed (s .epsilon) t′)) × (trimmed (s .epsilon) t′ ≡ absorbedOne listens 0 s v f (trimmed (s .epsilon) t))
-absorbed-taken true s v f t t′ small narrow e = (e ∙ narrow ∙ ap (λ (x : Timestamp). widened (trimmed (s .epsilon) x)) (sym e), ap (trimmed (s .epsilon)) e)
-absorbed-taken false s v f t t′ small narrow e = (e ∙ ap widened (sym kept), kept)
-  where
-    kept : trimmed (s .epsilon) t′ ≡ absorbBy 0 s v f (trimmed (s .epsilon) t)
-    kept =
-        ap (trimmed (s .epsilon)) e
-        ∙ trimmed-widened (s .epsilon) (absorbBy 0 s v f (trimmed (s .epsilon) t)) small (absorb-wide (s .epsilon) (s .modulus) (readingOf s v f) (trimmed (s .epsilon) t) (f .stamp))
-
-absorbed-rest : (listens : Bool) (s : Setup) (v : ℕ) (t : Timestamp) (batch numbers : List ℕ) (at k : ℕ) → k ≡ 0 → absorbedFor listens s v t (walked k batch at) numbers ≡ t
-unfolding absorbedFor absorbAll absorbEach walked
-absorbed-rest true s v t batch numbers at k e = refl
-absorbed-rest false s v t batch numbers at k e = rw e
+absorbed-rest : (one : Share) (t : Timestamp) (batch numbers : List ℕ) (at k : ℕ) → k ≡ 0 → absorbEach one t (walked k batch at) numbers ≡ t
+unfolding absorbEach walked
+absorbed-rest one t batch numbers at k e = rw e
 
 -- this half of the loop's invariant, at entry i, whose length stands at `at`; `numbers` are the verdicts of all entries
-pub record StampTurning (listens : Bool) (s : Setup) (v : ℕ) (t₀ : Timestamp) (batch numbers : List ℕ) (t : Timestamp) (at i : ℕ) : Type 0 where
-  pub narrow : t ≡ widened (trimmed (s .epsilon) t)
-  pub whole : absorbedFor listens s v (trimmed (s .epsilon) t₀) (batchEntries batch) numbers ≡ absorbedFor listens s v (trimmed (s .epsilon) t) (walked (countOf batch - i) batch at) (drop i numbers)
+pub record StampTurning (one : Share) (epsilon : ℕ) (t₀ : Timestamp) (batch numbers : List ℕ) (t : Timestamp) (at i : ℕ) : Type 0 where
+  pub narrow : t ≡ widened (trimmed epsilon t)
+  pub whole : absorbEach one (trimmed epsilon t₀) (batchEntries batch) numbers ≡ absorbEach one (trimmed epsilon t) (walked (countOf batch - i) batch at) (drop i numbers)
 
-pub stamp-start : {listens : Bool} {s : Setup} {v : ℕ} {t : Timestamp} {batch numbers : List ℕ} → t ≡ widened (trimmed (s .epsilon) t) → exactBatch batch ≡ true → StampTurning listens s v t batch numbers t 1 0
-stamp-start {listens} {s} {v} {t} {batch} narrow exact =
+pub stamp-start : {one : Share} {epsilon : ℕ} {t : Timestamp} {batch numbers : List ℕ} → t ≡ widened (trimmed epsilon t) → exactBatch batch ≡ true → StampTurning one epsilon t batch numbers t 1 0
+stamp-start {one} {epsilon} {t} {batch} narrow exact =
     record { narrow = narrow; whole = rw (sub-zero (countOf batch), batch-walked batch exact) }
 
 -- one turn: the entry's verdict is x, and the next entry stands at `at′`
-module _ {listens : Bool} {s : Setup} {v : ℕ} {t₀ : Timestamp} {batch numbers : List ℕ} {t : Timestamp} {at i : ℕ} (u : StampTurning listens s v t₀ batch numbers t at i) (more : i < countOf batch)
+module _ {one : Share} {epsilon : ℕ} {t₀ : Timestamp} {batch numbers : List ℕ} {t : Timestamp} {at i : ℕ} (u : StampTurning one epsilon t₀ batch numbers t at i) (more : i < countOf batch)
     {bytes : List ℕ} {at′ x : ℕ} (entry : bytes ≡ entryAt batch at) (step : at′ ≡ nextAt batch at) (verdict : drop i numbers ≡ x ∷ drop (i + 1) numbers) where
   abbrev others : List (List ℕ)
   others = walked (countOf batch - (i + 1)) batch at′
 
   absorbed-one :
-      absorbedFor listens s v (trimmed (s .epsilon) t₀) (batchEntries batch) numbers
-      ≡ absorbedFor listens s v (absorbedOne listens x s v (decode (s .epsilon) bytes) (trimmed (s .epsilon) t)) others (drop (i + 1) numbers)
+      absorbEach one (trimmed epsilon t₀) (batchEntries batch) numbers ≡ absorbEach one (one x bytes (trimmed epsilon t)) others (drop (i + 1) numbers)
+  unfolding absorbEach
   absorbed-one =
       u .whole
-      ∙ (ap₂ (λ (entries : List (List ℕ)) (l : List ℕ). absorbedFor listens s v (trimmed (s .epsilon) t) entries l)
+      ∙ ap₂ (λ (entries : List (List ℕ)) (l : List ℕ). absorbEach one (trimmed epsilon t) entries l)
       (walk-more batch at i more ∙ ap₂ (λ (b : List ℕ) (k : ℕ). b ∷ walked (countOf batch - (i + 1)) batch k) (sym entry) (sym step)) verdict
-      ∙ absorbed-more listens s v (trimmed (s .epsilon) t) bytes others x (drop (i + 1) numbers))
 
-  pub stamp-refused : (x ≡ 0 → ⊥) → StampTurning listens s v t₀ batch numbers t at′ (i + 1)
-  stamp-refused h =
+  -- a refused frame is not absorbed
+  pub stamp-refused : one x bytes (trimmed epsilon t) ≡ trimmed epsilon t → StampTurning one epsilon t₀ batch numbers t at′ (i + 1)
+  stamp-refused none =
+      record { narrow = u .narrow; whole = absorbed-one ∙ ap (λ (y : Timestamp). absorbEach one y others (drop (i + 1) numbers)) none }
+
+  -- a taken one is, and the places past the 2ε counts stay 0
+  pub stamp-taken : {t′ : Timestamp} → epsilon ≤ 16 → length (one x bytes (trimmed epsilon t) .kn) ≡ width epsilon → t′ ≡ widened (one x bytes (trimmed epsilon t)) → StampTurning one epsilon t₀ batch numbers t′ at′ (i + 1)
+  stamp-taken {t′} small wide e =
+      let kept : trimmed epsilon t′ ≡ one x bytes (trimmed epsilon t) = ap (trimmed epsilon) e ∙ trimmed-widened epsilon (one x bytes (trimmed epsilon t)) small wide in
       record {
-        narrow = u .narrow;
-        whole =
-            absorbed-one
-            ∙ ap (λ (y : Timestamp). absorbedFor listens s v y others (drop (i + 1) numbers)) (absorbed-none listens s v x (decode (s .epsilon) bytes) (trimmed (s .epsilon) t) h);
+        narrow = e ∙ ap widened (sym kept);
+        whole = absorbed-one ∙ ap (λ (y : Timestamp). absorbEach one y others (drop (i + 1) numbers)) (sym kept);
       }
 
-  pub stamp-taken : {t′ : Timestamp} → s .epsilon ≤ 16 → x ≡ 0 → t′ ≡ cond listens t (widened (absorbBy 0 s v (decode (s .epsilon) bytes) (trimmed (s .epsilon) t))) → StampTurning listens s v t₀ batch numbers t′ at′ (i + 1)
-  stamp-taken {t′} small none e =
-      let f : Frame = decode (s .epsilon) bytes in
-      let both = absorbed-taken listens s v f t t′ small (u .narrow) e in
-      record {
-        narrow = both .0;
-        whole =
-            absorbed-one
-            ∙ (ap (λ (k : ℕ). absorbedFor listens s v (absorbedOne listens k s v f (trimmed (s .epsilon) t)) others (drop (i + 1) numbers)) none
-            ∙ ap (λ (y : Timestamp). absorbedFor listens s v y others (drop (i + 1) numbers)) (sym (both .1)));
-      }
-
-pub stamp-end : {listens : Bool} {s : Setup} {v : ℕ} {t₀ : Timestamp} {batch numbers : List ℕ} {t : Timestamp} {at i : ℕ} → StampTurning listens s v t₀ batch numbers t at i → countOf batch ≤ i
-    → t ≡ widened (absorbedFor listens s v (trimmed (s .epsilon) t₀) (batchEntries batch) numbers)
-stamp-end {listens} {s} {v} {t₀} {batch} {numbers} {t} {at} {i} u h =
+pub stamp-end : {one : Share} {epsilon : ℕ} {t₀ : Timestamp} {batch numbers : List ℕ} {t : Timestamp} {at i : ℕ} → StampTurning one epsilon t₀ batch numbers t at i → countOf batch ≤ i
+    → t ≡ widened (absorbEach one (trimmed epsilon t₀) (batchEntries batch) numbers)
+stamp-end {one} {epsilon} {t₀} {batch} {numbers} {t} {at} {i} u h =
     let none : countOf batch - i ≡ 0 = omega arith in
     u .narrow
-    ∙ ap widened (sym (u .whole ∙ absorbed-rest listens s v (trimmed (s .epsilon) t) batch (drop i numbers) at (countOf batch - i) none))
+    ∙ ap widened (sym (u .whole ∙ absorbed-rest one (trimmed epsilon t) batch (drop i numbers) at (countOf batch - i) none))
+
+-- ---- at a node; one that only listens absorbs none
+
+abbrev pub absorbedOne : Bool → Setup → ℕ → Share
+absorbedOne listens s v x bytes t = cond listens t (absorbBy x s v (decode (s .epsilon) bytes) t)
+
+absorbed-each : (listens : Bool) (s : Setup) (v : ℕ) (t : Timestamp) (entries : List (List ℕ)) (numbers : List ℕ) → absorbEach (absorbedOne listens s v) t entries numbers ≡ absorbedFor listens s v t entries numbers
+unfolding absorbedFor absorbAll absorbEach
+absorbed-each false s v t entries numbers = refl
+absorbed-each true s v t [] numbers = refl
+absorbed-each true s v t (bytes ∷ rest) [] = refl
+absorbed-each true s v t (bytes ∷ rest) (x ∷ numbers) = absorbed-each true s v t rest numbers
+
+pub node-refused : (listens : Bool) (s : Setup) (v x : ℕ) (bytes : List ℕ) (t : Timestamp) → (x ≡ 0 → ⊥) → absorbedOne listens s v x bytes t ≡ t
+node-refused true s v x bytes t h = refl
+node-refused false s v zero bytes t h = absurd (h refl)
+node-refused false s v (suc k) bytes t h = refl
+
+pub node-wide : (listens : Bool) (s : Setup) (v : ℕ) (bytes : List ℕ) (t : Timestamp) → length (absorbedOne listens s v 0 bytes (trimmed (s .epsilon) t) .kn) ≡ width (s .epsilon)
+node-wide true s v bytes t = trimmed-wide (s .epsilon) t
+node-wide false s v bytes t =
+    let f : Frame = decode (s .epsilon) bytes in
+    absorb-wide (s .epsilon) (s .modulus) (readingOf s v f) (trimmed (s .epsilon) t) (f .stamp)
+
+pub node-taken :
+    (listens : Bool) (s : Setup) (v : ℕ) (bytes : List ℕ) (t t′ : Timestamp) → t ≡ widened (trimmed (s .epsilon) t)
+    → t′ ≡ cond listens t (widened (absorbBy 0 s v (decode (s .epsilon) bytes) (trimmed (s .epsilon) t)))
+    → t′ ≡ widened (absorbedOne listens s v 0 bytes (trimmed (s .epsilon) t))
+node-taken true s v bytes t t′ narrow e = e ∙ narrow
+node-taken false s v bytes t t′ narrow e = e
+
+pub node-end : (listens : Bool) (s : Setup) (v : ℕ) {t₀ : Timestamp} {batch numbers : List ℕ} {t : Timestamp} {at i : ℕ} → StampTurning (absorbedOne listens s v) (s .epsilon) t₀ batch numbers t at i → countOf batch ≤ i
+    → t ≡ widened (absorbedFor listens s v (trimmed (s .epsilon) t₀) (batchEntries batch) numbers)
+node-end listens s v {t₀} {batch} {numbers} u h =
+    stamp-end u h ∙ ap widened (absorbed-each listens s v (trimmed (s .epsilon) t₀) (batchEntries batch) numbers)

@@ -12,45 +12,44 @@ use Rattle.model.specs.Timestamp.{countsFrom, sum, atMost}
 use Rattle.model.specs.Frame.{Frame, wellFormed, countsOf, payloadCountAt, decode}
 use Rattle.model.specs.Order.{readingOf}
 use Rattle.model.specs.Question.{ask, firstNo, frameQuestions, askForm}
-use Rattle.model.specs.Holdback.{notEarly, passes}
-use Rattle.model.specs.Judge.{askLate, askEarly, askCounts}
+use Rattle.model.specs.Holdback.{passes}
 use Rattle.lemmas.proofs.Bounds.{Limits, FrameOk}
 use Rattle.lemmas.proofs.Questions.{first-yes, yes-cons, no-cons, limits-from}
 use Rattle.lemmas.proofs.RoundTrip.{formed-from, passes-decode}
 use Rattle.lemmas.proofs.Counts.{counts-from-drop}
 use Rattle.lemmas.proofs.Queue.{reading-high}
-use Rattle.node.specs.Views.{timeQuestions}
-use Rattle.node.specs.States.{Readable}
+use Rattle.node.specs.Views.{timeQuestionsAt}
+use Rattle.node.specs.States.{Readable, Askable}
 
-module _ (listens : Bool) (s : Setup) (v : ℕ) (f : Frame) (reading : ℕ) (e : reading ≡ readingOf s v f) where
-  pub late-no : reading + (s .delta + s .epsilon) < s .modulus → 13 ≡ firstNo (timeQuestions listens s v f)
-  unfolding timeQuestions askLate firstNo
-  late-no h = rw (← e, lt-leb (s .modulus) (reading + (s .delta + s .epsilon)) h)
+module _ (listens : Bool) (s : Setup) (at reading : ℕ) (f : Frame) where
+  pub late-no : reading + (s .delta + s .epsilon) < at → 13 ≡ firstNo (timeQuestionsAt listens s at reading f)
+  unfolding timeQuestionsAt firstNo
+  late-no h = rw (lt-leb at (reading + (s .delta + s .epsilon)) h)
 
-  module _ (h1 : s .modulus ≤ reading + (s .delta + s .epsilon)) where
-    pub early-no : s .modulus + (s .epsilon - 1) < reading + f .stamp .c → 14 ≡ firstNo (timeQuestions listens s v f)
-    unfolding timeQuestions askLate askEarly notEarly sum firstNo
+  module _ (h1 : at ≤ reading + (s .delta + s .epsilon)) where
+    pub early-no : at + (s .epsilon - 1) < reading + f .stamp .c → 14 ≡ firstNo (timeQuestionsAt listens s at reading f)
+    unfolding timeQuestionsAt sum firstNo
     early-no h =
-        rw (← e, le-leb (s .modulus) (reading + (s .delta + s .epsilon)) h1, lt-leb (reading + f .stamp .c) (s .modulus + (s .epsilon - 1)) h)
+        rw (le-leb at (reading + (s .delta + s .epsilon)) h1, lt-leb (reading + f .stamp .c) (at + (s .epsilon - 1)) h)
 
-    module _ (h2 : reading + f .stamp .c ≤ s .modulus + (s .epsilon - 1)) where
-      counts-left : firstNo (timeQuestions listens s v f) ≡ firstNo (cond listens [] (ask (atMost (s .n - 1) (countsFrom (s .epsilon) reading (f .stamp .kn) (s .modulus))) 15 ∷ []))
-      unfolding timeQuestions askLate askEarly askCounts notEarly sum firstNo
+    module _ (h2 : reading + f .stamp .c ≤ at + (s .epsilon - 1)) where
+      counts-left : firstNo (timeQuestionsAt listens s at reading f) ≡ firstNo (cond listens [] (ask (atMost (s .n - 1) (countsFrom (s .epsilon) reading (f .stamp .kn) at)) 15 ∷ []))
+      unfolding timeQuestionsAt sum firstNo
       counts-left =
-          rw (← e, le-leb (s .modulus) (reading + (s .delta + s .epsilon)) h1, le-leb (reading + f .stamp .c) (s .modulus + (s .epsilon - 1)) h2)
+          rw (le-leb at (reading + (s .delta + s .epsilon)) h1, le-leb (reading + f .stamp .c) (at + (s .epsilon - 1)) h2)
 
-      pub counts-unasked : listens ≡ true → 0 ≡ firstNo (timeQuestions listens s v f)
+      pub counts-unasked : listens ≡ true → 0 ≡ firstNo (timeQuestionsAt listens s at reading f)
       unfolding firstNo
       counts-unasked l = sym (counts-left ∙ rw l)
 
       module _ (l : listens ≡ false) where
-        counts-asked : firstNo (timeQuestions listens s v f) ≡ firstNo (ask (atMost (s .n - 1) (countsFrom (s .epsilon) reading (f .stamp .kn) (s .modulus))) 15 ∷ [])
+        counts-asked : firstNo (timeQuestionsAt listens s at reading f) ≡ firstNo (ask (atMost (s .n - 1) (countsFrom (s .epsilon) reading (f .stamp .kn) at)) 15 ∷ [])
         counts-asked = counts-left ∙ rw l
 
-        pub counts-no : atMost (s .n - 1) (countsFrom (s .epsilon) reading (f .stamp .kn) (s .modulus)) ≡ false → 15 ≡ firstNo (timeQuestions listens s v f)
+        pub counts-no : atMost (s .n - 1) (countsFrom (s .epsilon) reading (f .stamp .kn) at) ≡ false → 15 ≡ firstNo (timeQuestionsAt listens s at reading f)
         counts-no h = sym (counts-asked ∙ no-cons _ 15 [] h)
 
-        pub times-right : atMost (s .n - 1) (countsFrom (s .epsilon) reading (f .stamp .kn) (s .modulus)) ≡ true → 0 ≡ firstNo (timeQuestions listens s v f)
+        pub times-right : atMost (s .n - 1) (countsFrom (s .epsilon) reading (f .stamp .kn) at) ≡ true → 0 ≡ firstNo (timeQuestionsAt listens s at reading f)
         unfolding firstNo
         times-right h = sym (counts-asked ∙ yes-cons _ 15 [] h)
 
@@ -88,4 +87,19 @@ given s v bytes p =
       c-below = ok .sound .close;
       long = omega (arith, formed-from (s .epsilon) bytes form .size);
       high = reading-high s v (decode (s .epsilon) bytes) lim;
+    }
+
+-- and so 13 to 15 can be asked of it, with its r read near v, which reads B
+pub askable : (s : Setup) (v reading : ℕ) (bytes : List ℕ) → Readable s v bytes → reading ≡ readingOf s v (decode (s .epsilon) bytes) → Askable s (s .modulus) reading bytes
+askable s v reading bytes p e =
+    let g : Given s v bytes = given s v bytes p in
+    record {
+      n-pos = g .limits .n-pos;
+      epsilon-pos = g .limits .epsilon-pos;
+      epsilon-most = g .limits .epsilon-most;
+      delta-most = g .limits .delta-most;
+      clock-fits = omega (arith, g .limits .modulus-most);
+      reading-fits = omega (arith, g .high, g .limits .modulus-most, g .limits .epsilon-most);
+      c-below = g .c-below;
+      long = g .long;
     }

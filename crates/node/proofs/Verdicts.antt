@@ -25,7 +25,7 @@ use Rattle.holdback.proofs.Seen.{seen-at}
 use Rattle.node.specs.declared.verdict.Placed.{Placed}
 use Rattle.node.specs.declared.verdict.Verdict as codes
 use Rattle.node.specs.declared.verdict.Verdict.the-variants.{Taken, Refused}
-use Rattle.node.specs.Views.{verdictOf, Located, questionsFor, timeQuestions}
+use Rattle.node.specs.Views.{verdictOf, Located, questionsFor, timeQuestions, timeQuestionsAt}
 use Rattle.node.specs.States.{Timed, Readable, Queued}
 
 -- ---- the questions, as the code asks them: 10 to 12, 13 to 15, and 16
@@ -34,7 +34,7 @@ asked-is :
     (listens : Bool) (s : Setup) (v : ℕ) (queue : List Frame) (bytes : List ℕ)
     → questionsFor listens s v queue bytes
     ≡ frameQuestions s bytes ++ (timeQuestions listens s v (decode (s .epsilon) bytes) ++ (askRepeat queue (decode (s .epsilon) bytes) ∷ []))
-unfolding questionsFor judgeQuestions observerQuestions placeQuestions observerPlaceQuestions timeQuestions
+unfolding questionsFor judgeQuestions observerQuestions placeQuestions observerPlaceQuestions timeQuestions timeQuestionsAt askLate askEarly askCounts notEarly
 asked-is true s v queue bytes = refl
 asked-is false s v queue bytes = refl
 
@@ -43,7 +43,7 @@ unfolding every frameQuestions askForm askRange askStamp
 frame-numbered s bytes = refl
 
 time-numbered : (listens : Bool) (s : Setup) (v : ℕ) (f : Frame) → every (λ q. ltb 0 (q .number)) (timeQuestions listens s v f) ≡ true
-unfolding every timeQuestions askLate askEarly askCounts
+unfolding every timeQuestions timeQuestionsAt
 time-numbered true s v f = refl
 time-numbered false s v f = refl
 
@@ -172,12 +172,12 @@ pub late-placeable : (s : Setup) (v : ℕ) (f : Frame) → FrameOk s f → s .mo
 late-placeable s v f ok h = record { station-below = ok .station-below; r-below = ok .r-below; not-before = omega arith }
 
 pub time-late : (listens : Bool) (s : Setup) (v : ℕ) (f : Frame) → firstNo (timeQuestions listens s v f) ≡ 0 → s .modulus ≤ readingOf s v f + (s .delta + s .epsilon)
-unfolding timeQuestions askLate
+unfolding timeQuestions timeQuestionsAt
 time-late listens s v f e =
     leb-true (s .modulus) (readingOf s v f + (s .delta + s .epsilon)) (first-yes (leb (s .modulus) (readingOf s v f + (s .delta + s .epsilon))) 12 _ e)
 
 pub time-early : (listens : Bool) (s : Setup) (v : ℕ) (f : Frame) → firstNo (timeQuestions listens s v f) ≡ 0 → notEarly s v f ≡ true
-unfolding timeQuestions askLate askEarly
+unfolding timeQuestions timeQuestionsAt notEarly
 time-early listens s v f e =
     first-yes (notEarly s v f) 13 _ (other-yes (leb (s .modulus) (readingOf s v f + (s .delta + s .epsilon))) 12 _ e)
 

@@ -1,6 +1,6 @@
 -- What the functions of a tick ask of their arguments, and what they leave. `listens` is true of an observer, and false of a node.
 -- Assumes nothing.
-use Prim.Native.Nat.{ℕ, _+_, _*_, _-_, _≤_, _<_}
+use Prim.Native.Nat.{ℕ, _+_, _*_, _-_, _^_, _≤_, _<_}
 use mathlib.Core.Path.{_≡_}
 use mathlib.Core.Bool.{Bool, true, not, cond}
 use mathlib.Core.List.{List, [], _++_}
@@ -8,7 +8,7 @@ use lib.ListN.{length}
 use Rattle.laws.specs.Lists.{select, overlay, insertAt}
 use Rattle.model.specs.Setup.{Setup, inLimits, verdictLength}
 use Rattle.model.specs.Timestamp.{Timestamp, trimmed, widened, clockStep, soundClock}
-use Rattle.model.specs.Frame.{Frame, twoAt, encode, decode}
+use Rattle.model.specs.Frame.{Frame, twoAt, encode, decode, payloadCountAt}
 use Rattle.model.specs.Batch.{exactBatch, batchEntries}
 use Rattle.model.specs.Holdback.{held, soundHoldback, encodeFrames, encodeHoldback}
 use Rattle.model.specs.Question.{firstNo, frameQuestions}
@@ -31,6 +31,17 @@ pub record Timed (s : Setup) (v : ℕ) : Type 0 where
 pub record Readable (s : Setup) (v : ℕ) (bytes : List ℕ) : Type 0 where
   pub timed : Timed s v
   pub passed : firstNo (frameQuestions s bytes) ≡ 0
+
+-- what the questions on a frame's time ask of its bytes, with r at a reading, and v at its own: both are numbers of the machine
+pub record Askable (s : Setup) (at reading : ℕ) (bytes : List ℕ) : Type 0 where
+  pub n-pos : 1 ≤ s .n
+  pub epsilon-pos : 1 ≤ s .epsilon
+  pub epsilon-most : s .epsilon ≤ 16
+  pub delta-most : s .delta ≤ 64
+  pub clock-fits : at ≤ 2 ^ 63
+  pub reading-fits : reading ≤ 2 ^ 63
+  pub c-below : decode (s .epsilon) bytes .stamp .c < s .epsilon
+  pub long : payloadCountAt (s .epsilon) ≤ length bytes
 
 -- a buffer for a queue, as long as it has to be
 pub record Stored (s : Setup) (buffer : List ℕ) : Type 0 where

@@ -2,13 +2,19 @@
 -- Assumes nothing.
 use Prim.Native.Nat.{ℕ}
 use mathlib.Core.Path.{_≡_}
-use mathlib.Core.Bool.{Bool, cond}
+use mathlib.Core.Bool.{Bool, _&&_, cond}
 use mathlib.Core.List.{List, [], _∷_}
+use lib.Dec.{leb}
+use lib.ListN.{length}
+use Rattle.model.specs.Setup.{verdictLength}
 use Rattle.model.specs.Setup as setups
 use Rattle.model.specs.Frame.{Frame, decode}
 use Rattle.model.specs.Order.{readingOf}
-use Rattle.model.specs.Question.{Question}
-use Rattle.model.specs.Judge.{Asking, taken, refused, askLate, askEarly, askCounts, judgeQuestions, observerQuestions}
+use Rattle.model.specs.Batch.{exactBatch}
+use Rattle.model.specs.Question.{Question, ask}
+use Rattle.model.specs.Codec.{askPayload}
+use Rattle.model.specs.Holdback.{notEarlyAt}
+use Rattle.model.specs.Judge.{Asking, taken, refused, askLateAt, askCountsAt, judgeQuestions, observerQuestions}
 use Rattle.model.specs.Judge as judging
 use Rattle.model.specs.Tick.{Input}
 use Rattle.setup.specs.Views.{setupOf}
@@ -37,6 +43,14 @@ callInput setup own clock tables holdback batch send payload outgoing verdicts d
       delivery = delivery;
     }
 
+-- questions 4 to 6 of a call, by the lengths of the longest frame and of the shelf
+unfoldable pub bufferQuestions : ℕ → ℕ → List ℕ → List ℕ → List ℕ → List ℕ → List ℕ → List Question
+bufferQuestions longest size batch payload outgoing verdicts delivery =
+    askPayload payload
+    ∷ ask (exactBatch batch) 5
+    ∷ ask (leb longest (length outgoing) && (leb verdictLength (length verdicts) && leb size (length delivery))) 6
+    ∷ []
+
 -- 01: "A verdict is either taken, with its place on the shelf, or refused, with the number"
 abbrev pub verdictOf : Verdict → judging.Verdict
 verdictOf (Taken placed) = taken (placed .place .index)
@@ -51,6 +65,11 @@ pub record Located (s : setups.Setup) (v : ℕ) (buffer bytes : List ℕ) (r : V
 unfoldable pub questionsFor : Bool → setups.Setup → ℕ → Asking
 questionsFor listens s v = cond listens (observerQuestions s v) (judgeQuestions s v)
 
--- 13 to 15 of them: what is asked of a frame's clock and counts
+-- 13 to 15 of them: what is asked of a frame's clock and counts, with r at a reading, and v at its own
+unfoldable pub timeQuestionsAt : Bool → setups.Setup → ℕ → ℕ → Frame → List Question
+timeQuestionsAt listens s at reading f =
+    askLateAt s at reading ∷ ask (notEarlyAt s at reading f) 14 ∷ cond listens [] (askCountsAt s at reading f ∷ [])
+
+-- r is read near v, which reads B
 unfoldable pub timeQuestions : Bool → setups.Setup → ℕ → Frame → List Question
-timeQuestions listens s v f = askLate s v f ∷ askEarly s v f ∷ cond listens [] (askCounts s v f ∷ [])
+timeQuestions listens s v f = timeQuestionsAt listens s (s .modulus) (readingOf s v f) f

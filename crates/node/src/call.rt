@@ -7,10 +7,40 @@ use setup::longest_frame;
 use setup::valid_for;
 ghost use mathlib.Core.Path.{_≡_};
 ghost use mathlib.Core.Bool.{Bool};
+ghost use lib.ListN.{length};
 ghost use Rattle.model.specs.Question.{firstNo};
 ghost use Rattle.model.specs.Tick.{callQuestions};
 ghost use Rattle.timestamp.specs.declared.stamp.Timestamp as stamps;
-ghost use Rattle.node.specs.Views.{callInput};
+ghost use Rattle.node.specs.Views.{callInput, bufferQuestions};
+
+// 4 to 6, of a shelf that has its length: the number of the first no, or 0. A station and an engine with long clocks (02, 2.9) differ in
+// how long the longest frame is.
+pub fn check_buffers(
+    longest: usize,
+    holdback: &[u8],
+    batch: &[u8],
+    payload: &[u8],
+    outgoing: &[u8],
+    verdicts: &[u8],
+    delivery: &[u8],
+) -> u8
+    ensures { λ r. ⌜ r ≡ firstNo (bufferQuestions longest (length (now (holdback .entry))) (now (batch .entry)) (now (payload .entry))
+        (now (outgoing .entry)) (now (verdicts .entry)) (now (delivery .entry))) ⌝ }
+{
+    if LONGEST_PAYLOAD < payload.len() {
+        return 4;
+    }
+    if !batch::exact(batch) {
+        return 5;
+    }
+    if outgoing.len() < longest {
+        return 6;
+    }
+    if !board_roomy(holdback, verdicts, delivery) {
+        return 6;
+    }
+    0
+}
 
 // The number of the first no, or 0. Neither the tables nor whether to send is asked about.
 pub fn check_call(
@@ -35,17 +65,14 @@ pub fn check_call(
     if number != 0 {
         return number;
     }
-    if LONGEST_PAYLOAD < payload.len() {
-        return 4;
-    }
-    if !batch::exact(batch) {
-        return 5;
-    }
-    if outgoing.len() < longest_frame(setup.epsilon as usize) {
-        return 6;
-    }
-    if !board_roomy(holdback, verdicts, delivery) {
-        return 6;
-    }
-    0
+    let longest = longest_frame(setup.epsilon as usize);
+    check_buffers(
+        longest,
+        holdback,
+        batch,
+        payload,
+        outgoing,
+        verdicts,
+        delivery,
+    )
 }

@@ -11,7 +11,10 @@ mod verdict;
 
 pub use attending::Attended;
 pub use attending::attend;
+pub use call::check_buffers;
 pub use clock::OpenedClock;
 pub use clock::open_clock;
+pub use questions::check_time;
 pub use ticking::Answer;
+pub use ticking::Opening;
 pub use ticking::tick;

@@ -11,32 +11,31 @@ use setup::Setup;
 use timestamp::counts_at_most;
 ghost use mathlib.Core.Path.{_≡_};
 ghost use Rattle.model.specs.Frame.{twoAt, decode};
-ghost use Rattle.model.specs.Order.{readingOf};
 ghost use Rattle.model.specs.Question.{firstNo};
 ghost use Rattle.model.specs.Holdback.{held};
 ghost use Rattle.model.specs.Judge as model;
 ghost use Rattle.setup.specs.Views.{setupOf};
-ghost use Rattle.node.specs.Views.{verdictOf, Located, questionsFor, timeQuestions};
-ghost use Rattle.node.specs.States.{Timed, Readable, Queued};
+ghost use Rattle.node.specs.Views.{verdictOf, Located, questionsFor, timeQuestionsAt};
+ghost use Rattle.node.specs.States.{Timed, Askable, Queued};
 
-// 01, 13 to 15, of a frame whose r is read already: the number of the first no, or 0. 02, 2.6: one that only listens does not ask 15.
-pub fn check_time(setup: Setup, clock: usize, listens: bool, s: &[u8], reading: usize) -> u8
-    requires { ⌜ Readable (setupOf setup) clock (now s) × (reading ≡ readingOf (setupOf setup) clock (decode (setup .epsilon) (now s))) ⌝ }
-    ensures { λ r. ⌜ r ≡ firstNo (timeQuestions listens (setupOf setup) clock (decode (setup .epsilon) (now (s .entry)))) ⌝ }
+// 01, 13 to 15, of a frame whose r is read already, and v at its own reading: B at a station, and v itself where clocks are long (02, 2.9).
+// The number of the first no, or 0. 02, 2.6: one that only listens does not ask 15.
+pub fn check_time(setup: Setup, at: usize, listens: bool, s: &[u8], reading: usize) -> u8
+    requires { ⌜ Askable (setupOf setup) at reading (now s) ⌝ }
+    ensures { λ r. ⌜ r ≡ firstNo (timeQuestionsAt listens (setupOf setup) at reading (decode (setup .epsilon) (now (s .entry)))) ⌝ }
 {
     let epsilon = setup.epsilon as usize;
-    let modulus = setup.modulus as usize;
-    if reading + (setup.delta as usize + epsilon) < modulus {
+    if reading + (setup.delta as usize + epsilon) < at {
         return 13;
     }
-    if modulus + (epsilon - 1) < reading + c_of(s) {
+    if at + (epsilon - 1) < reading + c_of(s) {
         return 14;
     }
     if listens {
         return 0;
     }
     let counts = counts_part(epsilon, s);
-    let from = modulus + epsilon - reading;
+    let from = at + epsilon - reading;
     if !counts_at_most(counts, from, counts.len(), setup.n as usize - 1) {
         return 15;
     }
@@ -67,7 +66,8 @@ pub fn judge(
         return Verdict::Refused(form);
     }
     let reading = reading_of(setup, clock, s);
-    let time = check_time(setup, clock, listens, s, reading);
+    let modulus = setup.modulus as usize;
+    let time = check_time(setup, modulus, listens, s, reading);
     if time != 0 {
         return Verdict::Refused(time);
     }

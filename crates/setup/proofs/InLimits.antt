@@ -4,25 +4,36 @@ use Prim.Native.Nat.{ℕ, _+_, _*_, _≤_}
 use native.Mathlib.Nat.{mul-le-mul}
 use native.Mathlib.Omega.{arith}
 use mathlib.Core.Path.{_≡_, refl, sym}
-use mathlib.Core.Bool.{Bool, true, false}
+use mathlib.Core.Bool.{Bool, true, false, _&&_}
 use lib.Dec.{leb}
-use borrow.Author.Tests.{leb-true, leb-false}
-use Rattle.laws.proofs.Numbers.{false-of-no}
-use Rattle.model.specs.Setup.{Setup, inLimits, longestFrame, width, depth}
-use Rattle.lemmas.proofs.Bounds.{Limits}
-use Rattle.lemmas.proofs.Questions.{limits-from, limits-to}
+use borrow.Author.Tests.{le-leb, leb-true}
+use Rattle.laws.specs.Lists.{within}
+use Rattle.laws.proofs.Numbers.{false-of-no, same-test}
+use Rattle.model.specs.Setup.{Setup, inLimits, leastModulus, longestFrame, width, depth}
+use Rattle.model.specs.Long.{longLimits}
+use Rattle.lemmas.proofs.Bounds.{LongLimits}
+use Rattle.lemmas.proofs.Questions.{long-limits-from, long-limits-to}
 
--- a setup past a limit is refused
-pub past-limit : (s : Setup) → (Limits s → ⊥) → false ≡ inLimits s
-past-limit s h = sym (false-of-no (inLimits s) (λ e. h (limits-from s e)))
+-- a setup past a limit other than that of B is refused
+pub past-limit : (s : Setup) → (LongLimits s → ⊥) → false ≡ longLimits s
+past-limit s h = sym (false-of-no (longLimits s) (λ e. h (long-limits-from s e)))
 
--- within the other limits, the modulus decides
-pub modulus-decides : (s : Setup) → (s .modulus ≤ 65535 → Limits s) → leb (s .modulus) 65535 ≡ inLimits s
-modulus-decides s h = go (leb (s .modulus) 65535) refl
+-- within the limits of n and ε, the delay limit decides
+pub delta-decides : (s : Setup) → (s .delta ≤ 64 → LongLimits s) → leb (s .delta) 64 ≡ longLimits s
+delta-decides s h =
+    same-test (leb (s .delta) 64) (longLimits s) (λ e. long-limits-to s (h (leb-true (s .delta) 64 e)))
+    (λ e. le-leb (s .delta) 64 (long-limits-from s e .delta-most))
+
+-- and B behind them
+pub modulus-last : (s : Setup) → inLimits s ≡ (longLimits s && within (leastModulus (s .epsilon) (s .delta)) 65535 (s .modulus))
+unfolding inLimits longLimits
+modulus-last s =
+    and-last (within 1 16 (s .n)) (within 1 16 (s .epsilon)) (leb (s .delta) 64) (within (leastModulus (s .epsilon) (s .delta)) 65535 (s .modulus))
   where
-    go : (b : Bool) → leb (s .modulus) 65535 ≡ b → b ≡ inLimits s
-    go true e = sym (limits-to s (h (leb-true (s .modulus) 65535 e)))
-    go false e = past-limit s (λ l. omega (arith, leb-false (s .modulus) 65535 e, l .modulus-most))
+    and-last : (a b c d : Bool) → (a && (b && (c && d))) ≡ ((a && (b && c)) && d)
+    and-last false b c d = refl
+    and-last true false c d = refl
+    and-last true true c d = refl
 
 -- the largest number of frames held
 pub depth-most : (n epsilon delta : ℕ) → n ≤ 16 → epsilon ≤ 16 → delta ≤ 64 → n * (delta + 3 * epsilon) ≤ 1792

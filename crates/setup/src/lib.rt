@@ -8,6 +8,7 @@ pub use limits::VERDICT_LENGTH;
 pub use limits::depth;
 pub use limits::holdback_length;
 pub use limits::in_limits;
+pub use limits::in_limits_but_modulus;
 pub use limits::longest_frame;
 pub use limits::valid_for;
 pub use questions::board_roomy;

@@ -4,6 +4,7 @@ ghost use mathlib.Core.Path.{_≡_};
 ghost use mathlib.Core.Bool.{_&&_};
 ghost use Prim.Native.Nat.{_≤_};
 ghost use Rattle.model.specs.Setup.{inLimits, isMember, longestFrame, depth, holdbackLength};
+ghost use Rattle.model.specs.Long.{longLimits};
 ghost use Rattle.setup.specs.Views.{setupOf};
 
 // 01: "A ticket is 0 to 32 bytes"; here the payload.
@@ -23,9 +24,9 @@ pub struct Setup {
     pub modulus: u32,
 }
 
-// 01, check 1: "Is the setup in its limits?", but for the own number. Any numbers get an answer.
-pub fn in_limits(s: Setup) -> bool
-    ensures { λ r. ⌜ r ≡ inLimits (setupOf s) ⌝ }
+// 01: "n 1..16, ε 1..16, δ 0..64", the limits of a setup but for B; of an engine's setup (02, 2.9) all there are.
+pub fn in_limits_but_modulus(s: Setup) -> bool
+    ensures { λ r. ⌜ r ≡ longLimits (setupOf s) ⌝ }
 {
     if s.n < 1 {
         return false;
@@ -39,7 +40,14 @@ pub fn in_limits(s: Setup) -> bool
     if 16 < s.epsilon {
         return false;
     }
-    if 64 < s.delta {
+    s.delta <= 64
+}
+
+// 01, check 1: "Is the setup in its limits?", but for the own number. Any numbers get an answer.
+pub fn in_limits(s: Setup) -> bool
+    ensures { λ r. ⌜ r ≡ inLimits (setupOf s) ⌝ }
+{
+    if !in_limits_but_modulus(s) {
         return false;
     }
     if s.modulus < 6 * s.epsilon + s.delta + 1 {

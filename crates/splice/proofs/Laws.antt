@@ -3,13 +3,15 @@
 use mathlib.Core.Path.{_≡_, refl, sym, ap, _∙_}
 use mathlib.Core.List.{List, [], _∷_, _++_, append-assoc}
 use mathlib.Core.Logic.{_⊎_, ⊎-elim}
-use Prim.Native.Nat.{ℕ, suc, _+_, _-_, _*_, _≤_, _<_}
+use Prim.Native.Nat.{ℕ, zero, suc, _+_, _-_, _*_, _/_, _%_, _≤_, _<_}
 use native.Mathlib.Nat.{add-zero}
 use native.Mathlib.Numerals.{add-one}
 use native.Mathlib.Omega.{arith}
 use lib.ListN.{length, take, drop, getD, set, length-append, length-take, length-drop, length-set, length-replicate, replicate-append-replicate, take-append-drop}
 use lib.Seq.{length-take-le, take-append-le, drop-append-le, drop-append-add, take-take, take-at, take-all, take-suc, drop-at, drop-drop, drop-length, set-split, getD-take, getD-drop, slice, slice-empty, slice-cons, length-slice}
 use Rattle.laws.specs.Lex.{numberOf}
+use Rattle.laws.proofs.Lex.{number-ext}
+use Rattle.model.specs.Long.{lowFirst, numberAt}
 use Rattle.splice.specs.Bytes.{pasted, part, usedFrom, zeros, cleared, inserted, cutOut}
 
 -- a list with nothing pasted into it
@@ -284,6 +286,19 @@ inserted-pieces a b c s used at e d =
       drop-two a b c (used + length s) (length s) (omega arith),
     )
 
+-- b cut out, where a, b and c are in use
+pub cutOut-pieces : (a b c d : List ℕ) (used at n : ℕ) → length a ≡ at → length b ≡ n → used ≡ at + n + length c
+    → cutOut (a ++ (b ++ (c ++ d))) used at n ≡ a ++ (c ++ (zeros n ++ d))
+unfolding cutOut
+cutOut-pieces a b c d used at n e f g =
+    rw (
+      take-at a (b ++ (c ++ d)) at e,
+      drop-two a b (c ++ d) (at + n) 0 (omega arith),
+      take-at c d (used - (at + n)) (omega arith),
+      drop-two a b (c ++ d) used (length c) (omega arith),
+      drop-at c d (length c) refl,
+    )
+
 -- four digits one by one
 pub four-number : (f : ℕ → ℕ) (d : ℕ) → d ≡ f 3 → ((f 0 * 256 + f 1) * 256 + f 2) * 256 + d ≡ numberOf 4 f
 unfolding numberOf
@@ -294,3 +309,53 @@ pub eight-number : (f g h : ℕ → ℕ) → ((k : ℕ) → k < 4 → g k ≡ f 
 unfolding numberOf
 eight-number f g h p q =
     omega (arith, p 0 (omega arith), p 1 (omega arith), p 2 (omega arith), p 3 (omega arith), q 0 (omega arith), q 1 (omega arith), q 2 (omega arith), q 3 (omega arith))
+
+-- the same eight, low first: the number that they are the bytes of
+pub low-first-number : (k : ℕ) (s : List ℕ) (at : ℕ) → numberOf k (λ i. getD s (at + (k - 1 - i)) 0) ≡ numberAt k s at
+unfolding numberOf numberAt
+low-first-number zero s at = refl
+low-first-number (suc k) s at =
+    let higher : numberOf k (λ i. getD s (at + (suc k - 1 - i)) 0) ≡ numberAt k s (at + 1) =
+    number-ext k (λ i. getD s (at + (suc k - 1 - i)) 0) (λ i. getD s (at + 1 + (k - 1 - i)) 0)
+    (λ i h. let e : at + (suc k - 1 - i) ≡ at + 1 + (k - 1 - i) = omega arith in ap (λ (j : ℕ). getD s j 0) e)
+    ∙ low-first-number k s (at + 1) in
+    let e : at + (suc k - 1 - k) ≡ at = omega arith in
+    let low : getD s (at + (suc k - 1 - k)) 0 ≡ getD s at 0 = ap (λ (j : ℕ). getD s j 0) e in
+    omega arith
+
+-- ---- a number's bytes stored, the low one first
+
+-- the state of a loop that stores them: with the bytes of what is left of the number, all of them are pasted
+pub record Digits (l : List ℕ) (at k value : ℕ) (cur : List ℕ) (rest i : ℕ) : Type 0 where
+  pub kept : length cur ≡ length l
+  pub most : i ≤ k
+  pub whole : pasted cur (at + i) (lowFirst (k - i) rest) ≡ pasted l at (lowFirst k value)
+
+pub digits-start : (l : List ℕ) (at k value : ℕ) → Digits l at k value l value 0
+digits-start l at k value =
+    let all : k - 0 ≡ k = omega arith in
+    record { kept = refl; most = omega arith; whole = rw (add-zero at, all) }
+
+pub digits-turn :
+    {l : List ℕ} {at k value : ℕ} {cur : List ℕ} {rest i : ℕ} → Digits l at k value cur rest i → i < k → at + k ≤ length l
+    → Digits l at k value (set cur (at + i) (rest % 256)) (rest / 256) (i + 1)
+unfolding lowFirst
+digits-turn {l} {at} {k} {value} {cur} {rest} {i} d h room =
+    let here : at + i < length cur = omega (arith, d .kept) in
+    let next : at + (i + 1) ≡ at + i + 1 = omega arith in
+    let more : k - i ≡ suc (k - (i + 1)) = omega arith in
+    record {
+      kept = length-set cur (at + i) (rest % 256) ∙ d .kept;
+      most = omega arith;
+      whole =
+          rw (set-pasted cur (at + i) (rest % 256) here)
+          (pasted-right cur (at + i) (rest % 256 ∷ []) (at + (i + 1)) next (lowFirst (k - (i + 1)) (rest / 256)) (omega arith)
+          ∙ ap (λ (j : ℕ). pasted cur (at + i) (lowFirst j rest)) (sym more)
+          ∙ d .whole);
+    }
+
+pub digits-end : {l : List ℕ} {at k value : ℕ} {cur : List ℕ} {rest i : ℕ} → Digits l at k value cur rest i → k ≤ i → cur ≡ pasted l at (lowFirst k value)
+unfolding lowFirst
+digits-end {l} {at} {k} {value} {cur} {rest} {i} d h =
+    let none : k - i ≡ 0 = omega arith in
+    sym (ap (λ (j : ℕ). pasted cur (at + i) (lowFirst j rest)) none ∙ pasted-nil cur (at + i)) ∙ d .whole

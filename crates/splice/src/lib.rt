@@ -1,5 +1,5 @@
 // Changes to a byte buffer in place: copy into it, clear a part of it, insert into and cut from the
-// bytes in use, and write a two-byte number. And what stands at a position of any bytes, one of them,
+// bytes in use, and write a number in two bytes or in eight. And what stands at a position of any bytes, one of them,
 // two or eight as a number, and a part of them.
 //
 // Each contract is one equation: the buffer at exit is a definition of `specs/Bytes.antt` at the
@@ -10,6 +10,7 @@ ghost use Prim.Native.Nat.{_+_, _-_, _^_, _≤_, _<_};
 ghost use lib.ListN.{length, getD};
 ghost use Rattle.laws.specs.Lex.{numberOf};
 ghost use Rattle.model.specs.Frame.{twoAt, twoBytes};
+ghost use Rattle.model.specs.Long.{lowFirst};
 ghost use Rattle.splice.specs.Bytes.{pasted, part, cleared, inserted, cutOut};
 
 // Copies all of `src` into `dst`, from index `at` on.
@@ -96,6 +97,20 @@ pub fn put_u16(buf: &mut [u8], at: usize, value: usize)
 {
     buf[at] = (value % 256) as u8;
     buf[at + 1] = (value / 256) as u8;
+}
+
+// Writes `value` at index `at` as eight bytes, the low one first.
+pub fn put_u64(buf: &mut [u8], at: usize, value: usize)
+    requires { ⌜ at + 8 ≤ length (now buf) ⌝ }
+    ensures { λ _. ⌜ now (buf .exit) ≡ pasted (now (buf .entry)) at (lowFirst 8 value) ⌝ }
+{
+    let mut rest = value;
+    let mut j = 0;
+    while j < 8 {
+        buf[at + j] = (rest % 256) as u8;
+        rest = rest / 256;
+        j += 1;
+    }
 }
 
 // The byte at a position; past the end it reads as 0.

@@ -1,34 +1,57 @@
--- Demand 1: a call that fails a check changes nothing, and every other call is accepted.
+-- Demand 1: a call that fails a check changes nothing, and every other call is accepted. Of a station's, an observer's and an engine's calls, and of
+-- the engine's reader and writer.
 -- Assumes nothing.
 use Prim.Native.Nat.{ℕ, zero, suc}
 use mathlib.Core.Path.{_≡_, refl, ap, _∙_}
-use Rattle.model.specs.Question.{firstNo}
-use Rattle.model.specs.Tick.{Input, Output, callQuestions, acceptance, tick}
-use Rattle.model.specs.Observer.{Listening, Listened, listenQuestions, listened, listen}
-use Rattle.theory.specs.Demand1.{Demand1, Demand1Observer}
-use Rattle.lemmas.proofs.OneTick.{tick-by, refusal-number}
-use Rattle.lemmas.proofs.OneListening.{listen-by, not-listened-number}
+use mathlib.Core.List.{List, _∷_}
+use Rattle.model.specs.Setup.{Setup}
+use Rattle.model.specs.Timestamp.{Timestamp}
+use Rattle.model.specs.Question.{Question, firstNo}
+use Rattle.model.specs.Codec.{ReadAnswer, readBy, frameOf, WriteAnswer, writtenBy}
+use Rattle.model.specs.Tick.{Input, Output, callQuestions, refusal, acceptance, tickBy, tick}
+use Rattle.model.specs.Observer.{Listening, Listened, listenQuestions, notListened, listened, listenBy, listen}
+use Rattle.model.specs.Long.{longEncode, longDecode, askLongSetup, longFrameQuestions, longRead, longWriteQuestions, longWriteFrame, longCallQuestions, longAcceptance, longTickBy, longTick}
+use Rattle.theory.specs.Demand1.{Checked, Demand1, Demand1Observer}
+use Rattle.theory.specs.LongAny.{notRead, notWritten, Demand1Long, Demand1Read, Demand1Write}
 
--- the number in the answer is that of the first question that gets a no
-number-is : (i : Input) → tick i .answer .number ≡ firstNo (callQuestions i)
-unfolding acceptance
-number-is i = go (firstNo (callQuestions i)) refl
+-- what goes by the number of the first question that gets a no
+checked :
+    (A : Type 0) (numberOf : A → ℕ) (questions : List Question) (refusing : ℕ → A) (accepting : A) (by : ℕ → A)
+    → by 0 ≡ accepting → numberOf accepting ≡ 0 → ((k : ℕ) → by (suc k) ≡ refusing (suc k)) → ((k : ℕ) → numberOf (refusing (suc k)) ≡ suc k)
+    → Checked A numberOf questions refusing accepting (by (firstNo questions))
+checked A numberOf questions refusing accepting by taken zero-is refused is =
+    record { refused = λ k e. ap by e ∙ refused k; accepted = λ e. ap by e ∙ taken; number = go (firstNo questions) }
   where
-    go : (k : ℕ) → firstNo (callQuestions i) ≡ k → tick i .answer .number ≡ k
-    go zero e = ap (λ (o : Output). o .answer .number) (tick-by i 0 e)
-    go (suc k) e = ap (λ (o : Output). o .answer .number) (tick-by i (suc k) e) ∙ refusal-number i (suc k)
+    go : (k : ℕ) → numberOf (by k) ≡ k
+    go zero = ap numberOf taken ∙ zero-is
+    go (suc k) = ap numberOf (refused k) ∙ is k
 
 pub demand1 : (i : Input) → Demand1 i
-demand1 i = record { refused = λ k e. tick-by i (suc k) e; accepted = λ e. tick-by i 0 e; number = number-is i }
+unfolding tick acceptance refusal
+demand1 i =
+    checked Output (λ (o : Output). o .answer .number) (callQuestions i) (refusal i) (acceptance i) (λ k. tickBy k i) refl refl (λ k. refl) (λ k. refl)
 
 -- 02, 2.6: an observer's
-number-listened : (i : Listening) → listen i .number ≡ firstNo (listenQuestions i)
-unfolding listened
-number-listened i = go (firstNo (listenQuestions i)) refl
-  where
-    go : (k : ℕ) → firstNo (listenQuestions i) ≡ k → listen i .number ≡ k
-    go zero e = ap (λ (o : Listened). o .number) (listen-by i 0 e)
-    go (suc k) e = ap (λ (o : Listened). o .number) (listen-by i (suc k) e) ∙ not-listened-number i (suc k)
-
 pub demand1-observer : (i : Listening) → Demand1Observer i
-demand1-observer i = record { refused = λ k e. listen-by i (suc k) e; accepted = λ e. listen-by i 0 e; number = number-listened i }
+unfolding listen listened notListened
+demand1-observer i =
+    checked Listened (λ (o : Listened). o .number) (listenQuestions i) (notListened i) (listened i) (λ k. listenBy k i) refl refl (λ k. refl) (λ k. refl)
+
+-- 02, 2.9: an engine's
+pub demand1-long : (i : Input) → Demand1Long i
+unfolding longTick longAcceptance refusal
+demand1-long i =
+    checked Output (λ (o : Output). o .answer .number) (longCallQuestions i) (refusal i) (longAcceptance i) (λ k. longTickBy k i) refl refl (λ k. refl) (λ k. refl)
+
+pub demand1-read : (s : Setup) (own : ℕ) (bytes : List ℕ) → Demand1Read s own bytes
+unfolding longRead
+demand1-read s own bytes =
+    let f = longDecode (s .epsilon) bytes in
+    checked ReadAnswer (λ (a : ReadAnswer). a .number) (askLongSetup s own ∷ longFrameQuestions s bytes) notRead (readBy 0 f) (λ k. readBy k f) refl refl (λ k. refl) (λ k. refl)
+
+pub demand1-write : (s : Setup) (own station : ℕ) (t : Timestamp) (payload buffer : List ℕ) → Demand1Write s own station t payload buffer
+unfolding longWriteFrame
+demand1-write s own station t payload buffer =
+    let f = frameOf (s .epsilon) station t payload in
+    checked WriteAnswer (λ (a : WriteAnswer). a .number) (longWriteQuestions s own f buffer) (notWritten buffer) (writtenBy 0 (longEncode f) buffer)
+    (λ k. writtenBy k (longEncode f) buffer) refl refl (λ k. refl) (λ k. refl)

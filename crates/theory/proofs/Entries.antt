@@ -21,6 +21,7 @@ use Rattle.model.specs.Judge.{Asking, Heard, hear, hearOne, judgeQuestions, abs
 use Rattle.model.specs.Tick.{openedQueue, heardOf, heardStamp, openingStamp}
 use Rattle.model.specs.Run.{Node, Source, sentBy, stale, Call, Done, inputOf, isAccepted, outputOf, doneOf}
 use Rattle.theory.specs.Demand3.{heardIn, isFrom}
+use Rattle.lemmas.proofs.Hearing.{numbersBy}
 use Rattle.lemmas.proofs.Board.{numbersOf, hear-verdicts, board-verdict}
 use Rattle.theory.proofs.Event.{setup-at, clock-at, opens-stamp}
 use Rattle.theory.proofs.Boards.{heardOn, verdicts-here}
@@ -79,7 +80,7 @@ absorb-snoc :
     (s : Setup) (v : ℕ) (asking : Asking) (h : Heard) (t : Timestamp) (xs : List (List ℕ)) (b : List ℕ)
     → absorbAll s v t (xs ++ (b ∷ [])) (numbersOf s v asking h (xs ++ (b ∷ [])))
     ≡ absorbBy (firstNo (asking (hear s v asking h xs .queue) b)) s v (decode (s .epsilon) b) (absorbAll s v t xs (numbersOf s v asking h xs))
-unfolding hear foldLeft absorbAll absorbEach numbersOf
+unfolding hear foldLeft absorbAll absorbEach numbersBy
 absorb-snoc s v asking h t [] b = refl
 absorb-snoc s v asking h t (x ∷ xs) b =
     absorb-snoc s v asking (hearOne s v asking h x) (absorbBy (firstNo (asking (h .queue) x)) s v (decode (s .epsilon) x) t) xs b

@@ -176,11 +176,8 @@ written-is :
 unfolding written eventFrame doneOf width
 written-is s node call c =
     written-to s (node .own) (eventFrame s (doneOf node call)) (call .outgoing)
-    (record {
-      setup = setup-to s (node .own) (limits-at s node call c) (own-below-at s node call c);
-      frame = ok;
-      fits = omega (arith, length-encode (eventFrame s (doneOf node call)), ok .short, ok .sound .wide, outgoing-room-at s node call c);
-    })
+    (setup-to s (node .own) (limits-at s node call c) (own-below-at s node call c)) ok
+    (omega (arith, length-encode (eventFrame s (doneOf node call)), ok .short, ok .sound .wide, outgoing-room-at s node call c))
   where
     ok : FrameOk s (eventFrame s (doneOf node call))
     ok = event-ok s node call c

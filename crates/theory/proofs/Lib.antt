@@ -1,6 +1,8 @@
 pub mod Cause
 pub mod Readers
+pub mod LongReaders
 pub mod Demand1
+pub mod LongState
 pub mod AnyState
 pub mod World
 pub mod Reach

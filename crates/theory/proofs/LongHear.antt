@@ -33,6 +33,7 @@ use Rattle.lemmas.proofs.Reading.{near-true}
 use Rattle.lemmas.proofs.RoundTrip.{decode-encode, frame-passes}
 use Rattle.lemmas.proofs.LongFrames.{long-decode-encode, long-frame-passes}
 use Rattle.lemmas.proofs.LongStamps.{atClock, absorb-moved}
+use Rattle.lemmas.proofs.Hearing.{numbersBy}
 use Rattle.lemmas.proofs.Board.{numbersOf}
 use Rattle.theory.proofs.HearLoop.{hear-refused}
 use Rattle.theory.proofs.PublishedEvent.{ReadsTrue}
@@ -218,7 +219,7 @@ module _ (s : Setup) (v : ℕ) (sent : List (Option Message)) (limits : Limits s
       → ((x : Message) → List·Memᴰ x buffer → ReadsTrue (s .epsilon) (s .modulus) v (x .event .r)) → length (buffer ++ fresh) ≤ longMost
       → longHear s v (record { queue = map plainFrame buffer; verdicts = numbers }) (longEntries sent sources)
       ≡ record { queue = map plainFrame (buffer ++ fresh); verdicts = numbers ++ numbersHere h entries }
-  unfolding longHear foldLeft numbersOf
+  unfolding longHear foldLeft numbersBy
   long-hears buffer numbers none-left same reads few =
       ap₂ (λ (l : List Message) (ns : List ℕ). record { queue = map plainFrame l; verdicts = ns }) (sym (append-nil buffer)) (sym (append-nil numbers))
   long-hears buffer numbers (again {h} {bytes} {entries} {sources} {fresh} k m a old e rest) same reads few =
@@ -272,7 +273,7 @@ module _ (s : Setup) (v : ℕ) (sent : List (Option Message)) (limits : Limits s
       {heard : ℕ → Bool} {h : Heard} {entries : List (List ℕ)} {sources : List Source} {fresh : List Message}
       (t : Timestamp) → News s v sent heard h entries sources fresh
       → longAbsorbAll s v (atClock v t) (longEntries sent sources) (numbersHere h entries) ≡ atClock v (absorbAll s (v % s .modulus) t entries (numbersHere h entries))
-  unfolding longAbsorbAll absorbAll absorbEach numbersOf
+  unfolding longAbsorbAll absorbAll absorbEach numbersBy
   long-absorbs t none-left = refl
   long-absorbs t (again {h} {bytes} {entries} {sources} k m a old e rest) =
       let later = numbersHere (hearOne s (v % s .modulus) (judgeQuestions s (v % s .modulus)) h bytes) entries in

@@ -29,6 +29,7 @@ use Rattle.theory.specs.Demand2.{reduced, reducedFrame, messagesHeard, v
 use Rattle.theory.specs.Demand3.{isFrom}
 use Rattle.lemmas.proofs.Bounds.{FrameOk}
 use Rattle.lemmas.proofs.RoundTrip.{decode-encode}
+use Rattle.lemmas.proofs.Hearing.{numbersBy}
 use Rattle.lemmas.proofs.Board.{numbersOf, hear-one-verdict}
 use Rattle.lemmas.proofs.OneTick.{taken-more}
 use Rattle.theory.proofs.HearLoop.{some-inj, hear-taken, hear-refused}
@@ -124,7 +125,7 @@ module _ (s : Setup) (v : ℕ) (sent : List (Option Message)) where
       (t : Timestamp) → News s v sent heard h entries sources fresh
       → absorbAll s (v % s .modulus) t entries (numbersOf s (v % s .modulus) (judgeQuestions s (v % s .modulus)) h entries)
       ≡ absorbEvents (s .epsilon) (s .modulus) (v % s .modulus) t (map (λ (m : Message). m .event) fresh)
-  unfolding absorbAll absorbEach numbersOf absorbEvents
+  unfolding absorbAll absorbEach numbersBy absorbEvents
   news-stamp t none-left = refl
   news-stamp t (again {h} {bytes} {fresh} k m a old e rest) =
       let one : ℕ → Timestamp = λ n. absorbBy n s (v % s .modulus) (decode (s .epsilon) bytes) t in

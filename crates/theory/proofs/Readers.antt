@@ -1,9 +1,9 @@
--- Reader and writer are inverse to one another, and so are the encodings of the queue and of the delivery.
+-- Reader and writer are inverse to one another, and so are the encodings of the queue and of the delivery: of a station's codec and of an engine's.
 -- Assumes nothing.
 use Prim.Native.Nat.{ℕ, zero, suc, _+_, _*_, _-_, _/_, _%_, _≤_, _<_}
 use native.Mathlib.Omega.{arith}
 use mathlib.Core.Path.{_≡_, refl, sym, ap, _∙_}
-use mathlib.Core.Bool.{true, _&&_}
+use mathlib.Core.Bool.{Bool, true, _&&_}
 use mathlib.Core.List.{List, [], _∷_, _++_, map, append-assoc, List·Memᴰ}
 use lib.Dec.{leb, ltb}
 use lib.ListN.{length, take, drop, replicate, length-map, take-append-drop}
@@ -15,111 +15,127 @@ use Rattle.laws.proofs.Lists.{every-mem, every-take, every-drop, every-mono, ta
 use Rattle.model.specs.Setup.{Setup, width, inLimits, isMember, depth, holdbackLength, longestPayload}
 use Rattle.model.specs.Timestamp.{Timestamp, trimmed, widened}
 use Rattle.model.specs.Frame.{Frame, encode, decode, wellFormed, frameEnd, twoAt, twoBytes}
-use Rattle.model.specs.Question.{ask, firstNo, askSetup, askRange, askStamp, frameQuestions}
-use Rattle.model.specs.Codec.{askPayload, readQuestions, readBy, read, frameOf, writeFrameQuestions, writeBy, writeFrame, write}
-use Rattle.model.specs.Holdback.{cutFrames, cutBy, heldBytes, held, passes, soundHoldback, encodeFrames, encodeHoldback}
-use Rattle.model.specs.Tick.{holdbackSize}
+use Rattle.model.specs.Question.{ask, firstNo, askSetup, askForm, askRange, askStamp, frameQuestions}
+use Rattle.model.specs.Codec.{askPayload, ReadAnswer, readQuestions, readBy, read, frameOf, WriteAnswer, writeFrameQuestions, writtenBy, writeBy, writeFrame}
+use Rattle.model.specs.Holdback.{cutFrames, cutBy, heldBytes, held, passes, soundHoldback, framesBy, encodeFrames, encodeHoldback}
 use Rattle.theory.specs.Demand2.{areBytes, hasWidth, Demand2Codec}
 use Rattle.lemmas.proofs.Bounds.{FrameOk}
-use Rattle.lemmas.proofs.Questions.{setup-from, first-yes, read-number}
+use Rattle.lemmas.proofs.Questions.{setup-from, first-yes}
 use Rattle.lemmas.proofs.Counts.{sound-to, trimmed-wide, trimmed-widened}
-use Rattle.lemmas.proofs.RoundTrip.{none-no, length-cut, bounds-passed, form-passed, passes-formed, decode-encode, encode-decode, frame-passes, frame-passed, held-frames, held-holdback}
+use Rattle.lemmas.proofs.RoundTrip.{none-no, length-cut-by, bounds-passed, formed-from, decode-wide, decode-payload, passes-formed, well-formed-encode, decode-encode, encode-decode, held-frames, held-holdback}
 
--- the writer accepts what is in its bounds and fits, and nothing else
-pub record Written (s : Setup) (own : ℕ) (f : Frame) (buffer : List ℕ) : Type 0 where
-  pub setup : (inLimits s && isMember s own) ≡ true
-  pub frame : FrameOk s f
-  pub fits : length (encode f) ≤ length buffer
+-- ---- a frame, whatever its first section is
 
-pub written-from : (s : Setup) (own : ℕ) (f : Frame) (buffer : List ℕ) → length (f .stamp .kn) ≡ width (s .epsilon) → firstNo (writeFrameQuestions s own f buffer) ≡ 0 → Written s own f buffer
-unfolding writeFrameQuestions askSetup askPayload askRange askStamp
-written-from s own f buffer wide e =
-    let room = ask (leb (length (encode f)) (length buffer)) 6 in
-    let q1 = none-no (inLimits s && isMember s own) 0 (askPayload (f .payload) ∷ askRange s f ∷ askStamp s f ∷ room ∷ []) e in
-    let q4 = none-no (leb (length (f .payload)) longestPayload) 3 (askRange s f ∷ askStamp s f ∷ room ∷ []) (q1 .1) in
-    let q12 = bounds-passed s f (room ∷ []) (setup-from s own (q1 .0) .0) wide (leb-true (length (f .payload)) longestPayload (q4 .0)) (q4 .1) in
-    record {
-      setup = q1 .0;
-      frame = q12 .0;
-      fits = leb-true (length (encode f)) (length buffer) (first-yes (leb (length (encode f)) (length buffer)) 5 [] (q12 .1));
-    }
+-- how a frame is laid down and told, where 1 asks whether this holds: what is laid down is well-formed and holds the frame, and the other way round
+pub record Coding (s : Setup) (valid : Bool) (formed : List ℕ → Bool) (back : List ℕ → Frame) (bytes : Frame → List ℕ) : Type 0 where
+  pub limits : valid ≡ true → (1 ≤ s .epsilon) × (s .epsilon ≤ 16)
+  pub made : (f : Frame) → FrameOk s f → (formed (bytes f) ≡ true) × (back (bytes f) ≡ f)
+  pub shape : (b : List ℕ) → formed b ≡ true → (length (back b .stamp .kn) ≡ width (s .epsilon)) × (length (back b .payload) ≤ 32)
+  pub again : (b : List ℕ) → every (λ x. ltb x 256) b ≡ true → formed b ≡ true → bytes (back b) ≡ b
 
-pub written-to : (s : Setup) (own : ℕ) (f : Frame) (buffer : List ℕ) → Written s own f buffer → writeFrame s own f buffer ≡ writeBy 0 f buffer
-unfolding writeFrame writeFrameQuestions askSetup askPayload askRange askStamp firstNo
-written-to s own f buffer o =
-    rw (
-      o .setup,
-      le-leb (length (f .payload)) longestPayload (o .frame .short),
-      lt-ltb (f .station) (s .n) (o .frame .station-below),
-      lt-ltb (f .stamp .r) (s .modulus) (o .frame .r-below),
-      sound-to (s .n) (s .epsilon) (f .stamp) (o .frame .sound),
-      le-leb (length (encode f)) (length buffer) (o .fits),
-    )
+module _ (s : Setup) (valid : Bool) (formed : List ℕ → Bool) (back : List ℕ → Frame) (bytes : Frame → List ℕ) where
+  abbrev readWith : List ℕ → ReadAnswer
+  readWith b = readBy (firstNo (ask valid 1 ∷ ask (formed b) 10 ∷ askRange s (back b) ∷ askStamp s (back b) ∷ [])) (back b)
 
--- a number 0 says that no question got a no
-write-number : (s : Setup) (own : ℕ) (f : Frame) (buffer : List ℕ) → writeFrame s own f buffer .number ≡ 0 → firstNo (writeFrameQuestions s own f buffer) ≡ 0
-unfolding writeFrame
-write-number s own f buffer = go (firstNo (writeFrameQuestions s own f buffer))
-  where
-    go : (k : ℕ) → writeBy k f buffer .number ≡ 0 → k ≡ 0
-    go zero e = refl
-    go (suc k) e = e
+  abbrev numberOf : Frame → List ℕ → ℕ
+  numberOf f buffer =
+      firstNo (ask valid 1 ∷ askPayload (f .payload) ∷ askRange s f ∷ askStamp s f ∷ ask (leb (length (bytes f)) (length buffer)) 6 ∷ [])
 
--- the reader accepts what the writer makes
-pub read-encoded : (s : Setup) (own : ℕ) (f : Frame) → (inLimits s && isMember s own) ≡ true → FrameOk s f → read s own (encode f) ≡ readBy 0 f
-unfolding read readQuestions askSetup firstNo frameQuestions
-read-encoded s own f valid ok =
-    rw (valid, frame-passes s f [] ok, decode-encode (s .epsilon) f (ok .sound .wide))
+  abbrev writeWith : Frame → List ℕ → WriteAnswer
+  writeWith f buffer = writtenBy (numberOf f buffer) (bytes f) buffer
 
--- a written frame reads back the same
-pub read-written :
-    (s : Setup) (own : ℕ) (f : Frame) (buffer : List ℕ) → length (f .stamp .kn) ≡ width (s .epsilon) → writeFrame s own f buffer .number ≡ 0
-    → read s own (take (writeFrame s own f buffer .size) (writeFrame s own f buffer .buffer)) ≡ readBy 0 f
-read-written s own f buffer wide e =
-    let o = written-from s own f buffer wide (write-number s own f buffer e) in
-    rw (written-to s own f buffer o, take-overlay (encode f) buffer) (read-encoded s own f (o .setup) (o .frame))
+  -- the writer accepts what is in its bounds and fits, and nothing else
+  pub record Written (f : Frame) (buffer : List ℕ) : Type 0 where
+    pub setup : valid ≡ true
+    pub frame : FrameOk s f
+    pub fits : length (bytes f) ≤ length buffer
 
--- the writer's station, stamp and ticket come back; the places past the 2ε counts come back 0
-pub read-of-write :
-    (s : Setup) (own : ℕ) (station : ℕ) (t : Timestamp) (payload buffer : List ℕ)
-    → write s own station t payload buffer .number ≡ 0
-    → read s own (take (write s own station t payload buffer .size) (write s own station t payload buffer .buffer))
-    ≡ record { number = 0; station = station; stamp = widened (trimmed (s .epsilon) t); payload = payload }
-unfolding frameOf
-read-of-write s own station t payload buffer e =
-    read-written s own (frameOf (s .epsilon) station t payload) buffer (trimmed-wide (s .epsilon) t) e
+  pub written-with : (f : Frame) (buffer : List ℕ) → Written f buffer → writeWith f buffer ≡ writtenBy 0 (bytes f) buffer
+  unfolding askPayload askRange askStamp firstNo
+  written-with f buffer o =
+      rw (
+        o .setup,
+        le-leb (length (f .payload)) longestPayload (o .frame .short),
+        lt-ltb (f .station) (s .n) (o .frame .station-below),
+        lt-ltb (f .stamp .r) (s .modulus) (o .frame .r-below),
+        sound-to (s .n) (s .epsilon) (f .stamp) (o .frame .sound),
+        le-leb (length (bytes f)) (length buffer) (o .fits),
+      )
 
--- an accepted frame, its bytes below 256, is what the writer makes of its contents, in any buffer that is long enough
-pub write-of-read :
-    (s : Setup) (own : ℕ) (bytes buffer : List ℕ) → every (λ b. ltb b 256) bytes ≡ true → read s own bytes .number ≡ 0 → length bytes ≤ length buffer
-    → write s own (read s own bytes .station) (read s own bytes .stamp) (read s own bytes .payload) buffer
-    ≡ record { number = 0; size = length bytes; buffer = overlay bytes buffer }
-unfolding read readQuestions askSetup frameQuestions frameOf
-write-of-read s own bytes buffer below e fits =
-    let z = read-number s own bytes e in
-    let q1 = none-no (inLimits s && isMember s own) 0 (frameQuestions s bytes) z in
-    let limits = setup-from s own (q1 .0) .0 in
-    let f = decode (s .epsilon) bytes in
-    let ok = frame-passed s bytes [] limits (q1 .1) .0 in
-    let same : encode f ≡ bytes = encode-decode (s .epsilon) bytes below (form-passed s bytes [] (q1 .1)) in
-    let again : frameOf (s .epsilon) (f .station) (widened (f .stamp)) (f .payload) ≡ f =
-    ap (λ (t : Timestamp). record { station = f .station; stamp = t; payload = f .payload }) (trimmed-widened (s .epsilon) (f .stamp) (limits .epsilon-most) (ok .sound .wide)) in
-    rw (z, again, written-to s own f buffer (record { setup = q1 .0; frame = ok; fits = rw same fits }), same)
+  -- a number 0 says that no question got a no
+  write-number : (f : Frame) (buffer : List ℕ) → writeWith f buffer .number ≡ 0 → numberOf f buffer ≡ 0
+  write-number f buffer = go (numberOf f buffer)
+    where
+      go : (k : ℕ) → writtenBy k (bytes f) buffer .number ≡ 0 → k ≡ 0
+      go zero e = refl
+      go (suc k) e = e
 
--- the other way round for the frames of a queue or a delivery: k frames of which each is well formed, and the rest
-cut-front :
-    (epsilon k : ℕ) (s : List ℕ) → every (λ b. ltb b 256) s ≡ true → every (wellFormed epsilon) (cutFrames epsilon k s) ≡ true
-    → (rest : List ℕ) × (joined encode (map (decode epsilon) (cutFrames epsilon k s)) ++ rest ≡ s)
-unfolding cutFrames cutBy joined every
-cut-front epsilon zero s below formed = (s, refl)
-cut-front epsilon (suc k) s below formed =
-    let n = frameEnd epsilon s in
-    let h = and-left (wellFormed epsilon (take n s)) _ formed in
-    let t = cut-front epsilon k (drop n s) (every-drop (λ b. ltb b 256) n s below) (and-right (wellFormed epsilon (take n s)) _ formed) in (
-      t .0,
-      rw (encode-decode epsilon (take n s) (every-take (λ b. ltb b 256) n s below) h, append-assoc (take n s) (joined encode (map (decode epsilon) (cutFrames epsilon k (drop n s)))) (t .0), t .1)
-          (take-append-drop n s),
-    )
+  pub read-number-with : (b : List ℕ) → readWith b .number ≡ 0 → firstNo (ask valid 1 ∷ ask (formed b) 10 ∷ askRange s (back b) ∷ askStamp s (back b) ∷ []) ≡ 0
+  read-number-with b = go (firstNo (ask valid 1 ∷ ask (formed b) 10 ∷ askRange s (back b) ∷ askStamp s (back b) ∷ []))
+    where
+      go : (k : ℕ) → readBy k (back b) .number ≡ 0 → k ≡ 0
+      go zero e = refl
+      go (suc k) e = e
+
+  module _ (coding : Coding s valid formed back bytes) where
+    written-from : (f : Frame) (buffer : List ℕ) → length (f .stamp .kn) ≡ width (s .epsilon) → numberOf f buffer ≡ 0 → Written f buffer
+    unfolding askPayload
+    written-from f buffer wide e =
+        let room = ask (leb (length (bytes f)) (length buffer)) 6 in
+        let q1 = none-no valid 0 (askPayload (f .payload) ∷ askRange s f ∷ askStamp s f ∷ room ∷ []) e in
+        let q4 = none-no (leb (length (f .payload)) longestPayload) 3 (askRange s f ∷ askStamp s f ∷ room ∷ []) (q1 .1) in
+        let q12 = bounds-passed s f (room ∷ []) (coding .limits (q1 .0) .0) wide (leb-true (length (f .payload)) longestPayload (q4 .0)) (q4 .1) in
+        record {
+          setup = q1 .0;
+          frame = q12 .0;
+          fits = leb-true (length (bytes f)) (length buffer) (first-yes (leb (length (bytes f)) (length buffer)) 5 [] (q12 .1));
+        }
+
+    -- the reader accepts what the writer makes
+    pub read-made : (f : Frame) → valid ≡ true → FrameOk s f → readWith (bytes f) ≡ readBy 0 f
+    unfolding askRange askStamp firstNo
+    read-made f ok frame =
+        rw (
+          coding .made f frame .1,
+          ok,
+          coding .made f frame .0,
+          lt-ltb (f .station) (s .n) (frame .station-below),
+          lt-ltb (f .stamp .r) (s .modulus) (frame .r-below),
+          sound-to (s .n) (s .epsilon) (f .stamp) (frame .sound),
+        )
+
+    -- a written frame reads back the same: the writer's station, stamp and ticket; the places past the 2ε counts come back 0
+    pub read-written :
+        (station : ℕ) (t : Timestamp) (payload buffer : List ℕ) → writeWith (frameOf (s .epsilon) station t payload) buffer .number ≡ 0
+        → readWith (take (writeWith (frameOf (s .epsilon) station t payload) buffer .size) (writeWith (frameOf (s .epsilon) station t payload) buffer .buffer))
+        ≡ record { number = 0; station = station; stamp = widened (trimmed (s .epsilon) t); payload = payload }
+    unfolding frameOf
+    read-written station t payload buffer e =
+        let f = frameOf (s .epsilon) station t payload in
+        let o = written-from f buffer (trimmed-wide (s .epsilon) t) (write-number f buffer e) in
+        let w = written-with f buffer o in
+        ap (λ (a : WriteAnswer). readWith (take (a .size) (a .buffer))) w
+        ∙ (ap readWith (take-overlay (bytes f) buffer) ∙ read-made f (o .setup) (o .frame))
+
+    -- an accepted frame, its bytes below 256, is what the writer makes of its contents, in any buffer that is long enough
+    pub written-read :
+        (b buffer : List ℕ) → every (λ x. ltb x 256) b ≡ true → readWith b .number ≡ 0 → length b ≤ length buffer
+        → writeWith (frameOf (s .epsilon) (readWith b .station) (readWith b .stamp) (readWith b .payload)) buffer
+        ≡ record { number = 0; size = length b; buffer = overlay b buffer }
+    unfolding frameOf
+    written-read b buffer below e fits =
+        let z = read-number-with b e in
+        let f = back b in
+        let q1 = none-no valid 0 (ask (formed b) 10 ∷ askRange s f ∷ askStamp s f ∷ []) z in
+        let q10 = none-no (formed b) 9 (askRange s f ∷ askStamp s f ∷ []) (q1 .1) in
+        let (wide, short) = coding .shape b (q10 .0) in
+        let ok = bounds-passed s f [] (coding .limits (q1 .0) .0) wide short (q10 .1) .0 in
+        let same : bytes f ≡ b = coding .again b below (q10 .0) in
+        let whole : frameOf (s .epsilon) (f .station) (widened (f .stamp)) (f .payload) ≡ f =
+        ap (λ (t : Timestamp). record { station = f .station; stamp = t; payload = f .payload }) (trimmed-widened (s .epsilon) (f .stamp) (coding .limits (q1 .0) .1) wide) in
+        rw (z, whole, written-with f buffer (record { setup = q1 .0; frame = ok; fits = rw same fits }), same)
+
+-- ---- the frames of a queue or a delivery
 
 -- a two-byte number, written again
 two-front : (s : List ℕ) → 2 ≤ length s → every (λ b. ltb b 256) s ≡ true → twoBytes (twoAt s 0) ++ drop 2 s ≡ s
@@ -137,18 +153,67 @@ overlay-front : (e rest l : List ℕ) → e ++ rest ≡ l → overlay e l ≡ l
 unfolding overlay
 overlay-front e rest l h = rw (← h, drop-append-seam e rest)
 
--- bytes that hold well-formed frames begin with what is made of these frames
+module _ (end : List ℕ → ℕ) (formed : List ℕ → Bool) (back : List ℕ → Frame) (bytes : Frame → List ℕ)
+    (again : (b : List ℕ) → every (λ x. ltb x 256) b ≡ true → formed b ≡ true → bytes (back b) ≡ b) where
+  -- k frames of which each is well formed, and the rest
+  cut-front :
+      (k : ℕ) (s : List ℕ) → every (λ b. ltb b 256) s ≡ true → every formed (cutBy end k s) ≡ true
+      → (rest : List ℕ) × (joined bytes (map back (cutBy end k s)) ++ rest ≡ s)
+  unfolding cutBy joined every
+  cut-front zero s below all = (s, refl)
+  cut-front (suc k) s below all =
+      let n = end s in
+      let t = cut-front k (drop n s) (every-drop (λ b. ltb b 256) n s below) (and-right (formed (take n s)) _ all) in (
+        t .0,
+        rw (again (take n s) (every-take (λ b. ltb b 256) n s below) (and-left (formed (take n s)) _ all), append-assoc (take n s) (joined bytes (map back (cutBy end k (drop n s)))) (t .0), t .1)
+            (take-append-drop n s),
+      )
+
+  -- bytes that hold well-formed frames begin with what is made of these frames
+  pub front-by :
+      (s : List ℕ) → 2 ≤ length s → every (λ b. ltb b 256) s ≡ true → every formed (cutBy end (twoAt s 0) (drop 2 s)) ≡ true
+      → overlay (framesBy bytes (map back (cutBy end (twoAt s 0) (drop 2 s)))) s ≡ s
+  front-by s long below all =
+      let pieces = cutBy end (twoAt s 0) (drop 2 s) in
+      let body = joined bytes (map back pieces) in
+      let t = cut-front (twoAt s 0) (drop 2 s) (every-drop (λ b. ltb b 256) 2 s below) all in
+      let count : length (map back pieces) ≡ twoAt s 0 = length-map pieces back ∙ length-cut-by end (twoAt s 0) (drop 2 s) in
+      overlay-front (twoBytes (length (map back pieces)) ++ body) (t .0) s
+      (rw (count, append-assoc (twoBytes (twoAt s 0)) body (t .0), t .1) (two-front s long below))
+
+-- and where zeros stand behind them, the whole of it is what the tick writes
+pub whole-by : (size : ℕ) (front bytes : List ℕ) → overlay front bytes ≡ bytes → drop (length front) bytes ≡ replicate (size - length front) 0 → padded size front ≡ bytes
+unfolding padded overlay
+whole-by size front bytes laid zeros = ap (λ (l : List ℕ). front ++ l) (sym zeros) ∙ laid
+
+-- ---- a station's
+
+module _ (s : Setup) (own : ℕ) where
+  station-coding : Coding s (inLimits s && isMember s own) (wellFormed (s .epsilon)) (decode (s .epsilon)) encode
+  station-coding =
+      record {
+        limits = λ h. let l = setup-from s own h .0 in (l .epsilon-pos, l .epsilon-most);
+        made = λ f ok. (well-formed-encode (s .epsilon) f (ok .sound .wide) (ok .short), decode-encode (s .epsilon) f (ok .sound .wide));
+        shape = λ b h.
+            let o = formed-from (s .epsilon) b h in
+            (decode-wide (s .epsilon) b o, rw (decode-payload (s .epsilon) b o) (o .third));
+        again = encode-decode (s .epsilon);
+      }
+
+  pub written-to :
+      (f : Frame) (buffer : List ℕ) → (inLimits s && isMember s own) ≡ true → FrameOk s f → length (encode f) ≤ length buffer
+      → writeFrame s own f buffer ≡ writeBy 0 f buffer
+  unfolding writeFrame writeFrameQuestions askSetup
+  written-to f buffer valid ok fits =
+      written-with s (inLimits s && isMember s own) (wellFormed (s .epsilon)) (decode (s .epsilon)) encode f buffer
+      (record { setup = valid; frame = ok; fits = fits })
+
 pub frames-front :
     (epsilon : ℕ) (bytes : List ℕ) → 2 ≤ length bytes → every (λ b. ltb b 256) bytes ≡ true → every (wellFormed epsilon) (heldBytes epsilon bytes) ≡ true
     → overlay (encodeFrames (held epsilon bytes)) bytes ≡ bytes
-unfolding encodeFrames held heldBytes
-frames-front epsilon bytes long below formed =
-    let pieces = cutFrames epsilon (twoAt bytes 0) (drop 2 bytes) in
-    let body = joined encode (map (decode epsilon) pieces) in
-    let t = cut-front epsilon (twoAt bytes 0) (drop 2 bytes) (every-drop (λ b. ltb b 256) 2 bytes below) formed in
-    let count : length (map (decode epsilon) pieces) ≡ twoAt bytes 0 = length-map pieces (decode epsilon) ∙ length-cut epsilon (twoAt bytes 0) (drop 2 bytes) in
-    overlay-front (twoBytes (length (map (decode epsilon) pieces)) ++ body) (t .0) bytes
-    (rw (count, append-assoc (twoBytes (twoAt bytes 0)) body (t .0), t .1) (two-front bytes long below))
+unfolding encodeFrames held heldBytes cutFrames
+frames-front epsilon bytes long below all =
+    front-by (frameEnd epsilon) (wellFormed epsilon) (decode epsilon) encode (encode-decode epsilon) bytes long below all
 
 -- the frames of a sound queue, encoded, are the front of its bytes
 pub holdback-front :
@@ -160,16 +225,6 @@ holdback-front s v least bytes long below h =
     let all = and-left (every (passes s) (heldBytes (s .epsilon) bytes)) _ h₁ in
     frames-front (s .epsilon) bytes long below
     (every-mono (passes s) (wellFormed (s .epsilon)) (heldBytes (s .epsilon) bytes) (λ b p. passes-formed s b p) all)
-
--- and where zeros stand behind them, the whole of it is what the tick writes
-pub holdback-whole :
-    (s : Setup) (v least : ℕ) (bytes : List ℕ) → length bytes ≡ holdbackSize s → every (λ b. ltb b 256) bytes ≡ true → soundHoldback s v least bytes ≡ true
-    → drop (length (encodeFrames (held (s .epsilon) bytes))) bytes ≡ replicate (holdbackSize s - length (encodeFrames (held (s .epsilon) bytes))) 0
-    → encodeHoldback (holdbackSize s) (held (s .epsilon) bytes) ≡ bytes
-unfolding encodeHoldback padded overlay holdbackLength
-holdback-whole s v least bytes size below h zeros =
-    let e = encodeFrames (held (s .epsilon) bytes) in
-    ap (λ (l : List ℕ). e ++ l) (sym zeros) ∙ holdback-front s v least bytes (omega arith) below h
 
 -- the frames of a delivery, laid over the caller's buffer
 pub held-delivery :
@@ -187,13 +242,16 @@ unfolding hasWidth
 all-wide epsilon queue h f m = eqb-true (length (f .stamp .kn)) (width epsilon) (every-mem (hasWidth epsilon) h m)
 
 pub demand2-codec : Demand2Codec
-unfolding areBytes
+unfolding areBytes read readQuestions askSetup frameQuestions askForm writeFrame writeFrameQuestions encodeHoldback holdbackLength
 demand2-codec s own =
+    let valid = inLimits s && isMember s own in
     record {
-      frameRead = read-of-write s own;
-      frameWritten = write-of-read s own;
+      frameRead = read-written s valid (wellFormed (s .epsilon)) (decode (s .epsilon)) encode (station-coding s own);
+      frameWritten = written-read s valid (wellFormed (s .epsilon)) (decode (s .epsilon)) encode (station-coding s own);
       holdbackRead = λ size queue wide few. held-holdback (s .epsilon) size queue (all-wide (s .epsilon) queue wide) few;
-      holdbackWritten = holdback-whole s;
+      holdbackWritten = λ v least bytes size below h zeros.
+          whole-by (holdbackLength (s .n) (s .epsilon) (s .delta)) (encodeFrames (held (s .epsilon) bytes)) bytes
+          (holdback-front s v least bytes (omega arith) below h) zeros;
       deliveryRead = λ queue old wide few. held-delivery (s .epsilon) queue old (all-wide (s .epsilon) queue wide) few;
       deliveryWritten = frames-front (s .epsilon);
     }

@@ -2,21 +2,25 @@
 -- (That any call gets a finished answer is the checker's part: every function is total.)
 use Prim.Native.Nat.{ℕ, suc}
 use mathlib.Core.Path.{_≡_}
-use Rattle.model.specs.Question.{firstNo}
-use Rattle.model.specs.Tick.{Input, callQuestions, refusal, acceptance, tick}
-use Rattle.model.specs.Observer.{Listening, listenQuestions, notListened, listened, listen}
+use mathlib.Core.List.{List}
+use Rattle.model.specs.Question.{Question, firstNo}
+use Rattle.model.specs.Tick.{Input, Output, callQuestions, refusal, acceptance, tick}
+use Rattle.model.specs.Observer.{Listening, Listened, listenQuestions, notListened, listened, listen}
 
--- what demand 1 promises of a call, whatever its arguments hold
-pub record Demand1 (i : Input) : Type 0 where
+-- what demand 1 promises of a call, whatever its arguments hold: of what comes of it, by its questions, what it comes to when it is refused
+-- with a number, and what when it is accepted
+pub record Checked (A : Type 0) (numberOf : A → ℕ) (questions : List Question) (refusing : ℕ → A) (accepting result : A) : Type 0 where
   -- "the answer is that number and the tables as given, all else 0, and all buffers keep their contents"
-  pub refused : (k : ℕ) → firstNo (callQuestions i) ≡ suc k → tick i ≡ refusal i (suc k)
+  pub refused : (k : ℕ) → firstNo questions ≡ suc k → result ≡ refusing (suc k)
   -- "A call is accepted exactly if none of its questions gets a no, and refused otherwise"
-  pub accepted : firstNo (callQuestions i) ≡ 0 → tick i ≡ acceptance i
+  pub accepted : firstNo questions ≡ 0 → result ≡ accepting
   -- "returns that check's number", 0 where every check is passed
-  pub number : tick i .answer .number ≡ firstNo (callQuestions i)
+  pub number : numberOf result ≡ firstNo questions
 
--- 02, 2.6: the same of an observer's call
-pub record Demand1Observer (i : Listening) : Type 0 where
-  pub refused : (k : ℕ) → firstNo (listenQuestions i) ≡ suc k → listen i ≡ notListened i (suc k)
-  pub accepted : firstNo (listenQuestions i) ≡ 0 → listen i ≡ listened i
-  pub number : listen i .number ≡ firstNo (listenQuestions i)
+-- of a station's
+abbrev pub Demand1 : Input → Type 0
+Demand1 i = Checked Output (λ (o : Output). o .answer .number) (callQuestions i) (refusal i) (acceptance i) (tick i)
+
+-- 02, 2.6: of an observer's
+abbrev pub Demand1Observer : Listening → Type 0
+Demand1Observer i = Checked Listened (λ (o : Listened). o .number) (listenQuestions i) (notListened i) (listened i) (listen i)

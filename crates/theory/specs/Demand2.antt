@@ -13,8 +13,8 @@ use Rattle.model.specs.Frame.{Frame, encode, wellFormed}
 use Rattle.model.specs.Batch.{batchEntries}
 use Rattle.model.specs.Holdback.{heldBytes, held, soundHoldback, encodeFrames, encodeHoldback}
 use Rattle.model.specs.Question.{firstNo}
-use Rattle.model.specs.Codec.{read, write}
-use Rattle.model.specs.Judge.{Heard, hear, judgeQuestions, observerQuestions}
+use Rattle.model.specs.Codec.{ReadAnswer, WriteAnswer, read, write}
+use Rattle.model.specs.Judge.{Asking, Heard, hear, judgeQuestions, observerQuestions}
 use Rattle.model.specs.Tick.{Input, holdbackSize, leastDue, opening, openingIn, sentBytes, deliveredOf, takenCount, tick}
 use Rattle.model.specs.Observer.{Listening, observerLeast, observerOpened, observerDelivered, listen}
 use Rattle.model.specs.Published.{Event, Message, Process, Condition, deliverable, deliverableBy, inOrder, sameMessage, newOnes, eventOf, messageOf, deliveredAt, advanced, started}
@@ -27,12 +27,14 @@ unfoldable pub heardBefore : Input → ℕ → Heard
 heardBefore i k =
     hear (i .setup) (i .clock) (judgeQuestions (i .setup) (i .clock)) (opening i) (take k (batchEntries (i .batch)))
 
+-- "each verdict is the number of the first check failed", or 0: one byte a frame, asked of the shelf as it is at that moment
+abbrev pub FirstFailed : Asking → (ℕ → Heard) → List (List ℕ) → List ℕ → Type 0
+FirstFailed asking before entries verdicts =
+    (k : ℕ) (entry : List ℕ) → getElem? entries k ≡ some entry → getD verdicts k 0 ≡ firstNo (asking (before k .queue) entry)
+
 -- From any state, of an accepted call
 pub record AnyState (i : Input) : Type 0 where
-  -- "each verdict is the number of the first check failed", or 0: one byte a frame, asked of the shelf as it is at that moment
-  pub verdict :
-      (k : ℕ) (entry : List ℕ) → getElem? (batchEntries (i .batch)) k ≡ some entry
-      → getD (tick i .verdicts) k 0 ≡ firstNo (judgeQuestions (i .setup) (i .clock) (heardBefore i k .queue) entry)
+  pub verdict : FirstFailed (judgeQuestions (i .setup) (i .clock)) (heardBefore i) (batchEntries (i .batch)) (tick i .verdicts)
   -- "(mend 1)", "(mend 2; both, mend 3)": 1 exactly if the tables are unsound for this clock, 2 exactly if the shelf is, after them, else 0
   pub repair :
       tick i .answer .repair
@@ -69,9 +71,7 @@ observedBefore i k =
 
 -- From any state, of an accepted call of an observer: the same, by its own questions, for its last clock in place of the tables
 pub record AnyObserver (i : Listening) : Type 0 where
-  pub verdict :
-      (k : ℕ) (entry : List ℕ) → getElem? (batchEntries (i .batch)) k ≡ some entry
-      → getD (listen i .verdicts) k 0 ≡ firstNo (observerQuestions (i .setup) (i .clock) (observedBefore i k .queue) entry)
+  pub verdict : FirstFailed (observerQuestions (i .setup) (i .clock)) (observedBefore i) (batchEntries (i .batch)) (listen i .verdicts)
   -- 1 exactly if the last clock is unsound for this clock, 2 exactly if the shelf is, after it, else 0
   pub repair :
       listen i .repair
@@ -103,41 +103,73 @@ areBytes bytes = every (λ b. ltb b 256) bytes
 unfoldable pub hasWidth : ℕ → Frame → Bool
 hasWidth epsilon f = eqb (length (f .stamp .kn)) (width epsilon)
 
+-- a codec: its reader and its writer, and how it lays down a shelf and a hand-out
+pub record Codec : Type 0 where
+  pub epsilon : ℕ
+  pub read : List ℕ → ReadAnswer
+  pub write : ℕ → Timestamp → List ℕ → List ℕ → WriteAnswer
+  -- the frames that it can lay down, and the bytes that it takes for a frame's
+  pub fits : Frame → Bool
+  pub formed : List ℕ → Bool
+  -- the frames of a shelf or a hand-out, by their bytes, and what these hold
+  pub cut : List ℕ → List (List ℕ)
+  pub held : List ℕ → List Frame
+  -- the hand-out of frames, and the shelf of this length
+  pub handout : List Frame → List ℕ
+  pub shelf : ℕ → List Frame → List ℕ
+  pub size : ℕ
+  -- a shelf is sound for a clock, with the least due clock allowed
+  pub sound : ℕ → ℕ → List ℕ → Bool
+
 -- "the codec round-trips": the frame, the shelf and the hand-out
-pub record RoundTrips (s : Setup) (own : ℕ) : Type 0 where
+pub record RoundTrips (c : Codec) : Type 0 where
   -- a written frame reads back the same; the places past the 2ε counts come back 0
   pub frameRead :
-      (station : ℕ) (t : Timestamp) (payload buffer : List ℕ) → write s own station t payload buffer .number ≡ 0
-      → read s own (take (write s own station t payload buffer .size) (write s own station t payload buffer .buffer))
-      ≡ record { number = 0; station = station; stamp = widened (trimmed (s .epsilon) t); payload = payload }
+      (station : ℕ) (t : Timestamp) (payload buffer : List ℕ) → c .write station t payload buffer .number ≡ 0
+      → c .read (take (c .write station t payload buffer .size) (c .write station t payload buffer .buffer))
+      ≡ record { number = 0; station = station; stamp = widened (trimmed (c .epsilon) t); payload = payload }
   -- an accepted frame is the one that the writer makes of its contents, in any buffer that is long enough
   pub frameWritten :
-      (bytes buffer : List ℕ) → areBytes bytes ≡ true → read s own bytes .number ≡ 0 → length bytes ≤ length buffer
-      → write s own (read s own bytes .station) (read s own bytes .stamp) (read s own bytes .payload) buffer
+      (bytes buffer : List ℕ) → areBytes bytes ≡ true → c .read bytes .number ≡ 0 → length bytes ≤ length buffer
+      → c .write (c .read bytes .station) (c .read bytes .stamp) (c .read bytes .payload) buffer
       ≡ record { number = 0; size = length bytes; buffer = overlay bytes buffer }
   -- a shelf holds the frames of which it was made
   pub holdbackRead :
-      (size : ℕ) (queue : List Frame) → every (hasWidth (s .epsilon)) queue ≡ true → length queue < 65536
-      → held (s .epsilon) (encodeHoldback size queue) ≡ queue
+      (size : ℕ) (queue : List Frame) → every (c .fits) queue ≡ true → length queue < 65536 → c .held (c .shelf size queue) ≡ queue
   -- a sound shelf with zeros behind its frames is what is made of these frames
   pub holdbackWritten :
-      (v least : ℕ) (bytes : List ℕ) → length bytes ≡ holdbackSize s → areBytes bytes ≡ true → soundHoldback s v least bytes ≡ true
-      → drop (length (encodeFrames (held (s .epsilon) bytes))) bytes
-      ≡ replicate (holdbackSize s - length (encodeFrames (held (s .epsilon) bytes))) 0
-      → encodeHoldback (holdbackSize s) (held (s .epsilon) bytes) ≡ bytes
+      (v least : ℕ) (bytes : List ℕ) → length bytes ≡ c .size → areBytes bytes ≡ true → c .sound v least bytes ≡ true
+      → drop (length (c .handout (c .held bytes))) bytes ≡ replicate (c .size - length (c .handout (c .held bytes))) 0
+      → c .shelf (c .size) (c .held bytes) ≡ bytes
   -- a hand-out holds the frames of which it was made, whatever the buffer held
   pub deliveryRead :
-      (queue : List Frame) (old : List ℕ) → every (hasWidth (s .epsilon)) queue ≡ true → length queue < 65536
-      → held (s .epsilon) (overlay (encodeFrames queue) old) ≡ queue
+      (queue : List Frame) (old : List ℕ) → every (c .fits) queue ≡ true → length queue < 65536
+      → c .held (overlay (c .handout queue) old) ≡ queue
   -- bytes that hold well-formed frames begin with the hand-out that is made of these frames
   pub deliveryWritten :
-      (bytes : List ℕ) → 2 ≤ length bytes → areBytes bytes ≡ true
-      → every (wellFormed (s .epsilon)) (heldBytes (s .epsilon) bytes) ≡ true
-      → overlay (encodeFrames (held (s .epsilon) bytes)) bytes ≡ bytes
+      (bytes : List ℕ) → 2 ≤ length bytes → areBytes bytes ≡ true → every (c .formed) (c .cut bytes) ≡ true
+      → overlay (c .handout (c .held bytes)) bytes ≡ bytes
+
+-- a station's
+abbrev pub stationCodec : Setup → ℕ → Codec
+stationCodec s own =
+    record {
+      epsilon = s .epsilon;
+      read = read s own;
+      write = λ station t payload buffer. write s own station t payload buffer;
+      fits = hasWidth (s .epsilon);
+      formed = wellFormed (s .epsilon);
+      cut = heldBytes (s .epsilon);
+      held = held (s .epsilon);
+      handout = encodeFrames;
+      shelf = encodeHoldback;
+      size = holdbackSize s;
+      sound = soundHoldback s;
+    }
 
 -- Demand 2, the codec, of every setup and own number
 abbrev pub Demand2Codec : Type 0
-Demand2Codec = (s : Setup) (own : ℕ) → RoundTrips s own
+Demand2Codec = (s : Setup) (own : ℕ) → RoundTrips (stationCodec s own)
 
 -- The published program, run over the same calls: the process of each station, and for each call made the message that it sent, if any
 pub record Published : Type 0 where

@@ -10,7 +10,7 @@ use lib.Dec.{leb}
 use lib.Seq.{slice, take-all}
 use borrow.Author.Tests.{le-leb, lt-leb, lt-ltb, le-ltb}
 use Rattle.laws.specs.Lists.{within}
-use Rattle.model.specs.Timestamp.{Timestamp, countAt, atMost, trimmed, soundTimestamp, clockStep, soundClock, soundTables}
+use Rattle.model.specs.Timestamp.{Timestamp, countAt, atMost, trimmed, soundTimestamp, clockStep, soundClock, soundBeside}
 use Rattle.lemmas.proofs.Counts.{count-zero, counts-from-drop}
 use Rattle.timestamp.specs.Views.{ofCounts, withinLimits}
 use Rattle.timestamp.proofs.Counts.{and-false}
@@ -52,27 +52,27 @@ module _ (epsilon : ℕ) (t : Timestamp) (small : epsilon ≤ 16) (long : length
   unfolding soundTimestamp
   sound-trimmed = rw (trimmed-all epsilon t small long)
 
-  module _ (modulus v : ℕ) where
+  -- beside the test of r
+  module _ (clock : Bool) where
     abbrev above : Bool
     above = atMost (n - 1) (slice (epsilon + 1) (2 * epsilon) (t .kn))
 
-    tables-are : soundTables n epsilon modulus v (trimmed epsilon t)
-        ≡ (soundTimestamp n epsilon (trimmed epsilon t) && (soundClock epsilon modulus v (t .r)
+    tables-are : soundBeside clock n epsilon (trimmed epsilon t)
+        ≡ (soundTimestamp n epsilon (trimmed epsilon t) && (clock
         && atMost (n - 1) (slice (epsilon + 1) (2 * epsilon) (t .kn))))
-    unfolding soundTables
     tables-are =
         rw (trimmed-all epsilon t small long, counts-from-drop epsilon 0 (take (2 * epsilon) (t .kn)) 1 (epsilon + 1) (omega arith))
 
-    pub unsound-tables : soundTimestamp n epsilon (trimmed epsilon t) ≡ false → false ≡ soundTables n epsilon modulus v (trimmed epsilon t)
+    pub unsound-tables : soundTimestamp n epsilon (trimmed epsilon t) ≡ false → false ≡ soundBeside clock n epsilon (trimmed epsilon t)
     unsound-tables e = rw (tables-are, e)
 
-    pub tables-away : soundTimestamp n epsilon (trimmed epsilon t) ≡ true → soundClock epsilon modulus v (t .r) ≡ false
-        → false ≡ soundTables n epsilon modulus v (trimmed epsilon t)
-    tables-away e h = sym (tables-are ∙ (ap (λ (b : Bool). b && (soundClock epsilon modulus v (t .r) && above)) e ∙ ap (λ (b : Bool). b && above) h))
+    pub tables-away : soundTimestamp n epsilon (trimmed epsilon t) ≡ true → clock ≡ false
+        → false ≡ soundBeside clock n epsilon (trimmed epsilon t)
+    tables-away e h = sym (tables-are ∙ (ap (λ (b : Bool). b && (clock && above)) e ∙ ap (λ (b : Bool). b && above) h))
 
-    pub tables-above : soundTimestamp n epsilon (trimmed epsilon t) ≡ true → soundClock epsilon modulus v (t .r) ≡ true
-        → atMost (n - 1) (slice (epsilon + 1) (2 * epsilon) (t .kn)) ≡ soundTables n epsilon modulus v (trimmed epsilon t)
-    tables-above e h = sym (tables-are ∙ (ap (λ (b : Bool). b && (soundClock epsilon modulus v (t .r) && above)) e ∙ ap (λ (b : Bool). b && above) h))
+    pub tables-above : soundTimestamp n epsilon (trimmed epsilon t) ≡ true → clock ≡ true
+        → atMost (n - 1) (slice (epsilon + 1) (2 * epsilon) (t .kn)) ≡ soundBeside clock n epsilon (trimmed epsilon t)
+    tables-above e h = sym (tables-are ∙ (ap (λ (b : Bool). b && (clock && above)) e ∙ ap (λ (b : Bool). b && above) h))
 
 -- a clock r, before the clock v
 module _ (epsilon modulus v r : ℕ) where

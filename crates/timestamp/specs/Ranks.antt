@@ -63,5 +63,5 @@ rankedFrame f kn = stampedFrame (f .station) (ofCounts (f .c) kn)
 -- what a comparison asks of a frame: its lead is sound, its reading small, and 2ε counts are there
 pub record Ranked (epsilon : ℕ) (f : Rank) (kn : List ℕ) : Type 0 where
   pub lead : f .c < epsilon
-  pub small : f .reading ≤ 2 ^ 17
+  pub small : f .reading ≤ 2 ^ 63
   pub long : 2 * epsilon ≤ length kn

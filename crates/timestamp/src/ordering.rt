@@ -102,7 +102,7 @@ pub fn compare(
     station_g: usize,
 ) -> Comparison
     requires { ⌜ (epsilon ≤ 16) × ((f .c < epsilon) × (g .c < epsilon)) ⌝ }
-    requires { ⌜ («at_f» ≤ 2 ^ 17) × («at_g» ≤ 2 ^ 17) ⌝ }
+    requires { ⌜ («at_f» ≤ 2 ^ 63) × («at_g» ≤ 2 ^ 63) ⌝ }
     ensures { λ o. ⌜ comparisonOf o ≡ compareKeys epsilon (keyBy epsilon «at_f» (stampedFrame «station_f» (trimmed epsilon (stampOf f)))) (keyBy epsilon «at_g» (stampedFrame «station_g» (trimmed epsilon (stampOf g)))) ⌝ }
 {
     let kf = f.kn;

@@ -6,7 +6,7 @@ ghost use lib.ListN.{length, take, drop, getD};
 ghost use lib.Dec.{leb};
 ghost use Rattle.laws.specs.Lists.{tab, padded};
 ghost use Rattle.model.specs.Setup.{widest};
-ghost use Rattle.model.specs.Timestamp.{atMost, soundTimestamp, soundTables, trimmed, widened};
+ghost use Rattle.model.specs.Timestamp.{atMost, soundTimestamp, soundBeside, soundTables, trimmed, widened};
 ghost use Rattle.model.specs.Timestamp as model;
 ghost use Rattle.timestamp.specs.Views.{stampOf, ofCounts, withinLimits, largerAt, raisedAt};
 
@@ -58,7 +58,7 @@ impl Timestamp {
 
     // 01, tick 3: "c and each count become the larger of own and frame's, both placed relative to v", which reads B.
     pub fn absorb(self, epsilon: usize, modulus: usize, reading: usize, f: Timestamp) -> Self
-        requires { ⌜ (epsilon ≤ 16) × ((modulus ≤ 65535) × ((reading ≤ 2 ^ 17) × (f .c ≤ 2 ^ 16))) ⌝ }
+        requires { ⌜ (epsilon ≤ 16) × ((modulus ≤ 2 ^ 63) × ((reading ≤ 2 ^ 63) × (f .c ≤ 2 ^ 16))) ⌝ }
         ensures { λ s. ⌜ stampOf s
             ≡ widened (model.absorb epsilon modulus (trimmed epsilon (stampOf self)) reading (trimmed epsilon (stampOf f))) ⌝ }
     {
@@ -97,20 +97,29 @@ impl Timestamp {
     }
 
     // 01: "sound for a new clock v if the stamp is sound, r is below B and one before v modulo B, and counts at offsets 1
-    // and up are at most n − 1". 02, 2.2: r lies 1 to ε before v.
-    pub fn is_sound_for(self, n: usize, epsilon: usize, modulus: usize, v: usize) -> bool
+    // and up are at most n − 1", beside the test of r.
+    pub fn sound_beside(self, n: usize, epsilon: usize, clock: bool) -> bool
         requires { ⌜ (1 ≤ n) × ((n ≤ 16) × ((1 ≤ epsilon) × (epsilon ≤ 16))) ⌝ }
-        requires { ⌜ (modulus ≤ 65535) × (v < modulus) ⌝ }
-        ensures { λ b. ⌜ b ≡ soundTables n epsilon modulus v (trimmed epsilon (stampOf self)) ⌝ }
+        ensures { λ b. ⌜ b ≡ soundBeside clock n epsilon (trimmed epsilon (stampOf self)) ⌝ }
     {
         let kn = self.kn;
         if !self.is_sound(n, epsilon) {
             return false;
         }
-        if !clock_sound(epsilon, modulus, v, self.r) {
+        if !clock {
             return false;
         }
         counts_at_most(&kn, epsilon + 1, 2 * epsilon, n - 1)
+    }
+
+    // All of it. 02, 2.2: r lies 1 to ε before v.
+    pub fn is_sound_for(self, n: usize, epsilon: usize, modulus: usize, v: usize) -> bool
+        requires { ⌜ (1 ≤ n) × ((n ≤ 16) × ((1 ≤ epsilon) × (epsilon ≤ 16))) ⌝ }
+        requires { ⌜ (modulus ≤ 65535) × (v < modulus) ⌝ }
+        ensures { λ b. ⌜ b ≡ soundTables n epsilon modulus v (trimmed epsilon (stampOf self)) ⌝ }
+    {
+        let clock = clock_sound(epsilon, modulus, v, self.r);
+        self.sound_beside(n, epsilon, clock)
     }
 }
 
@@ -244,7 +253,7 @@ fn larger_counts(
     modulus: usize,
     reading: usize,
 ) -> [u8; Timestamp::WIDTH]
-    requires { ⌜ (width ≤ 32) × ((width ≤ length (now own)) × ((width ≤ length (now other)) × (modulus ≤ 65535))) ⌝ }
+    requires { ⌜ (width ≤ 32) × ((width ≤ length (now own)) × ((width ≤ length (now other)) × (modulus ≤ 2 ^ 63))) ⌝ }
     ensures { λ kn. ⌜ kn
         ≡ padded widest (tab width (largerAt modulus reading (take width (now (own .entry))) (take width (now (other .entry))))) ⌝ }
 {

@@ -1,3 +1,4 @@
 pub mod Refuting
 pub mod Telling
 pub mod Unedited
+pub mod Engines

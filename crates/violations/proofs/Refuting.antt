@@ -45,7 +45,7 @@ unfolding sameFrames
 sameFrames-refl [] = refl
 sameFrames-refl (x ∷ a) = and-intro (sameList-refl x) (sameFrames-refl a)
 
-sameFrames-eq : {a b : List (List ℕ)} → a ≡ b → sameFrames a b ≡ true
+pub sameFrames-eq : {a b : List (List ℕ)} → a ≡ b → sameFrames a b ≡ true
 sameFrames-eq {a} {b} e = rw e (sameFrames-refl b)
 
 on-by-one : (i k : ℕ) → suc i + k ≡ i + suc k
@@ -59,7 +59,7 @@ module _ {A : Type 0} where
       and-intro (sym (ap (λ (n : ℕ). p n x) (add-zero i)) ∙ h 0 x refl)
       (every-from p (suc i) l (λ k y e. ap (λ (n : ℕ). p n y) (on-by-one i k) ∙ h (suc k) y e))
 
-  every-at : (p : ℕ → A → Bool) (l : List A) → ((k : ℕ) (x : A) → getElem? l k ≡ some x → p k x ≡ true) → everyFrom p 0 l ≡ true
+  pub every-at : (p : ℕ → A → Bool) (l : List A) → ((k : ℕ) (x : A) → getElem? l k ≡ some x → p k x ≡ true) → everyFrom p 0 l ≡ true
   every-at p l h = every-from p 0 l (λ k x e. ap (λ (n : ℕ). p n x) (zero-add k) ∙ h k x e)
 
   any-from : (p : ℕ → A → Bool) (i : ℕ) (l : List A) → anyFrom p i l ≡ true → (k : ℕ) × (x : A) × (getElem? l k ≡ some x) × (p (i + k) x ≡ true)
@@ -208,7 +208,7 @@ module _ (test : Setup → ℕ → List Done → Bool) (right : (s : Setup) (fro
       clash (right s 0 (runFrom (atStart nodes) calls .past) (demand s nodes calls good fresh kept sent)) wrong
 
 -- what holds of every step is true of all of them
-every-step : (p : ℕ → Bool) (epsilon : ℕ) → ((k : ℕ) → 1 ≤ k → k ≤ epsilon → p k ≡ true) → everyStep p epsilon ≡ true
+pub every-step : (p : ℕ → Bool) (epsilon : ℕ) → ((k : ℕ) → 1 ≤ k → k ≤ epsilon → p k ≡ true) → everyStep p epsilon ≡ true
 every-step p epsilon h = every-tab p epsilon (λ k. k + 1) (λ k below. h (k + 1) (omega arith) (omega arith))
 
 -- 02, 2.7: what holds before each entry is true before all of them

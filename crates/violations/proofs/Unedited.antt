@@ -3,8 +3,8 @@
 use Prim.Native.Nat.{ℕ}
 use mathlib.Core.Path.{_≡_, refl}
 use mathlib.Core.Bool.{Bool, true, false, _&&_}
-use mathlib.Core.List.{List, [], _∷_, map}
-use lib.ListN.{length, replicate}
+use mathlib.Core.List.{List, [], _∷_, _++_, map}
+use lib.ListN.{length, take, replicate}
 use Rattle.laws.specs.Lists.{every}
 use Rattle.model.specs.Setup.{Setup}
 use Rattle.model.specs.Holdback.{held}
@@ -13,13 +13,17 @@ use Rattle.model.specs.Published.{Condition, deliverable, deliverableBy}
 use Rattle.model.specs.Tick.{tick}
 use Rattle.model.specs.Observer.{listen}
 use Rattle.model.specs.Run.{Node, Call, Done, atStart}
+use Rattle.model.specs.Long.{longRead, longWrite, longHeld, longTick}
 use Rattle.theory.specs.Premises.{goodStart, largestClock, keeps, allFresh, noneStale, stepsOfOne}
 use Rattle.theory.specs.Demand2.{heardBefore, observedBefore, publishedStart}
 use Rattle.theory.specs.Demand3.{coveredFrom}
+use Rattle.theory.specs.LongAny.{longHeardBefore}
 use Rattle.violations.specs.Tests.{sendingTest, hearingTest, deliveringTest, causalityTest, anyStateTest, anyObserverTest, sameAll, freshTest}
 use Rattle.violations.specs.Stories.{group, Scene, freshTables, freshNodes, callsOf, pastOf, causeAndEffect, heardTooLate, driftedApart, hauntedAt10, hauntedAt8, staleHeard, holdingNodes, wideGroup, wideNodes, wideCalls, widePast, steppedTooFar, notStepped, inputsFrom, inputsOf, unsoundTables, unsoundQueue, packed, packedAlone, packedEarly}
 use Rattle.violations.specs.Stories.{watchedNodes, watchedCalls, watchedPast, allAhead, leftBehind, forestalled, holdingWatched, wideWatched, watchedSteps, watchedStepped, listeningsFrom, unsoundShelf}
+use Rattle.violations.specs.Engines.{engineGroup, now, hearsTwo, heldTwice, holdsAll, engineTest}
 use Rattle.violations.proofs.Telling.{telling}
+use Rattle.violations.proofs.Engines.{engines}
 
 -- the premises of demand 3
 abbrev keptBy : Setup → List Node → List Call → Bool
@@ -191,3 +195,29 @@ packed-early = refl
 pub packed-figures : (anyStateTest packed && every anyObserverTest (packedAlone ∷ packedEarly ∷ [])) ≡ true
 unfolding telling
 packed-figures = refl
+
+-- 02, 2.9: an engine hears two frames, and one of them again, and hands both out, that of station 0 first
+pub engine-heard :
+    (take 3 (longTick hearsTwo .verdicts) ++ (longTick hearsTwo .answer .taken ∷ map (λ f. f .station) (longHeld 1 (longTick hearsTwo .delivery)))) ≡ 0 ∷ 0 ∷ 16 ∷ 2 ∷ 0 ∷ 1 ∷ []
+unfolding engines
+engine-heard = refl
+
+-- its damage is mended
+pub engine-mended : longTick heldTwice .answer .repair ≡ 2
+unfolding engines
+engine-mended = refl
+
+pub engine-figures : every engineTest (hearsTwo ∷ heldTwice ∷ []) ≡ true
+unfolding engines
+engine-figures = refl
+
+-- a shelf of 64 is sound, and no other frame is held
+pub engine-full :
+    (longTick holdsAll .answer .repair ∷ length (longHeardBefore holdsAll 0 .queue) ∷ length (longHeardBefore holdsAll 1 .queue) ∷ take 1 (longTick holdsAll .verdicts)) ≡ 0 ∷ 64 ∷ 64 ∷ 18 ∷ []
+unfolding engines
+engine-full = refl
+
+-- a clock of six bytes comes back
+pub engine-read-back : longRead engineGroup 0 (longWrite engineGroup 0 0 (freshTables now) [] (replicate 15 0) .buffer) .stamp .r ≡ now
+unfolding engines
+engine-read-back = refl

@@ -13,7 +13,7 @@ use Rattle.model.specs.Frame.{encode}
 use Rattle.model.specs.Batch.{batchEntries}
 use Rattle.model.specs.Holdback.{heldBytes, soundHoldback, encodeFrames, encodeHoldback}
 use Rattle.model.specs.Question.{firstNo}
-use Rattle.model.specs.Judge.{Heard, judgeQuestions, observerQuestions}
+use Rattle.model.specs.Judge.{Asking, Heard, judgeQuestions, observerQuestions}
 use Rattle.model.specs.Published.{Process, Condition, inOrder}
 use Rattle.model.specs.Tick.{Input, holdbackSize, leastDue, sentBytes, deliveredOf, takenCount, tick}
 use Rattle.model.specs.Observer.{Listening, observerLeast, observerDelivered, listen}
@@ -107,11 +107,13 @@ causesRight s from past a led j (b ∷ bs) =
 unfoldable pub causalityTest : Setup → ℕ → List Done → Bool
 causalityTest s from past = everyFrom (λ i a. implies (covered from a) (causesRight s from past a (i ∷ []) 0 past)) 0 past
 
--- Demand 2 from any state, of an accepted call: a test for each clause
+-- Demand 2 from any state, of an accepted call: a test for each clause. The verdicts, by what is asked
+abbrev pub firstFailed : Asking → (ℕ → Heard) → List (List ℕ) → List ℕ → Bool
+firstFailed asking before entries verdicts =
+    everyFrom (λ k entry. eqb (getD verdicts k 0) (firstNo (asking (before k .queue) entry))) 0 entries
+
 unfoldable pub verdictTest : Input → Bool
-verdictTest i =
-    everyFrom (λ k entry. eqb (getD (tick i .verdicts) k 0)
-    (firstNo (judgeQuestions (i .setup) (i .clock) (heardBefore i k .queue) entry))) 0 (batchEntries (i .batch))
+verdictTest i = firstFailed (judgeQuestions (i .setup) (i .clock)) (heardBefore i) (batchEntries (i .batch)) (tick i .verdicts)
 
 unfoldable pub takenTest : Input → Bool
 takenTest i = eqb (tick i .answer .taken) (takenCount (take (length (batchEntries (i .batch))) (tick i .verdicts)))
@@ -165,8 +167,7 @@ anyStateTest i =
 -- 02, 2.6: the same of an observer's call
 unfoldable pub observedTest : Listening → Bool
 observedTest i =
-    everyFrom (λ k entry. eqb (getD (listen i .verdicts) k 0)
-    (firstNo (observerQuestions (i .setup) (i .clock) (observedBefore i k .queue) entry))) 0 (batchEntries (i .batch))
+    firstFailed (observerQuestions (i .setup) (i .clock)) (observedBefore i) (batchEntries (i .batch)) (listen i .verdicts)
 
 unfoldable pub observerTakenTest : Listening → Bool
 observerTakenTest i = eqb (listen i .taken) (takenCount (take (length (batchEntries (i .batch))) (listen i .verdicts)))

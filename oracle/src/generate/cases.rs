@@ -5,7 +5,7 @@ use crate::words::LINE;
 use crate::{Answer, Buffers, Call, ClockState, Setup, Timestamp};
 
 /// How much too large a number or a length can be and look right, cut to one byte or two.
-const FAR: [i64; 2] = [256, 65_536];
+pub(super) const FAR: [i64; 2] = [256, 65_536];
 
 /// The numbers that a judgement gives.
 const NUMBERS: [u8; 8] = [0, 10, 11, 12, 13, 14, 15, 16];
@@ -38,10 +38,6 @@ impl TickCase {
         state: ClockState,
         holdback: Vec<u8>,
     ) -> Self {
-        let mut buffer = |least: usize| {
-            let more = if rng.one_in(32) { rng.pick(&FAR) } else { rng.range(-2, 2).max(0) };
-            rng.bytes(least + more as usize)
-        };
         TickCase {
             setup,
             clock,
@@ -50,9 +46,9 @@ impl TickCase {
             batch: vec![0],
             send: false,
             payload: Vec::new(),
-            outgoing: buffer(setup.longest_frame()),
-            verdicts: buffer(crate::setup::VERDICTS),
-            delivery: buffer(setup.holdback_len()),
+            outgoing: buffer(rng, setup.longest_frame()),
+            verdicts: buffer(rng, crate::setup::VERDICTS),
+            delivery: buffer(rng, setup.holdback_len()),
         }
     }
 
@@ -208,6 +204,12 @@ impl WordsCase {
         let verdicts = self.verdicts.get(..self.batch[0].into())?;
         verdicts.iter().copied().find(|number| !NUMBERS.contains(number))
     }
+}
+
+/// A buffer of random bytes that is long enough, often not longer and rarely much longer.
+pub(super) fn buffer(rng: &mut Prng, least: usize) -> Vec<u8> {
+    let more = if rng.one_in(32) { rng.pick(&FAR) } else { rng.range(-2, 2).max(0) };
+    rng.bytes(least + more as usize)
 }
 
 /// A clock state of random bytes.

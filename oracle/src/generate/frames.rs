@@ -14,11 +14,15 @@ struct Style {
 
 /// A frame of a node that passes 10 to 12, its r `ahead` of v.
 pub fn sound(rng: &mut Prng, setup: &Setup, v: i64, node: i64, ahead: i64, c: i64) -> Vec<u8> {
-    let style = Style { flat: rng.one_in(2), tame: !rng.one_in(4) };
+    let (kn, payload) = contents(rng, setup, ahead, c);
     let r = (v + ahead).rem_euclid(setup.modulus);
-    let kn = counts(rng, setup, ahead, c, style);
-    let payload = rng.payload();
     encode(node, &Timestamp { r, c, kn: &kn }, &payload)
+}
+
+/// Counts that are sound with c, for an r that is `ahead` of v, and a payload.
+pub(super) fn contents(rng: &mut Prng, setup: &Setup, ahead: i64, c: i64) -> (Vec<u8>, Vec<u8>) {
+    let style = Style { flat: rng.one_in(2), tame: !rng.one_in(4) };
+    (counts(rng, setup, ahead, c, style), rng.payload())
 }
 
 /// Counts that are sound with c.
@@ -49,29 +53,40 @@ pub fn encode(node: i64, timestamp: &Timestamp, payload: &[u8]) -> Vec<u8> {
 
 /// A frame that passes 10 to 12 and may fail each later check, mostly by little.
 pub fn near(rng: &mut Prng, setup: &Setup, v: i64) -> Vec<u8> {
+    let (node, ahead, c) = place_near(rng, setup);
+    sound(rng, setup, v, node, ahead, c)
+}
+
+/// The node of such a frame, how far its r is ahead of v, and c.
+pub(super) fn place_near(rng: &mut Prng, setup: &Setup) -> (i64, i64, i64) {
     let oldest = -(setup.delta + setup.epsilon);
     let any = rng.range(oldest - 1, setup.epsilon);
     let ahead = rng.pick(&[any, any, any, 0, oldest, oldest - 1, setup.epsilon - 1]);
     let any = rng.below(setup.epsilon);
     let highest = (setup.epsilon - 1 - ahead).clamp(0, setup.epsilon - 1);
     let c = rng.pick(&[0, any, highest]);
-    let node = rng.below(setup.n);
-    sound(rng, setup, v, node, ahead, c)
+    (rng.below(setup.n), ahead, c)
 }
 
 /// Changes a frame so that it mostly fails one of 10 to 12.
 pub fn damage(rng: &mut Prng, setup: &Setup, frame: &mut Vec<u8>) {
-    let [low, high] = (setup.modulus as u16).wrapping_add(rng.range(-1, 1) as u16).to_le_bytes();
+    let r = (setup.modulus as u16).wrapping_add(rng.range(-1, 1) as u16);
+    damage_with(rng, setup, &r.to_le_bytes(), frame);
+}
+
+/// The same, with the bytes of an r, of which a frame has as many.
+pub(super) fn damage_with(rng: &mut Prng, setup: &Setup, r: &[u8], frame: &mut Vec<u8>) {
     let width = setup.width();
-    let c_at = 5;
-    let length_at = 6 + width;
+    let second_at = 2 + r.len();
+    let c_at = second_at + 1;
+    let length_at = c_at + 1 + width;
     match rng.below(10) {
         0 => frame.truncate(rng.place(frame.len())),
         1 => frame.push(rng.bits() as u8),
         2 => frame[1] = rng.pick(&[setup.n, setup.n + 1, 255]) as u8,
-        3 => frame[2..4].copy_from_slice(&[low, high]),
+        3 => frame[2..second_at].copy_from_slice(r),
         4 => frame[c_at] = rng.pick(&[0, setup.epsilon - 1, setup.epsilon, 255]) as u8,
-        5 => frame[6 + rng.place(width)] = rng.pick(&[0, setup.n, setup.n + 1, 255]) as u8,
+        5 => frame[c_at + 1 + rng.place(width)] = rng.pick(&[0, setup.n, setup.n + 1, 255]) as u8,
         6 => frame[length_at] = frame[length_at].wrapping_add(rng.pick(&[1, 255])),
         7 => {
             frame.truncate(length_at);
@@ -79,7 +94,7 @@ pub fn damage(rng: &mut Prng, setup: &Setup, frame: &mut Vec<u8>) {
             frame.extend(rng.bytes(33));
         }
         8 => {
-            let at = rng.pick(&[0, 4]);
+            let at = rng.pick(&[0, second_at]);
             frame[at] = frame[at].wrapping_add(rng.pick(&[1, 255]));
         }
         _ => {

@@ -112,18 +112,23 @@ fn frames_up_to(rng: &mut Prng, setup: &Setup, v: i64, least: i64, most: usize) 
 }
 
 /// How far the r of a held frame may lie ahead of v.
-fn held_range(setup: &Setup, least: i64) -> std::ops::Range<i64> {
+pub(super) fn held_range(setup: &Setup, least: i64) -> std::ops::Range<i64> {
     least + 1 - setup.delta - 2 * setup.epsilon..setup.epsilon
 }
 
 /// A sound frame that may be held at v: its sum not too far ahead, its due clock not below the
 /// least.
 fn held_frame(rng: &mut Prng, setup: &Setup, v: i64, least: i64, node: i64, ahead: i64) -> Vec<u8> {
+    let c = held_c(rng, setup, least, ahead);
+    frames::sound(rng, setup, v, node, ahead, c)
+}
+
+/// A c for it.
+pub(super) fn held_c(rng: &mut Prng, setup: &Setup, least: i64, ahead: i64) -> i64 {
     let lowest = (least - setup.delta - setup.epsilon - ahead).max(0);
     let highest = (setup.epsilon - 1 - ahead).min(setup.epsilon - 1);
     let any = rng.range(lowest, highest);
-    let c = rng.pick(&[lowest, highest, any]);
-    frames::sound(rng, setup, v, node, ahead, c)
+    rng.pick(&[lowest, highest, any])
 }
 
 /// Sorts sound frames into delivery order.
@@ -159,10 +164,15 @@ fn damage_frames(rng: &mut Prng, setup: &Setup, v: i64, least: i64, frames: &mut
 
 /// The queue's bytes, with zeros or junk after the frames.
 pub fn assemble(rng: &mut Prng, setup: &Setup, frames: &[Vec<u8>]) -> Vec<u8> {
+    assemble_in(rng, setup.holdback_len(), frames)
+}
+
+/// The same for a queue of this length.
+pub(super) fn assemble_in(rng: &mut Prng, length: usize, frames: &[Vec<u8>]) -> Vec<u8> {
     let mut bytes = (frames.len() as u16).to_le_bytes().to_vec();
     bytes.extend(frames.iter().flatten());
-    bytes.truncate(setup.holdback_len());
-    let left = setup.holdback_len() - bytes.len();
+    bytes.truncate(length);
+    let left = length - bytes.len();
     bytes.extend(if rng.one_in(2) { vec![0; left] } else { rng.bytes(left) });
     bytes
 }

@@ -1,8 +1,10 @@
 //! Random calls and traces, good and bad, for comparing programs and for tests.
 
 pub mod cases;
+pub mod engines;
 pub mod frames;
 pub mod group;
+pub mod long;
 pub mod memory;
 pub mod observers;
 pub mod pairs;
@@ -13,7 +15,9 @@ pub mod traces;
 pub mod yards;
 
 pub use cases::{FreshCase, ReadCase, TickCase, WordsCase, WriteCase};
+pub use engines::{Beside, Pair};
 pub use group::{Group, Habits, Turn};
+pub use long::{LongCase, LongReadCase, LongWriteCase};
 pub use observers::ListenCase;
 pub use pairs::CompareCase;
 pub use polls::PollCase;

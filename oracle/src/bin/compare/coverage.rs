@@ -6,10 +6,11 @@ use std::fmt;
 /// What a number was the answer to, and how often a run of the usual length should meet which.
 type Row = (&'static str, &'static [(u8, u64)]);
 
-/// The usual length: the calls, and the traces and rehearsals, of which the rows tell. A shorter run
+/// The usual length: the calls, those of engines, and the traces and rehearsals, of which the rows tell. A shorter run
 /// has to meet its share. Each number is a little below the least that came with 30 seeds; where seeds
 /// differ much, or a kind is rare, half of that or less, so that any seed will do.
 const CALLS: u64 = 200_000;
+const ENGINES: u64 = 200_000;
 const TRACES: u64 = 4_000;
 
 /// Of calls. The numbers of `no line` are verdicts for which the words answered 6. For `sent` and
@@ -89,6 +90,45 @@ const OF_CALLS: [Row; 33] = [
     ("words", &[(0, 18_000), (1, 1_500), (5, 1_500), (6, 4_300)]),
     ("writer", &[(0, 3_300), (1, 500), (4, 970), (6, 810), (11, 1_700), (12, 1_100)]),
 ];
+/// Of calls of engines. The numbers of `long`, `long frame`, `long mend`, `long reader` and `long writer` are
+/// what they are for other calls; those of `beside` are what ended a run (0: its length); all others are
+/// kinds: see `engines`.
+const OF_ENGINES: [Row; 20] = [
+    ("beside", &[(0, 290), (2, 13), (18, 16)]),
+    ("beside early", &[(0, 15_000), (1, 660), (2, 1_000), (3, 20_000)]),
+    ("beside frame", &[(0, 90_000), (16, 220_000)]),
+    ("beside sent", &[(0, 13_000), (1, 27_000)]),
+    ("beside wraps", &[(0, 100), (1, 68), (2, 45)]),
+    ("long", &[(0, 100_000), (1, 2_000), (2, 810), (3, 1_100), (4, 1_000), (5, 1_900), (6, 2_500)]),
+    ("long 11", &[(0, 8_600), (1, 12_000)]),
+    ("long 16", &[(0, 550_000), (1, 18_000)]),
+    ("long 18", &[(0, 12_000), (1, 4_600)]),
+    ("long early", &[(0, 42_000), (1, 1_600), (2, 3_900)]),
+    (
+        "long frame",
+        &[
+            (0, 430_000),
+            (10, 68_000),
+            (11, 23_000),
+            (12, 13_000),
+            (13, 45_000),
+            (14, 23_000),
+            (15, 9_300),
+            (16, 570_000),
+            (18, 17_000),
+        ],
+    ),
+    ("long gave", &[(0, 50_000), (1, 49_000)]),
+    ("long held", &[(0, 7_400), (1, 70_000), (2, 420), (3, 1_100), (4, 1_700)]),
+    ("long mend", &[(0, 81_000), (1, 3_200), (2, 11_000), (3, 8_700)]),
+    ("long order", &[(0, 12_000), (1, 52_000)]),
+    ("long overdue", &[(1, 2_900), (2, 1_000), (3, 3_300)]),
+    ("long reader", &[(0, 7_700), (1, 510), (10, 3_600), (11, 950), (12, 410)]),
+    ("long sent", &[(0, 34_000), (1, 69_000)]),
+    ("long step", &[(0, 2_400), (1, 73_000), (2, 5_900), (3, 8_500), (4, 2_300), (5, 950)]),
+    ("long writer", &[(0, 4_200), (1, 520), (4, 1_500), (6, 2_000), (11, 2_200), (12, 2_700)]),
+];
+
 /// Of traces. 3 and 6 are not among them: the program's own buffers are right.
 const OF_TRACES: [Row; 4] = [
     ("trace", &[(0, 2_200), (1, 160), (2, 66), (4, 69), (5, 570)]),
@@ -163,11 +203,14 @@ impl Coverage {
         self.0.get(&(what, number)).copied().unwrap_or(0)
     }
 
-    /// The numbers that were met too rarely in a run of this many calls, traces and rehearsals.
-    pub fn gaps(&self, calls: u64, traces: u64, rehearsals: u64) -> Vec<String> {
+    /// The numbers that were met too rarely in a run of this many calls, calls of engines, traces and
+    /// rehearsals.
+    pub fn gaps(&self, calls: u64, engines: u64, traces: u64, rehearsals: u64) -> Vec<String> {
         let of_calls = self.below(&OF_CALLS, calls, CALLS);
+        let of_engines = self.below(&OF_ENGINES, engines, ENGINES);
         let of_traces = self.below(&OF_TRACES, traces, TRACES);
-        [of_calls, of_traces, self.below(&OF_YARDS, rehearsals, TRACES)].concat()
+        let of_yards = self.below(&OF_YARDS, rehearsals, TRACES);
+        [of_calls, of_engines, of_traces, of_yards].concat()
     }
 
     /// The numbers of some rows that a run of this length met less often than it should.

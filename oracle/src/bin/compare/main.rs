@@ -1,16 +1,17 @@
 //! Compares the oracle with the proved library and the proved programs, call by call.
 //!
 //! ```text
-//! compare --replay PATH --yard PATH [--seed S] [--calls N] [--traces N] [--plant K]
-//! compare selfcheck [--seed S] [--calls N] [--traces N]
+//! compare --replay PATH --yard PATH [--seed S] [--calls N] [--engines N] [--traces N] [--plant K]
+//! compare selfcheck [--seed S] [--calls N] [--engines N] [--traces N]
 //! ```
 //!
 //! The first form needs the feature `abi`; `--plant K` (feature `plant`) puts fault K into the
 //! oracle, and the comparison should then fail. The second form (feature `plant`) needs no
 //! library: it compares the oracle with itself, and then with itself and each fault in turn; for
-//! those of `yard` it makes no calls.
+//! those of `yard` it makes no calls, and for those of engines only calls of engines.
 
 mod coverage;
+mod engines;
 mod nudges;
 mod observers;
 mod polls;
@@ -34,6 +35,7 @@ struct Options {
     selfcheck: bool,
     seed: u64,
     calls: u64,
+    engines: u64,
     traces: u64,
     fault: u8,
     replay: Option<String>,
@@ -46,6 +48,7 @@ impl Options {
             selfcheck: false,
             seed: 1,
             calls: 200_000,
+            engines: 200_000,
             traces: 2_000,
             fault: 0,
             replay: None,
@@ -61,6 +64,7 @@ impl Options {
             match word.as_str() {
                 "--seed" => options.seed = number()?,
                 "--calls" => options.calls = number()?,
+                "--engines" => options.engines = number()?,
                 "--traces" => options.traces = number()?,
                 "--plant" => options.fault = number()?.min(255) as u8,
                 "--replay" => options.replay = Some(value),
@@ -103,10 +107,11 @@ fn compare<'s>(
     left: &'s mut dyn Subject,
     right: &'s mut dyn Subject,
 ) -> (Comparison<'s>, Result<(), String>) {
-    let mut rng = Prng::new(options.seed);
+    let (mut rng, mut other) = (Prng::new(options.seed), Prng::new(!options.seed));
     let mut comparison = Comparison::new(left, right);
     let result = comparison
         .run_calls(&mut rng, options.calls)
+        .and_then(|()| comparison.run_engines(&mut other, options.engines))
         .and_then(|()| comparison.run_traces(&mut rng, options.traces))
         .and_then(|()| comparison.run_yards(&mut rng, options.traces));
     (comparison, result.map_err(|difference| format!("seed {}, {difference}", options.seed)))
@@ -123,11 +128,13 @@ fn compare_alike(
     result?;
     println!("{}", done.coverage);
     let (seconds, seed) = (start.elapsed().as_secs_f64(), options.seed);
-    let Comparison { calls, traces, rehearsals, .. } = done;
+    let Comparison { calls, engine_calls, pairs, traces, rehearsals, .. } = done;
     println!(
         "{calls} calls, {traces} traces and {rehearsals} rehearsals alike, seed {seed}, {seconds:.1} s"
     );
-    match done.coverage.gaps(calls, traces, rehearsals) {
+    let engines = engine_calls - pairs;
+    println!("{engines} of the calls are of engines, {pairs} of a node beside one");
+    match done.coverage.gaps(calls - engine_calls, engine_calls, traces, rehearsals) {
         gaps if gaps.is_empty() => Ok(()),
         gaps => Err(format!("met too rarely: {}", gaps.join(", "))),
     }
@@ -162,14 +169,24 @@ fn compare_with_library(options: &Options) -> Result<(), String> {
     Err(format!("{program}: comparing with it needs the feature abi"))
 }
 
+/// What is needed of a comparison that should find this fault.
+fn for_fault(options: &Options, fault: u8) -> Options {
+    let mut options = options.clone();
+    if fault::OF_YARD.contains(&fault) {
+        (options.calls, options.engines) = (0, 0);
+    }
+    if fault::OF_ENGINES.contains(&fault) {
+        (options.calls, options.traces) = (0, 0);
+    }
+    options
+}
+
 /// The oracle against itself, then against itself with each fault.
 fn selfcheck(options: &Options) -> Result<(), String> {
     compare_alike(options, &mut Oracle { fault: 0 }, &mut Oracle { fault: 0 })?;
     for fault in 1..=fault::COUNT {
         let (mut sound, mut faulty) = (Oracle { fault: 0 }, Oracle { fault });
-        let calls = if fault < fault::FIRST_OF_YARD { options.calls } else { 0 };
-        let options = Options { calls, ..options.clone() };
-        let (done, result) = compare(&options, &mut sound, &mut faulty);
+        let (done, result) = compare(&for_fault(options, fault), &mut sound, &mut faulty);
         let (what, number) = match result {
             Ok(()) => return Err(format!("fault {fault} was not found")),
             Err(_) if done.rehearsals > 0 => ("rehearsal", done.rehearsals),

@@ -2,10 +2,11 @@
 
 use crate::coverage::Coverage;
 use crate::subject::Subject;
-use crate::{nudges, observers, polls, reasons, yards};
+use crate::{engines, nudges, observers, polls, reasons, yards};
 use oracle::abi;
-use oracle::generate::{self, spoil, Group, Habits, Prng, Turn};
+use oracle::generate::{self, spoil, Beside, Group, Habits, Pair, Prng, Turn};
 use oracle::generate::{CompareCase, FreshCase, ListenCase, PollCase, ReadCase};
+use oracle::generate::{LongCase, LongReadCase, LongWriteCase};
 use oracle::generate::{TickCase, WordsCase, WriteCase};
 use oracle::playing::hex;
 use oracle::{Answer, Timestamp};
@@ -148,12 +149,67 @@ impl Case for ListenCase {
     }
 }
 
+impl Case for LongCase {
+    fn call(&mut self, subject: &mut dyn Subject) -> u64 {
+        subject.long_tick(self)
+    }
+
+    fn numbers(&self) -> String {
+        format!("engine: {:?} clock {} send {}", self.setup, self.clock, self.send)
+    }
+
+    fn buffers(&self) -> Vec<(&'static str, &[u8])> {
+        vec![
+            ("tables", &self.state),
+            ("shelf", &self.holdback),
+            ("bundle", &self.batch),
+            ("ticket", &self.payload),
+            ("outgoing", &self.outgoing),
+            ("verdicts", &self.verdicts),
+            ("hand-out", &self.delivery),
+        ]
+    }
+}
+
+impl Case for LongReadCase {
+    fn call(&mut self, subject: &mut dyn Subject) -> u64 {
+        subject.long_read(self)
+    }
+
+    fn numbers(&self) -> String {
+        format!("engine's reader: {:?}", self.setup)
+    }
+
+    fn buffers(&self) -> Vec<(&'static str, &[u8])> {
+        vec![("frame", &self.frame), ("tables", &self.state)]
+    }
+}
+
+impl Case for LongWriteCase {
+    fn call(&mut self, subject: &mut dyn Subject) -> u64 {
+        subject.long_write(self)
+    }
+
+    fn numbers(&self) -> String {
+        format!("engine's writer: {:?} station {}", self.setup, self.node)
+    }
+
+    fn buffers(&self) -> Vec<(&'static str, &[u8])> {
+        vec![("tables", &self.state), ("ticket", &self.payload), ("out", &self.out)]
+    }
+}
+
 /// Two programs, and what was met so far. An error describes a difference.
 pub struct Comparison<'s> {
     pub left: &'s mut dyn Subject,
     pub right: &'s mut dyn Subject,
     pub coverage: Coverage,
+    /// All calls.
     pub calls: u64,
+    /// Those that were made for engines, the nodes beside them included.
+    pub engine_calls: u64,
+    /// Calls that a node and its engine made side by side.
+    pub pairs: u64,
     pub traces: u64,
     pub rehearsals: u64,
 }
@@ -161,7 +217,8 @@ pub struct Comparison<'s> {
 impl<'s> Comparison<'s> {
     pub fn new(left: &'s mut dyn Subject, right: &'s mut dyn Subject) -> Self {
         let coverage = Coverage::default();
-        Comparison { left, right, coverage, calls: 0, traces: 0, rehearsals: 0 }
+        let [calls, engine_calls, pairs, traces, rehearsals] = [0; 5];
+        Comparison { left, right, coverage, calls, engine_calls, pairs, traces, rehearsals }
     }
 
     /// Plays groups until at least this many calls are made.
@@ -334,6 +391,87 @@ impl<'s> Comparison<'s> {
             }
         }
         Err(text)
+    }
+
+    /// Plays groups with engines beside their nodes until at least this many calls more are made.
+    pub fn run_engines(&mut self, rng: &mut Prng, count: u64) -> Result<(), String> {
+        let before = self.calls;
+        while self.calls - before < count {
+            let (setup, nudges) = (generate::long::setup(rng), rng.one_in(2));
+            let mut beside = Beside::fresh(rng, setup, nudges);
+            let rounds = 3 * setup.modulus;
+            let mut end = 0;
+            for _ in 0..rng.range(1, (setup.n * rounds).min(240)) {
+                end = self.engine_step(rng, &mut beside)?;
+                if end > 0 {
+                    break;
+                }
+            }
+            self.coverage.meet("beside", end);
+            self.coverage.meet("beside wraps", beside.wraps().min(2) as u8);
+            self.engine_calls = self.calls - before;
+        }
+        Ok(())
+    }
+
+    /// One call of a group's member as node and as engine, which must come to the same, with other calls
+    /// of engines before it. The number that ends the run, since the engine's clock is 2^63 or it would
+    /// hold more than 64 messages, otherwise 0.
+    fn engine_step(&mut self, rng: &mut Prng, beside: &mut Beside) -> Result<u8, String> {
+        let Pair { member, node, engine } = beside.next_pair(rng);
+        self.around(rng, &engine)?;
+        let wild = beside.wild_case(rng, member, &engine);
+        let (wild, answer) = self.long(wild)?;
+        if answer.number == 0 {
+            beside.settle_wild(member, wild);
+        }
+        let (engine, answer) = self.long(engine)?;
+        if answer.number > 0 {
+            return Ok(answer.number);
+        }
+        if engine.verdicts[..engine.batch[0].into()].contains(&18) {
+            return Ok(18);
+        }
+        let (node, word) = self.case(node)?;
+        let node_answer = abi::unpack_tick(word);
+        generate::engines::same(&node, &node_answer, &engine, &answer).map_err(|what| {
+            format!("call {}: a node and its engine differ in {what}", self.calls)
+        })?;
+        self.pairs += 1;
+        for (what, kind) in engines::pair_kinds_of(&engine, &answer) {
+            self.coverage.meet(what, kind);
+        }
+        beside.settle(Pair { member, node, engine }, &node_answer, &answer);
+        Ok(0)
+    }
+
+    /// Other calls of an engine: with wrong arguments, with another memory and with frames that nobody
+    /// sent; frames read and written.
+    fn around(&mut self, rng: &mut Prng, case: &LongCase) -> Result<(), String> {
+        if rng.one_in(4) {
+            let wrong = case.clone().spoil(rng);
+            self.long(wrong)?;
+        }
+        if rng.one_in(2) {
+            let other = case.stepped(rng).noisy(rng);
+            self.long(other)?;
+        }
+        if rng.one_in(3) {
+            let (_, word) = self.case(LongReadCase::random(rng, case.setup, case.clock))?;
+            self.coverage.meet("long reader", abi::number(word));
+            let (_, word) = self.case(LongWriteCase::random(rng, case.setup, case.clock))?;
+            self.coverage.meet("long writer", abi::number(word));
+        }
+        Ok(())
+    }
+
+    fn long(&mut self, given: LongCase) -> Result<(LongCase, Answer), String> {
+        let (left, word) = self.case(given.clone())?;
+        let answer = abi::unpack_tick(word);
+        for (what, kind) in engines::kinds_of(&given, &left, &answer) {
+            self.coverage.meet(what, kind);
+        }
+        Ok((left, answer))
     }
 
     /// Replays this many traces.

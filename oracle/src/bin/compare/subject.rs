@@ -2,8 +2,9 @@
 
 use oracle::abi;
 use oracle::generate::{CompareCase, FreshCase, ListenCase, PollCase, ReadCase};
+use oracle::generate::{LongCase, LongReadCase, LongWriteCase};
 use oracle::generate::{TickCase, WordsCase, WriteCase};
-use oracle::{fault, replay, yard};
+use oracle::{fault, long, replay, yard, Frame};
 
 /// Something that makes the calls and plays traces. Answers are packed as the library's.
 pub trait Subject {
@@ -15,6 +16,9 @@ pub trait Subject {
     fn compare(&mut self, case: &mut CompareCase) -> u64;
     fn poll(&mut self, case: &mut PollCase) -> u64;
     fn listen(&mut self, case: &mut ListenCase) -> u64;
+    fn long_tick(&mut self, case: &mut LongCase) -> u64;
+    fn long_read(&mut self, case: &mut LongReadCase) -> u64;
+    fn long_write(&mut self, case: &mut LongWriteCase) -> u64;
     fn replay(&mut self, trace: &[u8]) -> Result<String, String>;
     fn yard(&mut self, trace: &[u8]) -> Result<String, String>;
 }
@@ -48,13 +52,13 @@ impl Subject for Oracle {
     }
 
     fn read(&mut self, case: &mut ReadCase) -> u64 {
-        let frame = match self.faulty(|| oracle::read(&case.setup, &case.frame)) {
-            Ok(frame) => frame,
-            Err(number) => return abi::pack_refusal(number),
-        };
-        case.state = frame.timestamp.to_state();
-        let payload_at = frame.bytes.len() - frame.payload.len();
-        abi::pack_read(frame.node as u64, payload_at as u64, frame.payload.len() as u64)
+        match self.faulty(|| oracle::read(&case.setup, &case.frame)) {
+            Ok(frame) => {
+                case.state = frame.timestamp.to_state();
+                pack_frame(&frame)
+            }
+            Err(number) => abi::pack_refusal(number),
+        }
     }
 
     fn write(&mut self, case: &mut WriteCase) -> u64 {
@@ -89,6 +93,28 @@ impl Subject for Oracle {
         abi::pack_tick(&self.faulty(|| case.run()))
     }
 
+    fn long_tick(&mut self, case: &mut LongCase) -> u64 {
+        abi::pack_tick(&self.faulty(|| case.run()))
+    }
+
+    fn long_read(&mut self, case: &mut LongReadCase) -> u64 {
+        match self.faulty(|| oracle::long_read(&case.setup, &case.frame)) {
+            Ok(frame) => {
+                case.state = long::to_state(&frame.timestamp);
+                pack_frame(&frame)
+            }
+            Err(number) => abi::pack_refusal(number),
+        }
+    }
+
+    fn long_write(&mut self, case: &mut LongWriteCase) -> u64 {
+        let LongWriteCase { setup, node, state, payload, out } = case;
+        match self.faulty(|| oracle::long_write(setup, *node, state, payload, out)) {
+            Ok(length) => abi::pack_write(length as u64),
+            Err(number) => abi::pack_refusal(number),
+        }
+    }
+
     fn replay(&mut self, trace: &[u8]) -> Result<String, String> {
         Ok(self.faulty(|| replay::replay_text(trace)))
     }
@@ -96,6 +122,12 @@ impl Subject for Oracle {
     fn yard(&mut self, trace: &[u8]) -> Result<String, String> {
         Ok(self.faulty(|| yard::yard_text(trace)))
     }
+}
+
+/// A reader's answer.
+fn pack_frame(frame: &Frame) -> u64 {
+    let payload_at = frame.bytes.len() - frame.payload.len();
+    abi::pack_read(frame.node as u64, payload_at as u64, frame.payload.len() as u64)
 }
 
 /// The proved library and the proved programs.
@@ -137,6 +169,18 @@ impl Subject for Proved {
 
     fn listen(&mut self, case: &mut ListenCase) -> u64 {
         abi::library::listen(case)
+    }
+
+    fn long_tick(&mut self, case: &mut LongCase) -> u64 {
+        abi::library::long_tick(case)
+    }
+
+    fn long_read(&mut self, case: &mut LongReadCase) -> u64 {
+        abi::library::long_read(case)
+    }
+
+    fn long_write(&mut self, case: &mut LongWriteCase) -> u64 {
+        abi::library::long_write(case)
     }
 
     fn replay(&mut self, trace: &[u8]) -> Result<String, String> {

@@ -10,6 +10,7 @@ use Rattle.timestamp.specs.declared.ordering.Rank.{Rank}
 use Rattle.timestamp.specs.Ranks.{Ranked}
 use Rattle.lemmas.proofs.Bounds.{Limits}
 use Rattle.lemmas.proofs.Questions.{limits-from}
+use Rattle.lemmas.proofs.Queue.{reading-high}
 use Rattle.lemmas.proofs.Comparing.{reading-low}
 use Rattle.holdback.proofs.RoundTrip.{passing}
 use Rattle.holdback.proofs.Frames.{counts-end, counts-decoded}
@@ -74,11 +75,12 @@ at-clocks-requires c κs =
     let start = from called in
     let rank : Rank = called .before .before .before .rank-of .result in
     let low = reading-low (setup start) (start .args .v) (decode (start .args .s .epsilon) (start .args .f .now)) (limits start) in
+    let high = reading-high (setup start) (start .args .v) (decode (start .args .s .epsilon) (start .args .f .now)) (limits start) in
     let reading = ap (λ (q : Rank). q .reading) (called .before .before .before .rank-of .ensures) in (
       start .pre .0,
       (
         counted-keys (start .args .s .epsilon) (rank .reading + rank .c) _ _ _ (c .before .compare-ranked .ensures) (omega (arith, low, reading)),
-        omega (arith, ranked-f called .small, ranked-f called .lead, limits start .epsilon-most),
+        omega (arith, high, reading, ranked-f called .lead, limits start .epsilon-most, limits start .modulus-most),
       ),
     )
 

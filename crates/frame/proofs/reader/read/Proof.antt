@@ -7,7 +7,6 @@ use Rattle.model.specs.Frame.{wellFormed}
 use Rattle.model.specs.Setup.{inLimits}
 use Rattle.frame.proofs.Asking.{read-passed, read-accepted, read-refused}
 use Rattle.setup.specs.Views.{setupOf}
-use Rattle.model.specs.Codec.{noTimestamp}
 use Rattle.frame.proofs.reader.read.Statement.{statement}
 use Rattle.frame.proofs.reader.read.Tie as tie
 
@@ -18,10 +17,14 @@ accepted c = read-passed (setupOf (c .before .before .before .args .setup)) (c .
 check-read-requires : tie.Need-check-read-requires
 check-read-requires c κs = search needs
 
+refused-requires : tie.Need-refused-requires
+refused-requires c κs = search needs
+
 returns : tie.Need-returns
-unfolding noTimestamp
 returns c =
-    rw (read-refused (setupOf (c .before .before .before .args .setup)) (c .before .before .before .args .own) (c .before .before .before .args .frame .now) (c .before .check-read .result) (c .before .check-read .ensures) (c .if1 .taken))
+    let start = c .before .before .before .before in
+    rw (read-refused (setupOf (start .args .setup)) (start .args .own) (start .args .frame .now) (c .before .before .check-read .result) (c .before .before .check-read .ensures) (c .before .if1 .taken))
+    (c .refused .ensures)
 
 cast-stamp-of : tie.Need-cast-stamp-of
 cast-stamp-of c = search needs
@@ -42,6 +45,7 @@ read-spec =
     tie.close
     (tie.spec
     check-read-requires
+    refused-requires
     returns
     cast-stamp-of
     stamp-of-requires

@@ -1,14 +1,15 @@
 -- `frame::writer::check_write` meets its contract. Assumes nothing.
-use Prim.Native.Nat.{ℕ, _+_, _*_}
-use mathlib.Core.List.{List}
-use mathlib.Core.Bool.{true}
+use Prim.Native.Nat.{_+_, _*_}
+use mathlib.Core.Bool.{Bool, true, cond}
 use mathlib.Core.Path.{_≡_, _∙_, sym}
 use native.Mathlib.Omega.{arith}
+use lib.Dec.{leb}
 use lib.ListN.{length}
-use borrow.Author.Tests.{not-true, not-false}
+use borrow.Author.Tests.{not-true, not-false, lt-leb, le-leb}
 use borrow.Author.Needs.{needs}
+use Rattle.laws.proofs.Numbers.{cond-true, cond-false}
 use Rattle.frame.proofs.Laying.{length-frame}
-use Rattle.frame.proofs.Asking.{valid, station-no, r-no, in-range, stamp-no, stamp-sound, fromRange, fromStamp, fromRoom, limits-no, payload-no, payload-right, room-no, room-right}
+use Rattle.frame.proofs.Asking.{valid, all-asked, valid-no, contents-no, contents-right}
 use Rattle.lemmas.proofs.Bounds.{Limits}
 use Rattle.lemmas.proofs.Questions.{setup-from}
 use Rattle.setup.specs.Views.{setupOf}
@@ -16,42 +17,22 @@ use Rattle.timestamp.specs.Views.{stampOf}
 use Rattle.model.specs.Codec.{frameOf, writeFrameQuestions}
 use Rattle.model.specs.Question.{firstNo}
 use Rattle.model.specs.Frame.{Frame, encode}
-use Rattle.model.specs.Timestamp.{trimmed}
 use Rattle.model.specs.Setup.{Setup}
 use Rattle.frame.proofs.writer.check_write.Statement.{statement}
 use Rattle.frame.proofs.writer.check_write.Tie as tie
 
--- the setup and the frame of the arguments
+-- the setup and the frame of the arguments, and whether it fits
 abbrev setup : tie.Start → Setup
 setup c = setupOf (c .args .setup)
-
-abbrev own : tie.Start → ℕ
-own c = c .args .own
 
 abbrev frame : tie.Start → Frame
 frame c = frameOf (c .args .setup .epsilon) (c .args .station) (stampOf (c .args .stamp)) (c .args .payload .now)
 
-abbrev room : tie.Start → List ℕ
-room c = c .args .out .now
+abbrev fits : tie.Start → Bool
+fits c = leb (length (encode (frame c))) (length (c .args .out .now))
 
--- what is left to ask after each test
-limited : (c : tie.Else1) → valid (setup (c .before .before .before .before)) (own (c .before .before .before .before)) ≡ true
+limited : (c : tie.Else1) → valid (setup (c .before .before .before .before)) (c .before .before .before .before .args .own) ≡ true
 limited c = sym (c .before .valid-for .ensures) ∙ not-false (c .before .valid-for .result) (c .if1 .left)
-
-limits : (c : tie.Else1) → Limits (setup (c .before .before .before .before))
-limits c = setup-from (setup (c .before .before .before .before)) (own (c .before .before .before .before)) (limited c) .0
-
-asked-range : (c : tie.Else2) → firstNo (writeFrameQuestions (setup (c .before .before .before .before .before .before .before .before)) (own (c .before .before .before .before .before .before .before .before)) (frame (c .before .before .before .before .before .before .before .before)) (room (c .before .before .before .before .before .before .before .before))) ≡ firstNo (fromRange (setup (c .before .before .before .before .before .before .before .before)) (own (c .before .before .before .before .before .before .before .before)) (frame (c .before .before .before .before .before .before .before .before)) (room (c .before .before .before .before .before .before .before .before)))
-unfolding frameOf
-asked-range c = payload-right (setup (c .before .before .before .before .before .before .before .before)) (own (c .before .before .before .before .before .before .before .before)) (frame (c .before .before .before .before .before .before .before .before)) (room (c .before .before .before .before .before .before .before .before)) (limited (c .before .before .before .before)) (c .if2 .left)
-
-asked-stamp : (c : tie.Else4) → firstNo (writeFrameQuestions (setup (c .before .before .before .before .before .before .before .before .before .before .before)) (own (c .before .before .before .before .before .before .before .before .before .before .before)) (frame (c .before .before .before .before .before .before .before .before .before .before .before)) (room (c .before .before .before .before .before .before .before .before .before .before .before))) ≡ firstNo (fromStamp (setup (c .before .before .before .before .before .before .before .before .before .before .before)) (own (c .before .before .before .before .before .before .before .before .before .before .before)) (frame (c .before .before .before .before .before .before .before .before .before .before .before)) (room (c .before .before .before .before .before .before .before .before .before .before .before)))
-unfolding frameOf trimmed
-asked-stamp c = asked-range (c .before .before .before) ∙ in-range (setup (c .before .before .before .before .before .before .before .before .before .before .before)) (frame (c .before .before .before .before .before .before .before .before .before .before .before)) (fromStamp (setup (c .before .before .before .before .before .before .before .before .before .before .before)) (own (c .before .before .before .before .before .before .before .before .before .before .before)) (frame (c .before .before .before .before .before .before .before .before .before .before .before)) (room (c .before .before .before .before .before .before .before .before .before .before .before))) (c .before .before .if3 .left) (c .if4 .left)
-
-asked-room : (c : tie.Else5) → firstNo (writeFrameQuestions (setup (c .before .before .before .before .before .before .before .before .before .before .before .before .before)) (own (c .before .before .before .before .before .before .before .before .before .before .before .before .before)) (frame (c .before .before .before .before .before .before .before .before .before .before .before .before .before)) (room (c .before .before .before .before .before .before .before .before .before .before .before .before .before))) ≡ firstNo (fromRoom (setup (c .before .before .before .before .before .before .before .before .before .before .before .before .before)) (own (c .before .before .before .before .before .before .before .before .before .before .before .before .before)) (frame (c .before .before .before .before .before .before .before .before .before .before .before .before .before)) (room (c .before .before .before .before .before .before .before .before .before .before .before .before .before)))
-unfolding frameOf
-asked-room c = asked-stamp (c .before .before) ∙ stamp-sound (setup (c .before .before .before .before .before .before .before .before .before .before .before .before .before)) (frame (c .before .before .before .before .before .before .before .before .before .before .before .before .before)) (fromRoom (setup (c .before .before .before .before .before .before .before .before .before .before .before .before .before)) (own (c .before .before .before .before .before .before .before .before .before .before .before .before .before)) (frame (c .before .before .before .before .before .before .before .before .before .before .before .before .before)) (room (c .before .before .before .before .before .before .before .before .before .before .before .before .before))) (sym (c .before .is-sound .ensures) ∙ not-false (c .before .is-sound .result) (c .if5 .left))
 
 long : (c : tie.Start) → length (encode (frame c)) ≡ 7 + 2 * c .args .setup .epsilon + length (c .args .payload .now)
 long c = length-frame (c .args .setup .epsilon) (c .args .station) (stampOf (c .args .stamp)) (c .args .payload .now)
@@ -60,7 +41,11 @@ valid-for-requires : tie.Need-valid-for-requires
 valid-for-requires c κs = search needs
 
 returns : tie.Need-returns
-returns c = sym (limits-no (setup (c .before .before .before .before)) (own (c .before .before .before .before)) (frame (c .before .before .before .before)) (room (c .before .before .before .before)) (sym (c .before .valid-for .ensures) ∙ not-true (c .before .valid-for .result) (c .if1 .taken)))
+returns c =
+    let start = c .before .before .before .before in
+    let s = setup start in
+    sym (all-asked s (start .args .own) (frame start) (start .args .out .now)
+    ∙ valid-no (s .n) (s .epsilon) (s .modulus) (frame start) (valid s (start .args .own)) (fits start) (sym (c .before .valid-for .ensures) ∙ not-true (c .before .valid-for .result) (c .if1 .taken)))
 
 cast-n : tie.Need-cast-n
 cast-n c = search needs
@@ -71,39 +56,48 @@ cast-epsilon c = search needs
 cast-modulus : tie.Need-cast-modulus
 cast-modulus c = search needs
 
+check-contents-requires : tie.Need-check-contents-requires
+check-contents-requires c κs =
+    let start = c .before .before .before .before .before .before .before in
+    let l : Limits (setup start) = setup-from (setup start) (start .args .own) (limited (c .before .before .before)) .0 in
+    (l .n-most, (l .epsilon-pos, l .epsilon-most))
+
 returns-2 : tie.Need-returns-2
-unfolding frameOf
-returns-2 c = sym (payload-no (setup (c .before .before .before .before .before .before .before .before)) (own (c .before .before .before .before .before .before .before .before)) (frame (c .before .before .before .before .before .before .before .before)) (room (c .before .before .before .before .before .before .before .before)) (limited (c .before .before .before .before)) (c .if2 .taken))
+returns-2 c =
+    let start = c .before .before .before .before .before .before .before .before .before in
+    let s = setup start in
+    contents-no (s .n) (s .epsilon) (s .modulus) (frame start) (valid s (start .args .own)) (fits start) (limited (c .before .before .before .before .before))
+    (c .before .check-contents .result) (c .before .check-contents .ensures) (c .if2 .taken)
+    ∙ sym (all-asked s (start .args .own) (frame start) (start .args .out .now))
+
+mul-if3 : tie.Need-mul-if3
+mul-if3 c = search needs
+
+add-if3 : tie.Need-add-if3
+add-if3 c = search needs
+
+add-if3-2 : tie.Need-add-if3-2
+add-if3-2 c = search needs
+
+-- the room decides, once the others are asked
+asked-room : (c : tie.Else2) → let start = c .before .before .before .before .before .before .before .before .before in
+    firstNo (writeFrameQuestions (setup start) (start .args .own) (frame start) (start .args .out .now)) ≡ cond (fits start) 0 6
+asked-room c =
+    let start = c .before .before .before .before .before .before .before .before .before in
+    let s = setup start in
+    all-asked s (start .args .own) (frame start) (start .args .out .now)
+    ∙ contents-right (s .n) (s .epsilon) (s .modulus) (frame start) (valid s (start .args .own)) (fits start) (limited (c .before .before .before .before .before))
+    (sym (c .before .check-contents .ensures) ∙ c .if2 .left)
 
 returns-3 : tie.Need-returns-3
-unfolding frameOf
-returns-3 c = sym (asked-range (c .before) ∙ station-no (setup (c .before .before .before .before .before .before .before .before .before)) (frame (c .before .before .before .before .before .before .before .before .before)) (fromStamp (setup (c .before .before .before .before .before .before .before .before .before)) (own (c .before .before .before .before .before .before .before .before .before)) (frame (c .before .before .before .before .before .before .before .before .before)) (room (c .before .before .before .before .before .before .before .before .before))) (c .if3 .taken))
+returns-3 c =
+    let start = c .before .before .before .before .before .before .before .before .before .before in
+    sym (asked-room (c .before) ∙ cond-false 0 6 (lt-leb (length (encode (frame start))) (length (start .args .out .now)) (omega (arith, long start))))
 
 returns-4 : tie.Need-returns-4
-unfolding frameOf trimmed
-returns-4 c = sym (asked-range (c .before .before .before) ∙ r-no (setup (c .before .before .before .before .before .before .before .before .before .before .before)) (frame (c .before .before .before .before .before .before .before .before .before .before .before)) (fromStamp (setup (c .before .before .before .before .before .before .before .before .before .before .before)) (own (c .before .before .before .before .before .before .before .before .before .before .before)) (frame (c .before .before .before .before .before .before .before .before .before .before .before)) (room (c .before .before .before .before .before .before .before .before .before .before .before))) (c .before .before .if3 .left) (c .if4 .taken))
-
-is-sound-requires : tie.Need-is-sound-requires
-is-sound-requires c κs = let l = limits (c .before .before .before .before .before .before .before) in (l .n-most, (l .epsilon-pos, l .epsilon-most))
-
-returns-5 : tie.Need-returns-5
-unfolding frameOf
-returns-5 c = sym (asked-stamp (c .before .before) ∙ stamp-no (setup (c .before .before .before .before .before .before .before .before .before .before .before .before .before)) (frame (c .before .before .before .before .before .before .before .before .before .before .before .before .before)) (fromRoom (setup (c .before .before .before .before .before .before .before .before .before .before .before .before .before)) (own (c .before .before .before .before .before .before .before .before .before .before .before .before .before)) (frame (c .before .before .before .before .before .before .before .before .before .before .before .before .before)) (room (c .before .before .before .before .before .before .before .before .before .before .before .before .before))) (sym (c .before .is-sound .ensures) ∙ not-true (c .before .is-sound .result) (c .if5 .taken)))
-
-mul-if6 : tie.Need-mul-if6
-mul-if6 c = search needs
-
-add-if6 : tie.Need-add-if6
-add-if6 c = search needs
-
-add-if6-2 : tie.Need-add-if6-2
-add-if6-2 c = search needs
-
-returns-6 : tie.Need-returns-6
-returns-6 c = sym (asked-room (c .before) ∙ room-no (setup (c .before .before .before .before .before .before .before .before .before .before .before .before .before .before)) (own (c .before .before .before .before .before .before .before .before .before .before .before .before .before .before)) (frame (c .before .before .before .before .before .before .before .before .before .before .before .before .before .before)) (room (c .before .before .before .before .before .before .before .before .before .before .before .before .before .before)) (omega (arith, long (c .before .before .before .before .before .before .before .before .before .before .before .before .before .before))))
-
-returns-7 : tie.Need-returns-7
-returns-7 c = sym (asked-room (c .before) ∙ room-right (setup (c .before .before .before .before .before .before .before .before .before .before .before .before .before .before)) (own (c .before .before .before .before .before .before .before .before .before .before .before .before .before .before)) (frame (c .before .before .before .before .before .before .before .before .before .before .before .before .before .before)) (room (c .before .before .before .before .before .before .before .before .before .before .before .before .before .before)) (omega (arith, long (c .before .before .before .before .before .before .before .before .before .before .before .before .before .before))))
+returns-4 c =
+    let start = c .before .before .before .before .before .before .before .before .before .before in
+    sym (asked-room (c .before) ∙ cond-true 0 6 (le-leb (length (encode (frame start))) (length (start .args .out .now)) (omega (arith, long start))))
 
 pub check-write-spec : {M : Type 1} → statement M
 check-write-spec =
@@ -114,13 +108,10 @@ check-write-spec =
     cast-n
     cast-epsilon
     cast-modulus
+    check-contents-requires
     returns-2
+    mul-if3
+    add-if3
+    add-if3-2
     returns-3
-    returns-4
-    is-sound-requires
-    returns-5
-    mul-if6
-    add-if6
-    add-if6-2
-    returns-6
-    returns-7)
+    returns-4)

@@ -28,7 +28,7 @@ cast-epsilon c = search needs
 cast-modulus : tie.Need-cast-modulus
 cast-modulus c = search needs
 
-high : (c : tie.Start) → c .args .reading ≤ 2 ^ 17
+high : (c : tie.Start) → c .args .reading ≤ 2 ^ 63
 high c = omega (arith, c .pre .1, known c .high, known c .limits .modulus-most, known c .limits .epsilon-most)
 
 stamp-of-requires : tie.Need-stamp-of-requires
@@ -49,7 +49,7 @@ module _ (c : tie.After-stamp-of) where
       ap (trimmed (begin .args .setup .epsilon)) (c .stamp-of .ensures) ∙ stamp-kept (begin .args .setup .epsilon) (begin .args .s .now) (known begin .limits .epsilon-most) (known begin .formed)
 
 absorb-requires : tie.Need-absorb-requires
-absorb-requires c κs = let lim = known (begin c) .limits in (lim .epsilon-most, (lim .modulus-most, (high (begin c), lead c)))
+absorb-requires c κs = let lim = known (begin c) .limits in (lim .epsilon-most, (omega (arith, lim .modulus-most), (high (begin c), lead c)))
 
 not-listening : (b : Bool) (x y : Timestamp) → b ≡ false → y ≡ cond b x y
 not-listening b x y e = rw e

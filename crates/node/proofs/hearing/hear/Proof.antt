@@ -24,8 +24,8 @@ use Rattle.node.specs.Views.{verdictOf, questionsFor}
 use Rattle.node.specs.States.{Taking, heardAll}
 use Rattle.node.proofs.Verdicts.{Tags, is-refused, refused-number, taken-readable}
 use Rattle.node.proofs.Places.{size-small, known, fits}
-use Rattle.node.proofs.StampTurns.{StampTurning, stamp-start, stamp-refused, stamp-taken, stamp-end}
-use Rattle.node.proofs.Turns.{QueueTurning, queue-start, queue-refused, queue-taken, written-last, queue-end}
+use Rattle.node.proofs.StampTurns.{StampTurning, stamp-start, stamp-refused, stamp-taken, absorbedOne, node-refused, node-wide, node-taken, node-end}
+use Rattle.node.proofs.Turns.{QueueTurning, queue-start, queue-refused, queue-taken, queue-written, queue-end}
 use Rattle.node.proofs.hearing.hear.Statement.{statement}
 use Rattle.node.proofs.hearing.hear.Tie as tie
 
@@ -36,7 +36,7 @@ tags = record { tag = Declared.tagOf Rattle.node.proofs.verdict.Verdict
 abbrev Inv-loop : tie.InvT-loop
 Inv-loop setup clock listens batch count end holdback₀ seen₀ starts₀ verdicts₀ entries absorbed₀ taken₀ held₀ stop₀ at₀ i₀ holdback seen starts verdicts absorbed took kept stop at i =
     QueueTurning listens (setupOf setup) clock batch holdback₀ verdicts₀ took kept stop at i holdback seen starts verdicts
-    × StampTurning listens (setupOf setup) clock (stampOf absorbed₀) batch (heardAll listens (setupOf setup) clock batch holdback₀ .verdicts) (stampOf absorbed) at i
+    × StampTurning (absorbedOne listens (setupOf setup) clock) (setup .epsilon) (stampOf absorbed₀) batch (heardAll listens (setupOf setup) clock batch holdback₀ .verdicts) (stampOf absorbed) at i
 
 abbrev μ-loop : tie.MeasureT-loop
 μ-loop setup clock listens batch count end holdback₀ seen₀ starts₀ verdicts₀ entries absorbed₀ taken₀ held₀ stop₀ at₀ i₀ holdback seen starts verdicts absorbed took kept stop at i = entries - i
@@ -62,7 +62,7 @@ more : (c : tie.In-loop Inv-loop μ-loop) → c .before .loop .i < countOf (c .b
 more c = omega (arith, c .before .before .count-of .ensures)
 
 inside : (c : tie.In-loop Inv-loop μ-loop) → c .before .loop .i < length (c .before .loop .verdicts)
-inside c = omega (arith, few (c .before .before), more c, c .before .loop .inv .0 .long)
+inside c = omega (arith, few (c .before .before), more c, c .before .loop .inv .0 .heard .long)
 
 walk-step-requires : tie.Need-walk-step-requires Inv-loop μ-loop
 walk-step-requires c κs = search needs
@@ -138,7 +138,7 @@ loop-again : tie.Need-loop-again Inv-loop μ-loop
 loop-again c =
     let now = c .before .before .before .before .before .before .before .before .before .before .loop in
     let queue = queue-refused (now .inv .0) (more (c .before .before .before .before .before .before .before .before .before)) (few (c .before .before .before .before .before .before .before .before .before .before .before) .1) (entry (c .before .before .before .before .before .before .before .before)) (next (c .before .before .before .before .before .before .before .before)) (no c) (c .number-of .ensures) in
-    (queue, stamp-refused (now .inv .1) (more (c .before .before .before .before .before .before .before .before .before)) (entry (c .before .before .before .before .before .before .before .before)) (next (c .before .before .before .before .before .before .before .before)) (written-last (now .verdicts) (now .i) (c .number-of .result) queue (inside (c .before .before .before .before .before .before .before .before .before))) (no-zero c))
+    (queue, stamp-refused (now .inv .1) (more (c .before .before .before .before .before .before .before .before .before)) (entry (c .before .before .before .before .before .before .before .before)) (next (c .before .before .before .before .before .before .before .before)) (queue-written (now .verdicts) (now .i) (c .number-of .result) queue (inside (c .before .before .before .before .before .before .before .before .before))) (node-refused (c .before .before .before .before .before .before .before .before .before .before .before .before .before .before .before .before .before .args .listens) (setupOf (c .before .before .before .before .before .before .before .before .before .before .before .before .before .before .before .before .before .args .setup)) (c .before .before .before .before .before .before .before .before .before .before .before .before .before .before .before .before .before .args .clock) (c .number-of .result) (bytes (c .before .before .before .before .before .before .before .before)) _ (no-zero c)))
 
 -- what taking it asks
 module _ (c : tie.After-known-told Inv-loop μ-loop) where
@@ -181,7 +181,7 @@ slice-write-verdicts-2 : tie.Need-slice-write-verdicts-2 Inv-loop μ-loop
 slice-write-verdicts-2 c = inside (c .before .before .before .before .before .before .before .before .before .before .before .before .before .before .before .before .before .before .before .before)
 
 add-taken : tie.Need-add-taken Inv-loop μ-loop
-add-taken c = omega (arith, few (c .before .before .before .before .before .before .before .before .before .before .before .before .before .before .before .before .before .before .before .before .before .before), more (c .before .before .before .before .before .before .before .before .before .before .before .before .before .before .before .before .before .before .before .before), c .before .before .before .before .before .before .before .before .before .before .before .before .before .before .before .before .before .before .before .before .before .loop .inv .0 .few)
+add-taken c = omega (arith, few (c .before .before .before .before .before .before .before .before .before .before .before .before .before .before .before .before .before .before .before .before .before .before), more (c .before .before .before .before .before .before .before .before .before .before .before .before .before .before .before .before .before .before .before .before), c .before .before .before .before .before .before .before .before .before .before .before .before .before .before .before .before .before .before .before .before .before .loop .inv .0 .heard .few)
 
 add-i-2 : tie.Need-add-i-2 Inv-loop μ-loop
 add-i-2 c = omega (arith, few (c .before .before .before .before .before .before .before .before .before .before .before .before .before .before .before .before .before .before .before .before .before .before), more (c .before .before .before .before .before .before .before .before .before .before .before .before .before .before .before .before .before .before .before .before))
@@ -191,9 +191,13 @@ loop-less-2 c = omega (arith, c .before .before .before .before .before .before 
 
 loop-again-2 : tie.Need-loop-again-2 Inv-loop μ-loop
 loop-again-2 c =
+    let start = c .before .before .before .before .before .before .before .before .before .before .before .before .before .before .before .before .before .before .before .before .before .before .before .before .before .before .before .before in
     let now = c .before .before .before .before .before .before .before .before .before .before .before .before .before .before .before .before .before .before .before .before .before .loop in
-    let queue = queue-taken (now .inv .0) (more (c .before .before .before .before .before .before .before .before .before .before .before .before .before .before .before .before .before .before .before .before)) (few (c .before .before .before .before .before .before .before .before .before .before .before .before .before .before .before .before .before .before .before .before .before .before) .1) (entry (c .before .before .before .before .before .before .before .before .before .before .before .before .before .before .before .before .before .before .before)) (next (c .before .before .before .before .before .before .before .before .before .before .before .before .before .before .before .before .before .before .before)) (judged (c .before .before .before .before .before .before .before .before .before .before .before)) (c .before .before .before .before .before .before .before .enqueue .ensures) in
-    (queue, stamp-taken (now .inv .1) (more (c .before .before .before .before .before .before .before .before .before .before .before .before .before .before .before .before .before .before .before .before)) (entry (c .before .before .before .before .before .before .before .before .before .before .before .before .before .before .before .before .before .before .before)) (next (c .before .before .before .before .before .before .before .before .before .before .before .before .before .before .before .before .before .before .before)) (written-last (now .verdicts) (now .i) 0 queue (inside (c .before .before .before .before .before .before .before .before .before .before .before .before .before .before .before .before .before .before .before .before))) (limits (c .before .before .before .before .before .before .before .before .before .before .before .before .before .before .before .before .before .before .before .before .before .before .before .before .before .before .before .before) .epsilon-most) refl (c .absorb-frame .ensures))
+    let queue = queue-taken (now .inv .0) (more (c .before .before .before .before .before .before .before .before .before .before .before .before .before .before .before .before .before .before .before .before)) (few (c .before .before .before .before .before .before .before .before .before .before .before .before .before .before .before .before .before .before .before .before .before .before) .1) (entry (c .before .before .before .before .before .before .before .before .before .before .before .before .before .before .before .before .before .before .before)) (next (c .before .before .before .before .before .before .before .before .before .before .before .before .before .before .before .before .before .before .before)) (judged (c .before .before .before .before .before .before .before .before .before .before .before)) (c .before .before .before .before .before .before .before .enqueue .ensures) in (
+      queue,
+      stamp-taken (now .inv .1) (more (c .before .before .before .before .before .before .before .before .before .before .before .before .before .before .before .before .before .before .before .before)) (entry (c .before .before .before .before .before .before .before .before .before .before .before .before .before .before .before .before .before .before .before)) (next (c .before .before .before .before .before .before .before .before .before .before .before .before .before .before .before .before .before .before .before)) (queue-written (now .verdicts) (now .i) 0 queue (inside (c .before .before .before .before .before .before .before .before .before .before .before .before .before .before .before .before .before .before .before .before))) (limits (c .before .before .before .before .before .before .before .before .before .before .before .before .before .before .before .before .before .before .before .before .before .before .before .before .before .before .before .before) .epsilon-most) (node-wide (start .args .listens) (setupOf (start .args .setup)) (start .args .clock) (bytes (c .before .before .before .before .before .before .before .before .before .before .before .before .before .before .before .before .before .before .before)) (stampOf (now .absorbed)))
+          (node-taken (start .args .listens) (setupOf (start .args .setup)) (start .args .clock) (bytes (c .before .before .before .before .before .before .before .before .before .before .before .before .before .before .before .before .before .before .before)) (stampOf (now .absorbed)) _ (now .inv .1 .narrow) (c .absorb-frame .ensures)),
+    )
 
 same-length : tie.Need-same-length Inv-loop μ-loop
 same-length c = c .before .loop .inv .0 .queued .size ∙ sym (c .before .before .before .before .before .before .before .before .pre .1 .0 .size)
@@ -212,13 +216,14 @@ same-length-3 c =
     ∙ sym (starts-long s (start .args .clock) (start .args .holdback .now) (start .pre .1 .0 .starts-is))
 
 same-length-4 : tie.Need-same-length-4 Inv-loop μ-loop
-same-length-4 c = c .before .loop .inv .0 .long
+same-length-4 c = c .before .loop .inv .0 .heard .long
 
 returns : tie.Need-returns Inv-loop μ-loop
 returns c =
+    let start = c .before .before .before .before .before .before .before .before in
     let inv = c .before .loop .inv in
     let done : countOf (c .before .before .before .before .before .before .before .before .args .batch .now) ≤ c .before .loop .i = omega (arith, c .before .before .count-of .ensures) in
-    (queue-end (inv .0) done (few (c .before .before) .1), record { stamp = stamp-end (inv .1) done })
+    (queue-end (inv .0) done (few (c .before .before) .1), record { stamp = node-end (start .args .listens) (setupOf (start .args .setup)) (start .args .clock) (inv .1) done })
 
 pub hear-spec : {M : Type 1} → statement M
 hear-spec =

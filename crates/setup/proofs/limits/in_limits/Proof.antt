@@ -1,52 +1,63 @@
--- `setup::limits::in_limits` meets its contract: each test that fails is one of the limits, and the modulus decides the rest.
+-- `setup::limits::in_limits` meets its contract: B is judged behind the other limits.
 -- Assumes nothing.
-use borrow.Author.Needs.{needs}
+use mathlib.Core.Bool.{true}
+use mathlib.Core.Path.{_≡_, sym, _∙_}
 use native.Mathlib.Omega.{arith}
-use Rattle.setup.proofs.InLimits.{past-limit, modulus-decides}
+use borrow.Author.Tests.{not-true, not-false, le-leb, lt-leb}
+use borrow.Author.Needs.{needs}
+use Rattle.laws.specs.Lists.{within}
+use Rattle.lemmas.proofs.Bounds.{LongLimits}
+use Rattle.lemmas.proofs.Questions.{long-limits-from}
+use Rattle.model.specs.Setup.{leastModulus}
+use Rattle.model.specs.Long.{longLimits}
+use Rattle.setup.specs.Views.{setupOf}
+use Rattle.setup.proofs.InLimits.{modulus-last}
 use Rattle.setup.proofs.limits.in_limits.Statement.{statement}
 use Rattle.setup.proofs.limits.in_limits.Tie as tie
 
+-- the other limits, once they are asked
+others : (c : tie.Else1) → longLimits (setupOf (c .before .before .args .s)) ≡ true
+others c = sym (c .before .in-limits-but-modulus .ensures) ∙ not-false (c .before .in-limits-but-modulus .result) (c .if1 .left)
+
+limits : (c : tie.Else1) → LongLimits (setupOf (c .before .before .args .s))
+limits c = long-limits-from (setupOf (c .before .before .args .s)) (others c)
+
+in-limits-but-modulus-requires : tie.Need-in-limits-but-modulus-requires
+in-limits-but-modulus-requires c κs = search needs
+
 returns : tie.Need-returns
-returns c = past-limit _ (λ l. omega arith)
+returns c = sym (modulus-last (setupOf (c .before .before .args .s))
+    ∙ rw (sym (c .before .in-limits-but-modulus .ensures) ∙ not-true (c .before .in-limits-but-modulus .result) (c .if1 .taken)))
+
+mul-if2 : tie.Need-mul-if2
+mul-if2 c = let l = limits (c .before) in omega arith
+
+add-if2 : tie.Need-add-if2
+add-if2 c = let l = limits (c .before .before) in omega arith
+
+add-if2-2 : tie.Need-add-if2-2
+add-if2-2 c = let l = limits (c .before .before) in omega arith
 
 returns-2 : tie.Need-returns-2
-returns-2 c = past-limit _ (λ l. omega arith)
+unfolding within leastModulus
+returns-2 c =
+    let s = setupOf (c .before .before .before .before .before .before .args .s) in
+    sym (modulus-last s ∙ rw (others (c .before .before .before .before), lt-leb (leastModulus (s .epsilon) (s .delta)) (s .modulus) (omega (arith, c .if2 .taken))))
 
 returns-3 : tie.Need-returns-3
-returns-3 c = past-limit _ (λ l. omega arith)
-
-returns-4 : tie.Need-returns-4
-returns-4 c = past-limit _ (λ l. omega arith)
-
-returns-5 : tie.Need-returns-5
-returns-5 c = past-limit _ (λ l. omega arith)
-
-mul-if6 : tie.Need-mul-if6
-mul-if6 c = search needs
-
-add-if6 : tie.Need-add-if6
-add-if6 c = search needs
-
-add-if6-2 : tie.Need-add-if6-2
-add-if6-2 c = search needs
-
-returns-6 : tie.Need-returns-6
-returns-6 c = past-limit _ (λ l. omega arith)
-
-returns-7 : tie.Need-returns-7
-returns-7 c = modulus-decides _ (λ h. omega (arith, c .before .before .before .before .before, c .before .before .before .before .before .before .before .before .before .before .before))
+unfolding within leastModulus
+returns-3 c =
+    let s = setupOf (c .before .before .before .before .before .before .before .args .s) in
+    sym (modulus-last s ∙ rw (others (c .before .before .before .before .before), le-leb (leastModulus (s .epsilon) (s .delta)) (s .modulus) (omega (arith, c .before .if2 .left))))
 
 pub in-limits-spec : {M : Type 1} → statement M
 in-limits-spec =
     tie.close
     (tie.spec
+    in-limits-but-modulus-requires
     returns
+    mul-if2
+    add-if2
+    add-if2-2
     returns-2
-    returns-3
-    returns-4
-    returns-5
-    mul-if6
-    add-if6
-    add-if6-2
-    returns-6
-    returns-7)
+    returns-3)

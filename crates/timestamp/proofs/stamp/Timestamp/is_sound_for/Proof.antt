@@ -1,73 +1,24 @@
--- `timestamp::stamp::Timestamp::is_sound_for` meets its contract: each answer is that of the first question that decides.
+-- `timestamp::stamp::Timestamp::is_sound_for` meets its contract: the test of r, and the rest beside it.
 -- Assumes nothing.
-use mathlib.Core.Bool.{true}
-use mathlib.Core.Path.{_≡_, sym, _∙_}
-use native.Mathlib.Omega.{arith}
-use lib.ListN.{length}
-use borrow.Author.Tests.{not-true, not-false}
-use Rattle.model.specs.Timestamp.{soundTimestamp, trimmed}
+use mathlib.Core.Path.{ap, _∙_}
+use mathlib.Core.Bool.{Bool}
+use Rattle.model.specs.Timestamp.{soundBeside, soundTables, trimmed}
 use Rattle.timestamp.specs.Views.{stampOf}
-use Rattle.timestamp.proofs.Soundness.{unsound-tables, tables-away, tables-above}
 use borrow.Author.Needs.{needs}
 use Rattle.timestamp.proofs.stamp.Timestamp.is_sound_for.Statement.{statement}
 use Rattle.timestamp.proofs.stamp.Timestamp.is_sound_for.Tie as tie
 
-long : (c : tie.Start) → length (c .args .self .kn) ≡ 32
-long c = search needs
-
--- what the first test leaves
-sound : (c : tie.Else1) → let a = c .before .before .before .args in soundTimestamp (a .n) (a .epsilon) (trimmed (a .epsilon) (stampOf (a .self))) ≡ true
-sound c = sym (c .before .is-sound .ensures) ∙ not-false _ (c .if1 .left)
-
-is-sound-requires : tie.Need-is-sound-requires
-is-sound-requires c κs = search needs
-
-returns : tie.Need-returns
-returns c =
-    let start = c .before .before .before in
-    unsound-tables _ _ (start .pre .0 .1 .1 .1) (long start) _ _ _ (sym (c .before .is-sound .ensures) ∙ not-true _ (c .if1 .taken))
-
 clock-sound-requires : tie.Need-clock-sound-requires
 clock-sound-requires c κs = search needs
 
-returns-2 : tie.Need-returns-2
-returns-2 c =
-    let start = c .before .before .before .before .before in
-    tables-away _ _ (start .pre .0 .1 .1 .1) (long start) _ _ _ (sound (c .before .before)) (sym (c .before .clock-sound .ensures) ∙ not-true _ (c .if2 .taken))
+sound-beside-requires : tie.Need-sound-beside-requires
+sound-beside-requires c κs = search needs
 
-slice-aggregate-counts-at-most : tie.Need-slice-aggregate-counts-at-most
-slice-aggregate-counts-at-most c = search needs
-
-add-counts-at-most : tie.Need-add-counts-at-most
-add-counts-at-most c = search needs
-
-mul-counts-at-most : tie.Need-mul-counts-at-most
-mul-counts-at-most c = search needs
-
-sub-counts-at-most : tie.Need-sub-counts-at-most
-sub-counts-at-most c = search needs
-
-counts-at-most-requires : tie.Need-counts-at-most-requires
-counts-at-most-requires c κs = omega (arith, long (c .before .before .before .before .before .before))
-
-returns-3 : tie.Need-returns-3
-returns-3 c =
-    let start = c .before .before .before .before .before .before .before in
-    c .counts-at-most .ensures
-    ∙ tables-above _ _ (start .pre .0 .1 .1 .1) (long start) _ _ _ (sound (c .before .before .before .before))
-    (sym (c .before .before .before .clock-sound .ensures) ∙ not-false _ (c .before .before .if2 .left))
+returns : tie.Need-returns
+unfolding soundTables trimmed
+returns c =
+    let a = c .before .before .args in
+    c .sound-beside .ensures ∙ ap (λ (b : Bool). soundBeside b (a .n) (a .epsilon) (trimmed (a .epsilon) (stampOf (a .self)))) (c .before .clock-sound .ensures)
 
 pub is-sound-for-spec : {M : Type 1} → statement M
-is-sound-for-spec =
-    tie.close
-    (tie.spec
-    is-sound-requires
-    returns
-    clock-sound-requires
-    returns-2
-    slice-aggregate-counts-at-most
-    add-counts-at-most
-    mul-counts-at-most
-    sub-counts-at-most
-    counts-at-most-requires
-    returns-3)
+is-sound-for-spec = tie.close (tie.spec clock-sound-requires sound-beside-requires returns)

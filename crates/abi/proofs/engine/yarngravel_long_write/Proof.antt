@@ -1,0 +1,50 @@
+-- `abi::engine::yarngravel_long_write` meets its contract. Assumes nothing.
+use Prim.Native.Nat.{_+_, _*_}
+use native.Mathlib.Omega.{arith}
+use mathlib.Core.Path.{_≡_, _∙_, ap}
+use borrow.Author.Needs.{needs}
+use Rattle.model.specs.Setup.{Setup}
+use Rattle.model.specs.Timestamp.{Timestamp}
+use Rattle.model.specs.Codec.{WriteAnswer}
+use Rattle.model.specs.Long.{longWrite}
+use Rattle.timestamp.specs.Views.{stampOf}
+use Rattle.abi.specs.Packing.{longSetupBy, longTablesIn, writeWord}
+use Rattle.abi.proofs.LongWords.{long-write-small}
+use Rattle.abi.proofs.engine.yarngravel_long_write.Statement.{statement}
+use Rattle.abi.proofs.engine.yarngravel_long_write.Tie as tie
+
+abbrev setup : tie.Start → Setup
+setup c = longSetupBy (c .args .n) (c .args .epsilon) (c .args .delta)
+
+long-tables-of-requires : tie.Need-long-tables-of-requires
+long-tables-of-requires c κs = search needs
+
+write-requires : tie.Need-write-requires
+write-requires c κs = search needs
+
+pack-written-requires : tie.Need-pack-written-requires
+pack-written-requires c κs =
+    omega (arith, ap (λ (a : WriteAnswer). a .size) (c .before .before .write .ensures), long-write-small (setup (c .before .before .before .before .before .before .before .before)) (c .before .before .before .before .before .before .before .before .args .own) (c .before .before .before .before .before .before .before .before .args .station) (stampOf (c .before .before .before .before .long-tables-of .result)) (c .before .before .before .before .before .before .before .before .args .payload .now) (c .before .before .before .before .before .before .before .before .args .out .now))
+
+same-length : tie.Need-same-length
+same-length c = search needs
+
+same : (c : tie.After-write) (x : WriteAnswer) → x ≡ longWrite (setup (c .before .before .before .before .before .before)) (c .before .before .before .before .before .before .args .own) (c .before .before .before .before .before .before .args .station) (stampOf (c .before .before .long-tables-of .result)) (c .before .before .before .before .before .before .args .payload .now) (c .before .before .before .before .before .before .args .out .now) → x ≡ longWrite (setup (c .before .before .before .before .before .before)) (c .before .before .before .before .before .before .args .own) (c .before .before .before .before .before .before .args .station) (longTablesIn (c .before .before .before .before .before .before .args .tables .now)) (c .before .before .before .before .before .before .args .payload .now) (c .before .before .before .before .before .before .args .out .now)
+same c x e = e ∙ ap (λ (t : Timestamp). longWrite (setup (c .before .before .before .before .before .before)) (c .before .before .before .before .before .before .args .own) (c .before .before .before .before .before .before .args .station) t (c .before .before .before .before .before .before .args .payload .now) (c .before .before .before .before .before .before .args .out .now)) (c .before .before .long-tables-of .ensures .0)
+
+returns : tie.Need-returns
+unfolding writeWord
+returns c = (
+  c .pack-written .ensures ∙ ap (λ (a : WriteAnswer). a .number + 256 * a .size) (same (c .before .before .before) _ (c .before .before .before .write .ensures)),
+  ap (λ (a : WriteAnswer). a .buffer) (same (c .before .before .before) _ (c .before .before .before .write .ensures)),
+)
+
+pub yarngravel-long-write-spec : {M : Type 1} → statement M
+yarngravel-long-write-spec =
+    tie.close
+    (tie.spec
+    long-tables-of-requires
+    write-requires
+    pack-written-requires
+    same-length
+    returns)

@@ -1,0 +1,5 @@
+pub mod Standing
+pub mod Extents
+pub mod Changed
+pub mod Judging
+pub mod Searching
