@@ -3,8 +3,8 @@
 
 A mutant leaves the definitions well-formed but another protocol, so what is proved of them (lemmas, theory) must be refused. `rt ci`
 tries that of the statements' edits. A refusal alone says little, since a proof fits a text. So each mutant and each edit of a statement
-has a violation, tests/violations/NAME.proof: a refutation of one of the demands by computation on a concrete list of calls. Under the
-edit, and without the proofs of theory, it must be proved. What the same lists come to without an edit is proved in
+has a violation, tests/violations/NAME.proof: a refutation of one of the demands, or of 2.9's theorem, by computation on a concrete list of
+calls. Under the edit, and without the proofs of theory, it must be proved. What the same lists come to without an edit is proved in
 crates/violations/proofs/Unedited.antt. The harmless edits of crates/model/must-fail/controls are held to what is expected of them, and
 change nothing there.
 """
@@ -18,8 +18,8 @@ from pathlib import Path
 from edits import ROOT, Edit, controls_of, first_fact, run, summary, unknown_message
 
 VIOLATIONS = ROOT / "tests" / "violations"
-# what a violation states; without an edit it has no proof, since the demands are proved
-STATED = re.compile(r"^violated : Demand(3|3Fresh|2Any|2Observer|2Fresh|2Ones|2Codec|2Long|2LongCodec) → ⊥$", re.M)
+# what a violation states; without an edit it has no proof, since the demands and 2.9's theorem (LongClocks) are proved
+STATED = re.compile(r"^violated : (Demand(3|3Fresh|2Any|2Observer|2Fresh|2Ones|2Codec|2Long|2LongCodec)|LongClocks) → ⊥$", re.M)
 UNEDITED = "violations/proofs/Unedited.antt"
 # what is computed from the definitions of model, and may come to something else under a mutant
 SAMPLES = [f"model/proofs/{path.name}" for path in sorted((ROOT / "crates" / "model" / "proofs").glob("*.antt")) if path.stem not in ("Lib", "Computing")]

@@ -1,11 +1,12 @@
 -- 02, 2.9: the hearing loop at an engine, turn by turn: what is held, and what is absorbed. Assumes nothing.
 use Prim.Native.Nat.{ℕ, zero, suc, _+_, _≤_, _<_}
+use native.Mathlib.Omega.{arith}
 use mathlib.Core.Path.{_≡_, refl, sym, ap, subst, _∙_}
 use mathlib.Core.Bool.{true}
 use mathlib.Core.List.{List, [], _∷_, _++_}
 use lib.ListN.{length, take, drop, set}
-use Rattle.laws.specs.Lists.{apart}
-use Rattle.laws.proofs.Lists.{insertAt-end}
+use Rattle.laws.specs.Lists.{apart, overlay}
+use Rattle.laws.proofs.Lists.{insertAt-end, overlay-hides}
 use Rattle.laws.proofs.Sorted.{apart-insertAt}
 use Rattle.model.specs.Setup.{Setup, width}
 use Rattle.model.specs.Timestamp.{Timestamp, trimmed, widened}
@@ -13,7 +14,7 @@ use Rattle.model.specs.Frame.{Frame}
 use Rattle.model.specs.Batch.{exactBatch, batchEntries}
 use Rattle.model.specs.Question.{firstNo}
 use Rattle.model.specs.Holdback.{sameOrigin}
-use Rattle.model.specs.Long.{longDecode, longHeld, longQuestions, longJudge, longHearOne, longHear, longAbsorbBy, longAbsorbAll}
+use Rattle.model.specs.Long.{longDecode, longHeld, longEncodeFrames, longQuestions, longJudge, longHearOne, longHear, longAbsorbBy, longAbsorbAll}
 use Rattle.lemmas.proofs.Counts.{absorb-wide}
 use Rattle.lemmas.proofs.Queue.{origin-sym}
 use Rattle.lemmas.proofs.LongTick.{long-taken, long-one-verdict}
@@ -29,10 +30,11 @@ use Rattle.long.specs.States.{Holding, heardWith, HeardQueue}
 pub record QueueTurning (s : Setup) (v : ℕ) (batch buffer₀ verdicts₀ : List ℕ) (took count stop at i : ℕ) (buffer verdicts : List ℕ) : Type 0 where
   pub heard : HearTurning (longHearOne s v) (longHeld (s .epsilon) buffer₀) batch verdicts₀ (longHeld (s .epsilon) buffer) took at i verdicts
   pub holding : Holding s buffer count stop
+  pub laid : buffer ≡ overlay (longEncodeFrames (longHeld (s .epsilon) buffer)) buffer₀
 
 pub queue-start : {s : Setup} {v count stop : ℕ} {batch buffer verdicts : List ℕ} → exactBatch batch ≡ true → Holding s buffer count stop
     → QueueTurning s v batch buffer verdicts 0 count stop 1 0 buffer verdicts
-queue-start exact holding = record { heard = hear-start exact; holding = holding }
+queue-start exact holding = record { heard = hear-start exact; holding = holding; laid = holding .extent .written }
 
 -- one entry heard, by its number
 refused-one : (s : Setup) (v : ℕ) (queue : List Frame) (done bytes : List ℕ) (x : ℕ) → x ≡ firstNo (longQuestions s v queue bytes) → (x ≡ 0 → ⊥)
@@ -56,17 +58,23 @@ module _ {s : Setup} {v : ℕ} {batch buffer₀ verdicts₀ : List ℕ} {took co
       record {
         heard = hear-refused (u .heard) more few entry step h (refused-one s v (longHeld (s .epsilon) buffer) (take i verdicts) bytes x e h);
         holding = u .holding;
+        laid = u .laid;
       }
 
   pub queue-taken : {buffer′ : List ℕ} {x : ℕ} → x ≡ 0 → 1 ≤ s .epsilon → 0 ≡ firstNo (longQuestions s v (longHeld (s .epsilon) buffer) bytes)
+      → buffer′ ≡ overlay (longEncodeFrames (longHeld (s .epsilon) buffer ++ (longDecode (s .epsilon) bytes ∷ []))) buffer
       → longHeld (s .epsilon) buffer′ ≡ longHeld (s .epsilon) buffer ++ (longDecode (s .epsilon) bytes ∷ [])
       → Extent s buffer′ (count + 1) (stop + length bytes)
       → QueueTurning s v batch buffer₀ verdicts₀ (took + 1) (count + 1) (stop + length bytes) at′ (i + 1) buffer′ (set verdicts i x)
-  queue-taken {buffer′} {x} zeros some e held extent =
+  queue-taken {buffer′} {x} zeros some e put held extent =
       let queue : List Frame = longHeld (s .epsilon) buffer in
       let f : Frame = longDecode (s .epsilon) bytes in
       let new = long-taken s v queue bytes some (sym e) .new in
       let behind : longHeld (s .epsilon) buffer′ ≡ queue ++ (f ∷ []) = held in
+      let longer : List ℕ = longEncodeFrames (queue ++ (f ∷ [])) in
+      let size : length longer ≡ stop + length bytes = sym (extent .end-is ∙ ap (λ (q : List Frame). length (longEncodeFrames q)) behind) in
+      let hidden : overlay longer buffer ≡ overlay longer buffer₀ =
+      ap (overlay longer) (u .laid) ∙ overlay-hides longer (longEncodeFrames queue) buffer₀ (omega (arith, size, u .holding .extent .end-is)) in
       subst (λ (k : ℕ). QueueTurning s v batch buffer₀ verdicts₀ (took + 1) (count + 1) (stop + length bytes) at′ (i + 1) buffer′ (set verdicts i k)) (sym zeros)
       record {
         heard =
@@ -79,6 +87,7 @@ module _ {s : Setup} {v : ℕ} {batch buffer₀ verdicts₀ : List ℕ} {took co
                   ap (apart sameOrigin) (behind ∙ sym (insertAt-end f queue))
                   ∙ apart-insertAt sameOrigin origin-sym (length queue) f queue new (u .holding .single);
             };
+        laid = put ∙ hidden ∙ ap (λ (q : List Frame). overlay (longEncodeFrames q) buffer₀) (sym behind);
       }
 
 -- the verdicts of all entries have the one that was written last at its place
@@ -95,9 +104,10 @@ pub queue-end : {s : Setup} {v : ℕ} {batch buffer₀ verdicts₀ : List ℕ} {
     → QueueTurning s v batch buffer₀ verdicts₀ took count stop at i buffer verdicts → countOf batch ≤ i → countOf batch ≤ length verdicts₀
     → HeardQueue s v batch buffer₀ verdicts₀ took count stop buffer verdicts
 unfolding longHear
-queue-end u h few =
+queue-end {buffer₀ = buffer₀} u h few =
     record {
       holding = u .holding;
+      buffer-is = u .laid ∙ ap (λ (q : List Frame). overlay (longEncodeFrames q) buffer₀) (heard-queue (u .heard) h few);
       queue = heard-queue (u .heard) h few;
       numbers = heard-numbers (u .heard) h few;
       taken-is = heard-taken (u .heard) h few;

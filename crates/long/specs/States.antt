@@ -56,9 +56,10 @@ pub record Holding (s : Setup) (buffer : List ℕ) (count stop : ℕ) : Type 0 w
   pub extent : Extent s buffer count stop
   pub single : apart sameOrigin (longHeld (s .epsilon) buffer) ≡ true
 
--- what is held, and the verdicts
+-- what is held, with every byte of its buffer, and the verdicts
 pub record HeardQueue (s : Setup) (v : ℕ) (batch buffer verdicts : List ℕ) (took count stop : ℕ) (buffer′ verdicts′ : List ℕ) : Type 0 where
   pub holding : Holding s buffer′ count stop
+  pub buffer-is : buffer′ ≡ overlay (longEncodeFrames (heardWith s v (longHeld (s .epsilon) buffer) batch .queue)) buffer
   pub queue : longHeld (s .epsilon) buffer′ ≡ heardWith s v (longHeld (s .epsilon) buffer) batch .queue
   pub numbers : verdicts′ ≡ overlay (heardWith s v (longHeld (s .epsilon) buffer) batch .verdicts) verdicts
   pub taken-is : took ≡ takenCount (heardWith s v (longHeld (s .epsilon) buffer) batch .verdicts)

@@ -8,7 +8,7 @@ use mathlib.Core.Logic.{_⊎_, inl, inr}
 use mathlib.Core.List.{List, [], _∷_, _++_, append-assoc, append-nil, List·Memᴰ, List·Memᴰ·append-cases, List·Memᴰ·eq-of-singleton, List·Memᴰ·not-nil}
 use lib.ListN.{length, take, drop, replicate, length-append, length-drop}
 use lib.Seq.{drop-drop, take-at}
-use Rattle.laws.specs.Lists.{joined, padded}
+use Rattle.laws.specs.Lists.{joined, overlay, padded}
 use Rattle.laws.proofs.Lists.{joined-append, length-padded}
 use Rattle.splice.specs.Bytes.{pasted}
 use Rattle.splice.proofs.Laws.{pasted-pieces}
@@ -92,6 +92,12 @@ module _ {s : Setup} {b : List ℕ} {count end : ℕ} (known : Extent s b count 
         ∙ ap (λ (x : List ℕ). twoBytes (count + 1) ++ x) (sym (append-assoc (joined longEncode old) frame tail))
         ∙ sym (append-assoc (twoBytes (count + 1)) (joined longEncode old ++ frame) tail)
         ∙ ap (λ (x : List ℕ). x ++ tail) (sym new-bytes)
+
+    pub append-bytes : l ≡ overlay (longEncodeFrames new) b
+    unfolding overlay
+    append-bytes =
+        appended
+        ∙ ap (λ (x : List ℕ). longEncodeFrames new ++ x) (drop-drop (length frame) end b ∙ ap (λ (n : ℕ). drop n b) (sym new-end))
 
     pub append-held : longHeld (s .epsilon) l ≡ old ++ (own ∷ [])
     append-held = made-held s new (drop (length frame) (drop end b)) l appended new-ok

@@ -318,6 +318,7 @@ module _ (s : Setup) (v least : ℕ) (b : List ℕ) where
         let is : longSoundHoldback s v least b ≡ true = sym (walk .sound-is) ∙ h in
         record {
           repair-is = sym (cond-true 0 2 is);
+          opened-is = sym (cond-true b (longEncodeHoldback (length b) []) is);
           held-is = sym (cond-true (longHeld (s .epsilon) b) [] is);
           known = walk .known h;
           single = sound-single s v least b is;
@@ -331,6 +332,7 @@ module _ (s : Setup) (v least : ℕ) (b : List ℕ) where
         let none : longHeld (s .epsilon) l ≡ [] = empty-held s l e in
         record {
           repair-is = sym (cond-false 0 2 is);
+          opened-is = made ∙ empty-same (length b) ∙ sym (cond-false b (longEncodeHoldback (length b) []) is);
           held-is = none ∙ sym (cond-false (longHeld (s .epsilon) b) [] is);
           known = empty-extent s l e;
           single = ap (apart sameOrigin) none;

@@ -4,11 +4,11 @@ use Prim.Native.Nat.{ℕ, _+_}
 use mathlib.Core.Path.{_≡_}
 use mathlib.Core.Bool.{Bool, true, false, _&&_, cond}
 use mathlib.Core.List.{List, []}
-use lib.ListN.{take, drop}
+use lib.ListN.{length, take, drop}
 use Rattle.laws.specs.Lists.{every, apart}
 use Rattle.model.specs.Setup.{Setup}
 use Rattle.model.specs.Holdback.{cutBy, sameOrigin}
-use Rattle.model.specs.Long.{longFrameEnd, longDecode, longHeld, longPasses, longNotEarly, longNotOverdue, longSoundHoldback}
+use Rattle.model.specs.Long.{longFrameEnd, longDecode, longHeld, longPasses, longNotEarly, longNotOverdue, longSoundHoldback, longEncodeHoldback}
 use Rattle.longqueue.specs.Queue.{endFrom, Extent}
 
 -- what is asked of a frame's time
@@ -39,6 +39,7 @@ pub record Walked (s : Setup) (v least : ℕ) (queue : List ℕ) (sound : Bool) 
 -- 01, tick 1: "An unsound shelf is emptied": the queue before and after it, the repair, how many frames there are, and where they end
 pub record Opening (s : Setup) (v least : ℕ) (queue opened : List ℕ) (repair count end : ℕ) : Type 0 where
   pub repair-is : repair ≡ cond (longSoundHoldback s v least queue) 0 2
+  pub opened-is : opened ≡ cond (longSoundHoldback s v least queue) queue (longEncodeHoldback (length queue) [])
   pub held-is : longHeld (s .epsilon) opened ≡ cond (longSoundHoldback s v least queue) (longHeld (s .epsilon) queue) []
   pub known : Extent s opened count end
   pub single : apart sameOrigin (longHeld (s .epsilon) opened) ≡ true

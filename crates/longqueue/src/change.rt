@@ -6,7 +6,8 @@ ghost use mathlib.Core.Bool.{true};
 ghost use mathlib.Core.List.{[], _∷_, _++_};
 ghost use Prim.Native.Nat.{_+_, _<_};
 ghost use lib.ListN.{length};
-ghost use Rattle.model.specs.Long.{longBound, longLimits, longMost, longDecode, longHeld, longPasses, longHoldbackSize};
+ghost use Rattle.laws.specs.Lists.{overlay};
+ghost use Rattle.model.specs.Long.{longBound, longLimits, longMost, longDecode, longHeld, longPasses, longEncodeFrames, longHoldbackSize};
 ghost use Rattle.setup.specs.Views.{setupOf};
 ghost use Rattle.longqueue.specs.Queue.{Extent};
 ghost use Rattle.longqueue.specs.Sound.{Opening};
@@ -45,6 +46,8 @@ pub fn open(s: Setup, v: usize, least: usize, buf: &mut [u8]) -> Opened
 pub fn append(s: Setup, buf: &mut [u8], count: usize, end: usize, frame: &[u8])
     requires { ⌜ (longLimits (setupOf s) ≡ true) × Extent (setupOf s) (now buf) count end ⌝ }
     requires { ⌜ (longPasses (setupOf s) (now frame) ≡ true) × (count < longMost) ⌝ }
+    ensures buffer { λ _. ⌜ now (buf .exit)
+        ≡ overlay (longEncodeFrames (longHeld (s .epsilon) (now (buf .entry)) ++ (longDecode (s .epsilon) (now (frame .entry)) ∷ []))) (now (buf .entry)) ⌝ }
     ensures held { λ _. ⌜ longHeld (s .epsilon) (now (buf .exit)) ≡ longHeld (s .epsilon) (now (buf .entry)) ++ (longDecode (s .epsilon) (now (frame .entry)) ∷ []) ⌝ }
     ensures known { λ _. ⌜ Extent (setupOf s) (now (buf .exit)) (count + 1) (end + length (now (frame .entry))) ⌝ }
 {

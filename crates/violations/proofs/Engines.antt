@@ -1,17 +1,27 @@
--- 02, 2.9: what is promised of an engine's call makes its tests true, so a test that computes to false refutes it; and every definition of these
--- tests and of an engine, opened at once.
+-- 02, 2.9: what is promised of an engine's call, and of a list of calls of stations and engines, makes its tests true, so a test that computes
+-- to false refutes it; and every definition of these tests and of an engine, opened at once.
 -- Assumes nothing.
-use mathlib.Core.Path.{_≡_}
+use Prim.Native.Nat.{ℕ, suc}
+use mathlib.Core.Path.{_≡_, refl, ap, _∙_}
 use mathlib.Core.Bool.{Bool, true, false}
+use mathlib.Core.List.{List, [], _∷_}
+use mathlib.Core.Option.{some}
+use lib.ListN.{take, getElem?}
 use borrow.Author.Tests.{eq-eqb, le-leb}
 use Rattle.laws.proofs.Numbers.{clash, and-intro}
-use Rattle.laws.proofs.Lists.{every-tab, sameList-eq}
-use Rattle.model.specs.Tick.{Input}
+use Rattle.laws.proofs.Lists.{every-tab, sameList-refl, sameList-eq}
+use Rattle.model.specs.Setup.{Setup}
+use Rattle.model.specs.Frame.{Frame}
+use Rattle.model.specs.Tick.{Input, Output}
+use Rattle.model.specs.Run.{Node, Call, Done, isEvent, runFrom, atStart}
 use Rattle.model.specs.Long.{longLimits, askLongSetup, lowFirst, numberAt, longEncode, longFrameEnd, longFormed, longDecode, longFrameQuestions, longestLong, longRead, longWriteQuestions, longWriteFrame, longBefore, longDue, longHoldbackSize, longHeldBytes, longHeld, longPasses, longNotEarly, longNotOverdue, longSoundHoldback, longEncodeFrames, longEncodeHoldback, askLongEarly, askHeld, longPlaceQuestions, longQuestions, longJudge, longHearOne, longHear, longAbsorbAll, longCallQuestions, longClockSound, longTablesSound, longLeastDue, longShelfSound, longRepair, longOpeningStamp, longOpened, longHeard, longNewStamp, longSent, longDueBy, longDelivered, longKept, longAcceptance, longTick}
+use Rattle.theory.specs.Premises.{goodStart, largestClock, keeps, allFresh, noneStale}
 use Rattle.theory.specs.Demand2.{hasWidth}
 use Rattle.theory.specs.LongAny.{longHeardBefore, AnyLong, Demand2Long, longFits}
+use Rattle.theory.specs.LongClocks.{LongYard, longBatch, longInput, longOf, longActed, longAll, longFresh, longStart, endsBelow, holdsFew, reducedStamp, reducedLong, SameLong, LongMatched, LongClocks}
 use Rattle.violations.specs.Engines.{engineVerdictTest, engineRepairTest, engineTakenTest, engineDeliveryTest, engineOrderTest, engineSentTest, engineBoundedTest, engineFewTest, engineTest}
-use Rattle.violations.proofs.Refuting.{every-at, every-step, sameFrames-eq}
+use Rattle.violations.specs.Engines.{LongTest, longSameNumber, longSameRepair, longSameVerdicts, longSameTaken, longSameTables, longSameFrames, longSameDelivered, sameFrame, longSameDelivery, longSameAll, besideBy, besideTest}
+use Rattle.violations.proofs.Refuting.{implies-intro, sameEach-eq, every-at, every-step, sameFrames-eq, sameTimestamp-eq}
 use Rattle.violations.proofs.Telling.{telling}
 
 module _ (i : Input) (p : AnyLong i) where
@@ -52,6 +62,67 @@ pub refute-long :
     → test i ≡ false → Demand2Long → ⊥
 refute-long test right i accepted wrong demand = clash (right i (demand i accepted)) wrong
 
+-- a list of calls: the promises make their tests true
+same-frame : (f : Frame) → sameFrame f f ≡ true
+unfolding sameFrame
+same-frame f =
+    and-intro (eq-eqb (f .station) (f .station) refl) (and-intro (sameTimestamp-eq refl) (sameList-refl (f .payload)))
+
+module _ (s : Setup) (d : Done) (o : Output) (p : SameLong s d o) where
+  pub long-number : longSameNumber s d o ≡ true
+  unfolding longSameNumber
+  long-number = eq-eqb _ _ (p .number)
+
+  pub long-repair : longSameRepair s d o ≡ true
+  unfolding longSameRepair
+  long-repair = eq-eqb _ _ (p .repair)
+
+  pub long-verdicts : longSameVerdicts s d o ≡ true
+  unfolding longSameVerdicts
+  long-verdicts = sameList-eq (p .verdicts)
+
+  pub long-taken : longSameTaken s d o ≡ true
+  unfolding longSameTaken
+  long-taken = eq-eqb _ _ (p .taken)
+
+  pub long-tables : longSameTables s d o ≡ true
+  unfolding longSameTables
+  long-tables = sameTimestamp-eq (p .tables)
+
+  pub long-frames : longSameFrames s d o ≡ true
+  unfolding longSameFrames
+  long-frames = sameList-eq (p .frames)
+
+  pub long-delivered : longSameDelivered s d o ≡ true
+  unfolding longSameDelivered
+  long-delivered = eq-eqb _ _ (p .delivered)
+
+  pub long-delivery : longSameDelivery s d o ≡ true
+  unfolding longSameDelivery
+  long-delivery = sameEach-eq sameFrame same-frame (p .handouts)
+
+module _ (test : LongTest) (right : (s : Setup) (d : Done) (o : Output) → SameLong s d o → test s d o ≡ true) (s : Setup) where
+  beside-matched : (yard : LongYard) (d : Done) → LongMatched s yard d → besideBy test s d (longOf (isEvent d) yard d) ≡ true
+  beside-matched yard d (o, is, m) = ap (besideBy test s d) is ∙ right s d o m
+
+  beside-true :
+      (yard : LongYard) (past : List Done)
+      → ((j : ℕ) (d : Done) → getElem? past j ≡ some d → isEvent d ≡ true → LongMatched s (longAll yard (take j past)) d)
+      → besideTest test s yard past ≡ true
+  unfolding besideTest longAll
+  beside-true yard [] h = refl
+  beside-true yard (d ∷ ds) h =
+      and-intro (implies-intro (isEvent d) _ (λ a. beside-matched yard d (h 0 d refl a)))
+      (beside-true (longActed yard d) ds (λ j d′ at a. h (suc j) d′ at a))
+
+  pub refute-clocks :
+      (nodes : List Node) (calls : List Call) → goodStart s nodes ≡ true → allFresh s nodes ≡ true
+      → keeps s (largestClock nodes) (atStart nodes) calls ≡ true → noneStale (runFrom (atStart nodes) calls .past) ≡ true
+      → endsBelow (runFrom (atStart nodes) calls .past) ≡ true → holdsFew (atStart nodes) calls ≡ true
+      → besideTest test s (longStart s nodes) (runFrom (atStart nodes) calls .past) ≡ false → LongClocks → ⊥
+  refute-clocks nodes calls good fresh kept sent ends few wrong demand =
+      clash (beside-true (longStart s nodes) (runFrom (atStart nodes) calls .past) (demand s nodes calls good fresh kept sent ends few)) wrong
+
 unfoldable pub engines : Unit {0}
-unfolding longLimits askLongSetup lowFirst numberAt longEncode longFrameEnd longFormed longDecode longFrameQuestions longestLong longRead longWriteQuestions longWriteFrame longBefore longDue longHoldbackSize longHeldBytes longHeld longPasses longNotEarly longNotOverdue longSoundHoldback longEncodeFrames longEncodeHoldback askLongEarly askHeld longPlaceQuestions longQuestions longJudge longHearOne longHear longAbsorbAll longCallQuestions longClockSound longTablesSound longLeastDue longShelfSound longRepair longOpeningStamp longOpened longHeard longNewStamp longSent longDueBy longDelivered longKept longAcceptance longTick hasWidth longHeardBefore longFits engineVerdictTest engineRepairTest engineTakenTest engineDeliveryTest engineOrderTest engineSentTest engineBoundedTest engineFewTest engineTest telling
+unfolding longLimits askLongSetup lowFirst numberAt longEncode longFrameEnd longFormed longDecode longFrameQuestions longestLong longRead longWriteQuestions longWriteFrame longBefore longDue longHoldbackSize longHeldBytes longHeld longPasses longNotEarly longNotOverdue longSoundHoldback longEncodeFrames longEncodeHoldback askLongEarly askHeld longPlaceQuestions longQuestions longJudge longHearOne longHear longAbsorbAll longCallQuestions longClockSound longTablesSound longLeastDue longShelfSound longRepair longOpeningStamp longOpened longHeard longNewStamp longSent longDueBy longDelivered longKept longAcceptance longTick hasWidth longHeardBefore longFits engineVerdictTest engineRepairTest engineTakenTest engineDeliveryTest engineOrderTest engineSentTest engineBoundedTest engineFewTest engineTest longBatch longInput longActed longAll longFresh longStart endsBelow holdsFew reducedStamp reducedLong longSameNumber longSameRepair longSameVerdicts longSameTaken longSameTables longSameFrames longSameDelivered sameFrame longSameDelivery longSameAll besideTest telling
 engines = tt

@@ -13,7 +13,7 @@ use mathlib.Core.Option.{Option, none, some}
 use lib.Dec.{ltb, eqb}
 use lib.ListN.{take, getD, getElem?}
 use borrow.Author.Tests.{eqb-true, eq-eqb, ltb-true, lt-ltb, le-leb}
-use Rattle.laws.specs.Lists.{any}
+use Rattle.laws.specs.Lists.{any, sameList}
 use Rattle.laws.proofs.Numbers.{true-or-false, clash, and-intro, and-left, and-right, or-cases, cond-true, cond-false}
 use Rattle.laws.proofs.Lists.{every-of-mem, every-tab, any-mem, mem-getElem?, sameList-refl, sameList-eq}
 use Rattle.model.specs.Setup.{Setup}
@@ -28,25 +28,29 @@ use Rattle.theory.specs.NeverFull.{NeverFull}
 use Rattle.theory.specs.Premises.{goodStart, largestClock, keeps, sameTimestamp, allFresh, noneStale, stepsOfOne}
 use Rattle.theory.specs.Demand2.{heardBefore, AnyState, Demand2Any, observedBefore, AnyObserver, Demand2Observer, Published, Outcome, outcomeOf, publish, publishAll, publishedStart, SameAs, Matched, Demand2Fresh, Demand2Ones}
 use Rattle.theory.specs.Demand3.{coveredFrom, covered, isFrom, Leads, later, takes, on, Promised, Demand3, Demand3Fresh}
-use Rattle.violations.specs.Tests.{everyFrom, anyFrom, implies, sameFrames, sendsRight, sendingTest, verdictRight, entryRight, hearingTest, deliversRight, deliveringTest, laterThan, takesFrom, stepTo, causesRight, causalityTest}
+use Rattle.violations.specs.Tests.{everyFrom, anyFrom, sameEach, implies, sameFrames, sendsRight, sendingTest, verdictRight, entryRight, hearingTest, deliversRight, deliveringTest, laterThan, takesFrom, stepTo, causesRight, causalityTest}
 use Rattle.violations.specs.Tests.{verdictTest, takenTest, deliveredTest, deliveryTest, sentTest, outgoingTest, repairTest, everyStep, boundedTest, boundedQueueTest, roomBefore, neverFullTest}
 use Rattle.violations.specs.Tests.{observedTest, observerTakenTest, observerDeliveredTest, observerDeliveryTest, observerRepairTest, lastTest, lastBoundedTest, observerQueueTest, observerNeverFullTest}
 use Rattle.violations.specs.Tests.{FreshTest, sameTables, sameRepair, sameTaken, sameVerdicts, sameHoldback, sameOutgoing, sameSent, sameDelivery, sameDelivered, matchedBy, freshTest}
 
-implies-intro : (a b : Bool) → (a ≡ true → b ≡ true) → implies a b ≡ true
+pub implies-intro : (a b : Bool) → (a ≡ true → b ≡ true) → implies a b ≡ true
 implies-intro true b h = h refl
 implies-intro false b h = refl
 
 same : {a b : ℕ} → a ≡ b → eqb a b ≡ true
 same {a} {b} e = eq-eqb a b e
 
-sameFrames-refl : (a : List (List ℕ)) → sameFrames a a ≡ true
-unfolding sameFrames
-sameFrames-refl [] = refl
-sameFrames-refl (x ∷ a) = and-intro (sameList-refl x) (sameFrames-refl a)
+module _ {A : Type 0} where
+  sameEach-refl : (test : A → A → Bool) → ((x : A) → test x x ≡ true) → (a : List A) → sameEach test a a ≡ true
+  unfolding sameEach
+  sameEach-refl test right [] = refl
+  sameEach-refl test right (x ∷ a) = and-intro (right x) (sameEach-refl test right a)
+
+  pub sameEach-eq : (test : A → A → Bool) → ((x : A) → test x x ≡ true) → {a b : List A} → a ≡ b → sameEach test a b ≡ true
+  sameEach-eq test right {a} {b} e = rw e (sameEach-refl test right b)
 
 pub sameFrames-eq : {a b : List (List ℕ)} → a ≡ b → sameFrames a b ≡ true
-sameFrames-eq {a} {b} e = rw e (sameFrames-refl b)
+sameFrames-eq e = sameEach-eq sameList sameList-refl e
 
 on-by-one : (i k : ℕ) → suc i + k ≡ i + suc k
 on-by-one i k = suc-add i k ∙ sym (add-suc i k)
@@ -306,7 +310,7 @@ pub refute-observer :
 refute-observer test right i accepted wrong demand = clash (right i (demand i accepted)) wrong
 
 -- Demand 2 from fresh stations: the promises make their tests true
-sameTimestamp-eq : {t u : Timestamp} → t ≡ u → sameTimestamp t u ≡ true
+pub sameTimestamp-eq : {t u : Timestamp} → t ≡ u → sameTimestamp t u ≡ true
 unfolding sameTimestamp
 sameTimestamp-eq {t} {u} e =
     and-intro (same (ap (λ (a : Timestamp). a .r) e))

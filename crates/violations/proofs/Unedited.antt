@@ -18,10 +18,11 @@ use Rattle.theory.specs.Premises.{goodStart, largestClock, keeps, allFresh, non
 use Rattle.theory.specs.Demand2.{heardBefore, observedBefore, publishedStart}
 use Rattle.theory.specs.Demand3.{coveredFrom}
 use Rattle.theory.specs.LongAny.{longHeardBefore}
+use Rattle.theory.specs.LongClocks.{longStart, endsBelow, holdsFew}
 use Rattle.violations.specs.Tests.{sendingTest, hearingTest, deliveringTest, causalityTest, anyStateTest, anyObserverTest, sameAll, freshTest}
 use Rattle.violations.specs.Stories.{group, Scene, freshTables, freshNodes, callsOf, pastOf, causeAndEffect, heardTooLate, driftedApart, hauntedAt10, hauntedAt8, staleHeard, holdingNodes, wideGroup, wideNodes, wideCalls, widePast, steppedTooFar, notStepped, inputsFrom, inputsOf, unsoundTables, unsoundQueue, packed, packedAlone, packedEarly}
 use Rattle.violations.specs.Stories.{watchedNodes, watchedCalls, watchedPast, allAhead, leftBehind, forestalled, holdingWatched, wideWatched, watchedSteps, watchedStepped, listeningsFrom, unsoundShelf}
-use Rattle.violations.specs.Engines.{engineGroup, now, hearsTwo, heldTwice, holdsAll, engineTest}
+use Rattle.violations.specs.Engines.{engineGroup, now, hearsTwo, heldTwice, holdsAll, engineTest, longSameAll, besideTest}
 use Rattle.violations.proofs.Telling.{telling}
 use Rattle.violations.proofs.Engines.{engines}
 
@@ -221,3 +222,18 @@ engine-full = refl
 pub engine-read-back : longRead engineGroup 0 (longWrite engineGroup 0 0 (freshTables now) [] (replicate 15 0) .buffer) .stamp .r ≡ now
 unfolding engines
 engine-read-back = refl
+
+-- of both stories, with steps of one and of 1 to ε, the engines do in each call what the stations do
+pub beside-few :
+    (endsBelow (pastOf causeAndEffect) ∷ holdsFew (atStart freshNodes) (callsOf causeAndEffect) ∷ endsBelow widePast ∷ holdsFew (atStart wideNodes) wideCalls ∷ [])
+    ≡ replicate 4 true
+unfolding engines
+beside-few = refl
+
+pub beside-story : besideTest longSameAll group (longStart group freshNodes) (pastOf causeAndEffect) ≡ true
+unfolding engines
+beside-story = refl
+
+pub beside-stepped : besideTest longSameAll wideGroup (longStart wideGroup wideNodes) widePast ≡ true
+unfolding engines
+beside-stepped = refl

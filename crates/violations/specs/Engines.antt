@@ -1,17 +1,24 @@
--- 02, 2.9: calls of engines with long clocks, and what demand 2 from any state says of such a call, as tests.
+-- 02, 2.9: calls of engines with long clocks; what demand 2 from any state says of such a call, and what 2.9's theorem says of a list of
+-- calls, as tests.
 use Prim.Native.Nat.{ℕ, _+_, _-_, _/_, _%_, _^_}
-use mathlib.Core.Bool.{Bool, true, _&&_, cond}
+use mathlib.Core.Bool.{Bool, true, false, _&&_, cond}
 use mathlib.Core.List.{List, [], _∷_, _++_, map}
+use mathlib.Core.Option.{Option, none, some}
 use lib.Dec.{leb, eqb}
 use lib.ListN.{length, take, replicate}
 use Rattle.laws.specs.Lists.{tab, every, chained, joined, sameList}
 use Rattle.model.specs.Setup.{Setup}
+use Rattle.model.specs.Frame.{Frame}
 use Rattle.model.specs.Batch.{batchEntries}
-use Rattle.model.specs.Tick.{Input, takenCount}
-use Rattle.model.specs.Long.{longMost, longEncode, longBefore, longHoldbackSize, longHeldBytes, longSoundHoldback, longQuestions, longTablesSound, longLeastDue, longSent, longDelivered, longTick}
+use Rattle.model.specs.Holdback.{held}
+use Rattle.model.specs.Tick.{Input, Output, takenCount}
+use Rattle.model.specs.Run.{Done, isEvent}
+use Rattle.model.specs.Long.{longMost, longEncode, longBefore, longHoldbackSize, longHeldBytes, longHeld, longSoundHoldback, longQuestions, longTablesSound, longLeastDue, longSent, longDelivered, longTick}
+use Rattle.theory.specs.Premises.{sameTimestamp}
 use Rattle.theory.specs.LongAny.{longHeardBefore}
+use Rattle.theory.specs.LongClocks.{LongYard, longOf, longActed, reducedStamp, reducedLong, narrowed}
 use Rattle.violations.specs.Stories.{freshTables, batchWith}
-use Rattle.violations.specs.Tests.{firstFailed, everyStep, sameFrames}
+use Rattle.violations.specs.Tests.{sameEach, implies, firstFailed, everyStep, sameFrames}
 
 -- ---- calls
 
@@ -59,7 +66,7 @@ fullGroup = record { n = 16; epsilon = 1; delta = 3; modulus = 0 }
 abbrev pub holdsAll : Input
 holdsAll = engineCall fullGroup (64 ∷ 0 ∷ joined (λ k. engineFrame (k / 4) (now - k % 4)) (tab 64 (λ k. k))) (engineFrame 0 (now - 4) ∷ [])
 
--- ---- tests
+-- ---- tests of one call
 
 unfoldable pub engineVerdictTest : Input → Bool
 engineVerdictTest i = firstFailed (longQuestions (i .setup) (i .clock)) (longHeardBefore i) (batchEntries (i .batch)) (longTick i .verdicts)
@@ -98,3 +105,56 @@ unfoldable pub engineTest : Input → Bool
 engineTest i =
     engineVerdictTest i && (engineRepairTest i && (engineTakenTest i && (engineDeliveryTest i && (engineOrderTest i
     && (engineSentTest i && (engineBoundedTest i && engineFewTest i))))))
+
+-- ---- tests of a list of calls
+
+-- of an accepted call of a station, and of what comes of the same call of its engine: a test for each clause of `SameLong`
+abbrev pub LongTest : Type 0
+LongTest = Setup → Done → Output → Bool
+
+unfoldable pub longSameNumber : LongTest
+longSameNumber s d o = eqb (o .answer .number) 0
+
+unfoldable pub longSameRepair : LongTest
+longSameRepair s d o = eqb (o .answer .repair) (d .output .answer .repair)
+
+unfoldable pub longSameVerdicts : LongTest
+longSameVerdicts s d o =
+    sameList (take (length (d .call .sources)) (o .verdicts)) (take (length (d .call .sources)) (d .output .verdicts))
+
+unfoldable pub longSameTaken : LongTest
+longSameTaken s d o = eqb (o .answer .taken) (d .output .answer .taken)
+
+unfoldable pub longSameTables : LongTest
+longSameTables s d o = sameTimestamp (d .output .answer .tables) (reducedStamp (s .modulus) (o .answer .tables))
+
+unfoldable pub longSameFrames : LongTest
+longSameFrames s d o =
+    sameList (take (d .output .answer .sent) (d .output .outgoing)) (narrowed s (take (o .answer .sent) (o .outgoing)))
+
+unfoldable pub longSameDelivered : LongTest
+longSameDelivered s d o = eqb (o .answer .delivered) (d .output .answer .delivered)
+
+-- the two frames are the same
+unfoldable pub sameFrame : Frame → Frame → Bool
+sameFrame f g = eqb (f .station) (g .station) && (sameTimestamp (f .stamp) (g .stamp) && sameList (f .payload) (g .payload))
+
+unfoldable pub longSameDelivery : LongTest
+longSameDelivery s d o =
+    sameEach sameFrame (held (s .epsilon) (d .output .delivery)) (map (reducedLong (s .modulus)) (longHeld (s .epsilon) (o .delivery)))
+
+unfoldable pub longSameAll : LongTest
+longSameAll s d o =
+    longSameNumber s d o && (longSameRepair s d o && (longSameVerdicts s d o && (longSameTaken s d o && (longSameTables s d o
+    && (longSameFrames s d o && (longSameDelivered s d o && longSameDelivery s d o))))))
+
+-- the test of a call, where its station has an engine
+abbrev pub besideBy : LongTest → Setup → Done → Option Output → Bool
+besideBy test s d none = false
+besideBy test s d (some o) = test s d o
+
+-- of every accepted call of a station in a list, the engines being as they are before it
+unfoldable pub besideTest : LongTest → Setup → LongYard → List Done → Bool
+besideTest test s yard [] = true
+besideTest test s yard (d ∷ ds) =
+    implies (isEvent d) (besideBy test s d (longOf (isEvent d) yard d)) && besideTest test s (longActed yard d) ds

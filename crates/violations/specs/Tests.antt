@@ -33,16 +33,20 @@ module _ {A : Type 0} where
   anyFrom p i [] = false
   anyFrom p i (x ∷ xs) = p i x || anyFrom p (suc i) xs
 
+  -- the two lists are the same, by a test of two elements
+  unfoldable pub sameEach : (A → A → Bool) → List A → List A → Bool
+  sameEach same [] [] = true
+  sameEach same [] (y ∷ ys) = false
+  sameEach same (x ∷ xs) [] = false
+  sameEach same (x ∷ xs) (y ∷ ys) = same x y && sameEach same xs ys
+
 -- where the first holds, the second does
 abbrev pub implies : Bool → Bool → Bool
 implies a b = cond a b true
 
 -- the two lists of frames' bytes are the same
-unfoldable pub sameFrames : List (List ℕ) → List (List ℕ) → Bool
-sameFrames [] [] = true
-sameFrames [] (y ∷ ys) = false
-sameFrames (x ∷ xs) [] = false
-sameFrames (x ∷ xs) (y ∷ ys) = sameList x y && sameFrames xs ys
+abbrev pub sameFrames : List (List ℕ) → List (List ℕ) → Bool
+sameFrames xs ys = sameEach sameList xs ys
 
 -- Demand 3, `sending`: of one call
 abbrev pub sendsRight : Setup → ℕ → Done → Bool

@@ -150,7 +150,7 @@ add-held : tie.Need-add-held Inv-loop μ-loop
 add-held c = omega (arith, taken-few (bytes (c .before .before .before .before .before .before .before .before .before)) (c .before .before .before .before .before .before .before .before .before .before .before .before .before .before .before .before .pre .0) (c .before .before .before .before .before .before .before .before .before .before .before .loop .inv .0 .holding .extent) (taken (c .before .before .before .before .before)))
 
 add-stop : tie.Need-add-stop Inv-loop μ-loop
-add-stop c = omega (arith, stop-small (c .before .before .before .before .before .before .before .before .before .before .before .before .before .before .before .before .pre .0) (c .before .before .before .append .ensures .1))
+add-stop c = omega (arith, stop-small (c .before .before .before .before .before .before .before .before .before .before .before .before .before .before .before .before .pre .0) (c .before .before .before .append .ensures .1 .1))
 
 add-taken : tie.Need-add-taken Inv-loop μ-loop
 add-taken c = omega (arith, few (c .before .before .before .before .before .before .before .before .before .before .before .before), more (c .before .before .before .before .before .before .before .before .before .before), c .before .before .before .before .before .before .before .before .before .before .before .loop .inv .0 .heard .few)
@@ -164,7 +164,7 @@ loop-again-2 c =
     let now = c .before .before .before .before .before .before .before .before .before .before .before .loop in
     let here = c .before .before .before .before .before .before .before .before .before in
     let appended = c .before .before .before .append .ensures in
-    let queue = queue-taken (now .inv .0) (more (c .before .before .before .before .before .before .before .before .before .before)) (few (c .before .before .before .before .before .before .before .before .before .before .before .before) .1) (entry here) (next here) (c .before .before .before .before .before .if1 .left) (limits start .epsilon-pos) (taken (c .before .before .before .before .before)) (appended .0) (appended .1) in (
+    let queue = queue-taken (now .inv .0) (more (c .before .before .before .before .before .before .before .before .before .before)) (few (c .before .before .before .before .before .before .before .before .before .before .before .before) .1) (entry here) (next here) (c .before .before .before .before .before .if1 .left) (limits start .epsilon-pos) (taken (c .before .before .before .before .before)) (appended .0) (appended .1 .0) (appended .1 .1) in (
       queue,
       stamp-taken (now .inv .1) (more (c .before .before .before .before .before .before .before .before .before .before)) (entry here) (next here) (queue-written (now .verdicts) (now .i) (c .before .before .before .before .before .before .judge .result) queue (inside (c .before .before .before .before .before .before .before .before .before .before)) ∙ ap (λ (k : ℕ). k ∷ drop (now .i + 1) (numbers start)) (c .before .before .before .before .before .if1 .left)) (limits start .epsilon-most)
           (share-wide (setupOf (start .args .setup)) (start .args .clock) (bytes here) _) (c .absorb-frame .ensures),

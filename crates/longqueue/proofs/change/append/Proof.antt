@@ -4,7 +4,7 @@ use Rattle.setup.specs.Views.{setupOf}
 use Rattle.lemmas.proofs.Questions.{long-limits-from}
 use Rattle.holdback.proofs.RoundTrip.{Bytes}
 use Rattle.longqueue.proofs.Extents.{extent-two}
-use Rattle.longqueue.proofs.Changed.{append-room, append-held, append-extent}
+use Rattle.longqueue.proofs.Changed.{append-room, append-bytes, append-held, append-extent}
 use borrow.Author.Needs.{needs}
 use Rattle.longqueue.proofs.change.append.Statement.{statement}
 use Rattle.longqueue.proofs.change.append.Tie as tie
@@ -34,8 +34,11 @@ returns c =
     let frame = start .args .frame .now in
     let clean : Bytes frame = λ i. omega (arith, entry .shared-slice-known .given i) in
     let pos = long-limits-from (setupOf (start .args .s)) (start .pre .0 .0) .epsilon-pos in (
-      append-held (start .pre .0 .1) pos frame clean (start .pre .1 .0) (start .pre .1 .1) _ _ (moved .copy-into .ensures) (written .put-u16 .ensures),
-      append-extent (start .pre .0 .1) pos frame clean (start .pre .1 .0) (start .pre .1 .1) _ _ (moved .copy-into .ensures) (written .put-u16 .ensures),
+      append-bytes (start .pre .0 .1) pos frame clean (start .pre .1 .0) (start .pre .1 .1) _ _ (moved .copy-into .ensures) (written .put-u16 .ensures),
+      (
+        append-held (start .pre .0 .1) pos frame clean (start .pre .1 .0) (start .pre .1 .1) _ _ (moved .copy-into .ensures) (written .put-u16 .ensures),
+        append-extent (start .pre .0 .1) pos frame clean (start .pre .1 .0) (start .pre .1 .1) _ _ (moved .copy-into .ensures) (written .put-u16 .ensures),
+      ),
     )
 
 pub append-spec : {M : Type 1} → statement M
