@@ -1,9 +1,11 @@
 #!/usr/bin/env bash
 # Times the tick, the poll and an observer's call through the static library against the oracle and a twin tuned by hand, and the tick of
-# an engine with long clocks beside its station's.
+# an engine with long clocks beside its station's. Then times the ticks of whole yards from C.
 set -euo pipefail
 cd "$(dirname "$0")/.."
 bash host/library.sh
 export ABI_LIB_DIR="$PWD/target/staticlib"
-cd bench
-cargo run --release --quiet
+cargo run --release --quiet --manifest-path bench/Cargo.toml
+echo
+bash bench/compile.sh
+target/bench/whole

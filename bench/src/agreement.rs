@@ -12,8 +12,8 @@ pub fn agree<C: Case>(case: &C) -> (u64, C) {
     };
     let proved = call(&C::PROGRAMS[0]);
     assert!(proved == call(&C::PROGRAMS[1]), "the proved library and the oracle differ");
-    let twins = &C::PROGRAMS[2..];
-    assert!(twins.iter().all(|twin| call(twin) == proved), "a twin and the oracle differ");
+    let twin = C::PROGRAMS.get(2);
+    assert!(twin.is_none_or(|twin| call(twin) == proved), "the twin and the oracle differ");
     proved
 }
 

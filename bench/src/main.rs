@@ -50,7 +50,6 @@ fn main() {
     print_table(&rows);
     print_observers(&rows);
     print_engines(&rows, &engines);
-    print_forms(&rows);
     println!("\ngrowth              frames    proved    oracle      twin");
     shelves[0].iter().zip(&shelves[1]).for_each(|(half, full)| print_growth(half, full));
     print_growth(&polls[0], &polls[1]);
@@ -101,20 +100,6 @@ fn print_engines(rows: &[Row], engines: &[Workload<LongCase>]) {
         let (proved, oracle, station) = (times[0], times[1], times_of(rows, name)[0]);
         print!("{name:<14}{frames:>7.0}{proved:>10.0}{oracle:>10.0}");
         println!("{:>16.2}{:>19.2}", proved / oracle, proved / station);
-    }
-}
-
-/// What the twin takes with the proved program's comparison, with its origins, with its way to hold counts to their limits and with
-/// all three, as ratios to the twin; and the proved program's ratio to the last.
-fn print_forms(rows: &[Row]) {
-    println!(
-        "\nto the twin    its comparison   its origins   its limits   all three   proved/all three"
-    );
-    for Row { name, times, .. } in rows {
-        let (proved, twin, with) = (times[0], times[2], &times[3..]);
-        let [comparison, origins, limits, all] = [0, 1, 2, 3].map(|i: usize| with[i] / twin);
-        print!("{name:<15}{comparison:>14.2}{origins:>14.2}{limits:>13.2}{all:>12.2}");
-        println!("{:>19.2}", proved / with[3]);
     }
 }
 

@@ -1,6 +1,6 @@
 //! The programs, called alike: each gets the same case, and its answer is packed as the library's.
 
-use crate::twin::{self, Bits, Bytes, Forms, Loop, Number, Own, Widest};
+use crate::twin;
 use oracle::abi::{self, library};
 use oracle::generate::{ListenCase, LongCase, PollCase, TickCase};
 
@@ -12,8 +12,7 @@ pub type Each = Vec<f64>;
 
 /// A call that is timed.
 pub trait Case: Clone + PartialEq + 'static {
-    /// The proved library, the oracle, the twin; then the twin with the proved program's comparison, with its origins, with its way
-    /// to hold counts to their limits, and with all three. An engine has no twin.
+    /// The proved library, the oracle, the twin. An engine has no twin.
     const PROGRAMS: &'static [Program<Self>];
 
     fn shelf(&self) -> &[u8];
@@ -23,15 +22,8 @@ pub trait Case: Clone + PartialEq + 'static {
 }
 
 impl Case for TickCase {
-    const PROGRAMS: &'static [Program<Self>] = &[
-        library::tick,
-        |case| abi::pack_tick(&case.run()),
-        tick::<(Number, Bits, Widest)>,
-        tick::<(Loop, Bits, Widest)>,
-        tick::<(Number, Bytes, Widest)>,
-        tick::<(Number, Bits, Own)>,
-        tick::<(Loop, Bytes, Own)>,
-    ];
+    const PROGRAMS: &'static [Program<Self>] =
+        &[library::tick, |case| abi::pack_tick(&case.run()), tick];
 
     fn shelf(&self) -> &[u8] {
         &self.holdback
@@ -44,15 +36,8 @@ impl Case for TickCase {
 }
 
 impl Case for PollCase {
-    const PROGRAMS: &'static [Program<Self>] = &[
-        library::poll,
-        |case| abi::pack_poll(case.run()),
-        poll::<(Number, Bits, Widest)>,
-        poll::<(Loop, Bits, Widest)>,
-        poll::<(Number, Bytes, Widest)>,
-        poll::<(Number, Bits, Own)>,
-        poll::<(Loop, Bytes, Own)>,
-    ];
+    const PROGRAMS: &'static [Program<Self>] =
+        &[library::poll, |case| abi::pack_poll(case.run()), poll];
 
     fn shelf(&self) -> &[u8] {
         &self.holdback
@@ -63,15 +48,8 @@ impl Case for PollCase {
 }
 
 impl Case for ListenCase {
-    const PROGRAMS: &'static [Program<Self>] = &[
-        library::listen,
-        |case| abi::pack_tick(&case.run()),
-        listen::<(Number, Bits, Widest)>,
-        listen::<(Loop, Bits, Widest)>,
-        listen::<(Number, Bytes, Widest)>,
-        listen::<(Number, Bits, Own)>,
-        listen::<(Loop, Bytes, Own)>,
-    ];
+    const PROGRAMS: &'static [Program<Self>] =
+        &[library::listen, |case| abi::pack_tick(&case.run()), listen];
 
     fn shelf(&self) -> &[u8] {
         &self.holdback
@@ -98,8 +76,8 @@ impl Case for LongCase {
 }
 
 /// The twin's tick.
-fn tick<F: Forms>(case: &mut TickCase) -> u64 {
-    twin::tick::<F>(&mut twin::Call {
+fn tick(case: &mut TickCase) -> u64 {
+    twin::tick(&mut twin::Call {
         setup: library::numbers(&case.setup),
         clock: library::narrow(case.clock),
         tables: &mut case.state,
@@ -116,8 +94,8 @@ fn tick<F: Forms>(case: &mut TickCase) -> u64 {
 }
 
 /// The twin's poll.
-fn poll<F: Forms>(case: &mut PollCase) -> u64 {
-    twin::poll::<F>(&twin::Poll {
+fn poll(case: &mut PollCase) -> u64 {
+    twin::poll(&twin::Poll {
         setup: library::numbers(&case.setup),
         clock: library::narrow(case.clock),
         within: case.within,
@@ -126,9 +104,9 @@ fn poll<F: Forms>(case: &mut PollCase) -> u64 {
 }
 
 /// The twin's observer.
-fn listen<F: Forms>(case: &mut ListenCase) -> u64 {
+fn listen(case: &mut ListenCase) -> u64 {
     let [n, epsilon, delta, modulus, _] = library::numbers(&case.setup);
-    twin::listen::<F>(&mut twin::Listening {
+    twin::listen(&mut twin::Listening {
         setup: [n, epsilon, delta, modulus],
         clock: library::narrow(case.clock),
         last: &mut case.last,

@@ -1,6 +1,8 @@
-//! The twin's poll (02, 2.5). Its walk over the queue is its own: it needs no starts.
+//! The twin's poll (02, 2.5). It walks over the queue as the tick does, and keeps no starts.
 
-use super::{check_shelf, part, r_of, Forms, Group, Origins, FIRST};
+use super::frame::part;
+use super::queue::Origins;
+use super::{check_shelf, Group};
 
 /// The arguments of the poll.
 pub struct Poll<'a> {
@@ -12,14 +14,13 @@ pub struct Poll<'a> {
 }
 
 /// The poll, its answer packed as the library's.
-pub fn poll<F: Forms>(call: &Poll) -> u64 {
+pub fn poll(call: &Poll) -> u64 {
     let number = check_shelf(call.setup, call.clock, call.holdback);
     if number != 0 {
         return number.into();
     }
-    let group = Group::<F>::of(call.setup, call.clock);
-    let bound = group.due_now() + usize::from(call.within);
-    match group.count_to(call.holdback, bound) {
+    let group = Group::of(call.setup, call.clock);
+    match group.count_to(call.holdback, call.within.into()) {
         Some(count) if call.holdback[..2] != [0, 0] => {
             1 << 8 | group.front_due(call.holdback) << 16 | count << 32
         }
@@ -27,29 +28,20 @@ pub fn poll<F: Forms>(call: &Poll) -> u64 {
     }
 }
 
-impl<F: Forms> Group<F> {
-    /// How many frames have this sum or a smaller one; none if the queue is unsound with every due clock past v.
+impl Group {
+    /// How many frames have a smaller sum than the bound; none if the queue is unsound.
     fn count_to(&self, buf: &[u8], bound: usize) -> Option<u64> {
-        let count = usize::from(u16::from_le_bytes([buf[0], buf[1]]));
-        if count > self.depth() {
-            return None;
-        }
-        let (mut at, mut last, mut within) = (2, FIRST, 0);
-        let mut origins = F::Origins::NONE;
-        for _ in 0..count {
-            let w = part(buf, at);
-            let key = self.next_key(w, 1, &last, &mut origins)?;
-            within += u64::from(key.sum <= bound);
-            at += self.frame_len(w);
-            last = key;
-        }
-        Some(within)
+        let (mut origins, mut within) = (Origins::NONE, 0);
+        let count = |sum, _| within += u64::from(sum < bound);
+        let sound = self.walk_over(buf, &mut origins, count);
+        sound.then_some(within)
     }
 
     /// The due clock of the front frame, modulo B.
     fn front_due(&self, buf: &[u8]) -> u64 {
         let front = part(buf, 2);
-        let due = self.clock + self.due(front, self.near(r_of(front)));
+        let sum = self.sum(front, self.reading(front));
+        let due = self.clock + 1 + sum as u32;
         (if due < self.modulus { due } else { due - self.modulus }) as u64
     }
 }

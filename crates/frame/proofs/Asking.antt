@@ -17,7 +17,6 @@ use Rattle.model.specs.Question.{Question, ask, firstNo, askSetup, askForm, ask
 use Rattle.model.specs.Codec.{readQuestions, readBy, read, frameOf, askPayload, writeFrameQuestions, writtenBy, writeFrame, writeQuestions}
 use Rattle.lemmas.proofs.Bounds.{Limits}
 use Rattle.lemmas.proofs.Questions.{first-yes, yes-cons, no-cons, no-append, yes-append, front-append, setup-from}
-use Rattle.lemmas.proofs.Counts.{trimmed-widened}
 use Rattle.lemmas.proofs.RoundTrip.{none-no, formed-from, decode-wide}
 use Rattle.timestamp.specs.Views.{ofCounts}
 use Rattle.frame.specs.Lay.{Room, contentsQuestions}
@@ -90,11 +89,6 @@ pub counts-sound : (n epsilon c : ℕ) (s : List ℕ) → c ≡ decode epsilon s
     → soundTimestamp n epsilon (ofCounts c (take (6 + 2 * epsilon - 6) (drop 6 s))) ≡ soundTimestamp n epsilon (decode epsilon s .stamp)
 unfolding soundTimestamp
 counts-sound n epsilon c s e = rw (counts-part epsilon s, e)
-
--- the stamp that a well-formed frame holds is as wide as it should be, so that reading it by value loses nothing
-pub stamp-kept : (epsilon : ℕ) (s : List ℕ) → epsilon ≤ 16 → wellFormed epsilon s ≡ true
-    → trimmed epsilon (widened (decode epsilon s .stamp)) ≡ decode epsilon s .stamp
-stamp-kept epsilon s h w = trimmed-widened epsilon (decode epsilon s .stamp) h (decode-wide epsilon s (formed-from epsilon s w))
 
 -- ---- the reader
 

@@ -1,6 +1,8 @@
 // The frame: its form, the reader and the writer.
 mod form;
+mod newest;
 mod reader;
+mod window;
 mod writer;
 
 pub use form::c_of;
@@ -10,12 +12,14 @@ pub use form::frame_end;
 pub use form::later_formed;
 pub use form::payload_part;
 pub use form::r_of;
-pub use form::stamp_of;
 pub use form::station_of;
+pub use newest::newest_counts;
 pub use reader::Reading;
 pub use reader::payload_of;
 pub use reader::read;
 pub use reader::refused;
+pub use window::WINDOW;
+pub use window::check_window;
 pub use writer::Written;
 pub use writer::check_contents;
 pub use writer::lay;

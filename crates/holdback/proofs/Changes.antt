@@ -10,8 +10,8 @@ use lib.ListN.{length, take, drop, replicate, length-append, length-drop, length
 use lib.Seq.{drop-drop, length-take-le, take-all, take-at, drop-at}
 use Rattle.laws.specs.Lists.{tab, every, joined, overlay, padded, insertAt}
 use Rattle.laws.proofs.Lists.{length-tab, take-tab, joined-append, joined-halves, joined-insertAt, length-insertAt}
-use Rattle.splice.specs.Bytes.{pasted, part, cleared, inserted, cutOut, zeros}
-use Rattle.splice.proofs.Laws.{pasted-pieces, inserted-pieces, cutOut-cleared, pasted-right, pasted-left}
+use Rattle.splice.specs.Bytes.{pasted, part, cleared, inserted, zeros}
+use Rattle.splice.proofs.Laws.{pasted-pieces, inserted-pieces, pasted-right, pasted-left}
 use Rattle.model.specs.Frame.{Frame, twoBytes, twoAt, encode, decode, wellFormed}
 use Rattle.model.specs.Holdback.{heldBytes, held, framesBy, encodeFrames, encodeHoldback}
 use Rattle.holdback.specs.Queue.{frameStart, bytesAt, frameAt, Spans}
@@ -144,17 +144,29 @@ module _ (epsilon : ℕ) (s : List ℕ) (k : ℕ) (p : Pieces epsilon s k) where
   abbrev end : ℕ
   end = frameStart epsilon s (twoAt s 0)
 
+  -- a queue is its frames written, and what stands behind them
+  whole : s ≡ encodeFrames q ++ drop end s
+  unfolding encodeFrames
+  whole =
+      p .split
+      ∙ sym
+      (ap₂ (λ (n : ℕ) (r : List ℕ). (twoBytes n ++ r) ++ drop end s) (length-held epsilon s) (joined-halves encode k q)
+      ∙ append-assoc (twoBytes (twoAt s 0)) (first ++ others) (drop end s)
+      ∙ ap (λ (r : List ℕ). twoBytes (twoAt s 0) ++ r) (append-assoc first others (drop end s)))
+
+  -- so it stays as it is where they are written over it
+  pub written-over : s ≡ overlay (encodeFrames q) s
+  unfolding overlay encodeFrames twoBytes
+  written-over =
+      let e : end ≡ suc (suc (length (joined encode q))) =
+      omega (arith, p .front, p .back, ap length (joined-halves encode k q), length-append first others) in
+      whole ∙ ap (λ (n : ℕ). encodeFrames q ++ drop n s) e
+
   put-made : (f : Frame) (src l : List ℕ) → encode f ≡ src
       → l ≡ pasted (inserted s end (frameStart epsilon s k) src) 0 (twoBytes (twoAt s 0 + 1))
       → l ≡ overlay (encodeFrames (insertAt k f q)) s
   unfolding encodeFrames
   put-made f src l e made =
-      let whole : s ≡ encodeFrames q ++ drop end s =
-      p .split
-      ∙ sym
-      (ap₂ (λ (n : ℕ) (r : List ℕ). (twoBytes n ++ r) ++ drop end s) (length-held epsilon s) (joined-halves encode k q)
-      ∙ append-assoc (twoBytes (twoAt s 0)) (first ++ others) (drop end s)
-      ∙ ap (λ (r : List ℕ). twoBytes (twoAt s 0) ++ r) (append-assoc first others (drop end s))) in
       made
       ∙ ap₂ (λ (r : List ℕ) (n : ℕ). pasted (inserted s end (frameStart epsilon s k) r) 0 (twoBytes (n + 1))) (sym e) (sym (length-held epsilon s))
       ∙ put-frames encode q k f s (drop end s) (frameStart epsilon s k) end whole (p .front) (p .back)
@@ -201,30 +213,37 @@ module _ (epsilon : ℕ) (s : List ℕ) (k : ℕ) (p : Pieces epsilon s k) where
       ∙ pasted-front d ((c ++ given) ++ first)
       ∙ ap (λ (r : List ℕ). r ++ drop (length r) d) whole
 
-  -- the others moved to the front, zeros behind them
-  cut-made : (l : List ℕ) → k ≤ twoAt s 0 → 2 ≤ length s
-      → l ≡ pasted (pasted s 2 (part s (frameStart epsilon s k) (end - frameStart epsilon s k) ++ zeros (length s - (2 + (end - frameStart epsilon s k))))) 0 (twoBytes (twoAt s 0 - k))
-      → l ≡ encodeHoldback (length s) (drop k q)
-  unfolding encodeHoldback encodeFrames padded
-  cut-made l h two made =
-      let size : ℕ = length others in
-      let moved : ℕ = 2 + size in
-      let free : ℕ = length s - moved in
-      let long : end - frameStart epsilon s k ≡ size = omega (arith, p .back) in
-      let inside : moved ≤ length s = omega (arith, p .back, p .front, p .ends) in
+  -- the others moved to the front
+  front-made : (l : List ℕ) → 2 ≤ length s
+      → l ≡ pasted (pasted s 2 (part s (frameStart epsilon s k) (end - frameStart epsilon s k))) 0 (twoBytes (twoAt s 0 - k))
+      → l ≡ overlay (encodeFrames (drop k q)) s
+  unfolding overlay encodeFrames
+  front-made l two made =
       let count : length (drop k q) ≡ twoAt s 0 - k = length-drop k q ∙ ap (λ (n : ℕ). n - k) (length-held epsilon s) in
       let c : List ℕ = twoBytes (twoAt s 0 - k) in
-      let all : length (c ++ (others ++ zeros free)) ≡ length s =
-      omega (arith, length-append c (others ++ zeros free), two-long (twoAt s 0 - k), length-append others (zeros free), length-replicate {A = ℕ} free 0) in
-      let used : length (c ++ others) ≡ moved = omega (arith, length-append c others, two-long (twoAt s 0 - k)) in
       made
-      ∙ ap₂ (λ (r : List ℕ) (n : ℕ). pasted (pasted s 2 (r ++ zeros (length s - (2 + n)))) 0 c) (other-bytes (end - frameStart epsilon s k) refl) long
-      ∙ pasted-left s 0 c 2 (two-long (twoAt s 0 - k)) (others ++ zeros free) two
-      ∙ pasted-front s (c ++ (others ++ zeros free))
-      ∙ ap (λ (r : List ℕ). (c ++ (others ++ zeros free)) ++ r) (drop-of-length-le s (le-of-eq (sym all)))
-      ∙ append-nil (c ++ (others ++ zeros free))
-      ∙ sym (append-assoc c others (zeros free))
-      ∙ sym (ap₂ (λ (n m : ℕ). (twoBytes n ++ others) ++ replicate (length s - m) 0) count (ap (λ (n : ℕ). length (twoBytes n ++ others)) count ∙ used))
+      ∙ ap (λ (r : List ℕ). pasted (pasted s 2 r) 0 c) (other-bytes (end - frameStart epsilon s k) refl)
+      ∙ pasted-left s 0 c 2 (two-long (twoAt s 0 - k)) others two
+      ∙ pasted-front s (c ++ others)
+      ∙ sym (ap (λ (n : ℕ). overlay (twoBytes n ++ others) s) count)
+
+  -- where they then end
+  others-end : length (encodeFrames (drop k q)) ≡ end - (frameStart epsilon s k - 2)
+  unfolding encodeFrames twoBytes
+  others-end = omega (arith, p .front, p .back)
+
+-- ---- clearing what stands behind
+
+behind-cleared : (new old : List ℕ) (at : ℕ) → length new ≡ at → at ≤ length old → cleared (overlay new old) at (length old) ≡ padded (length old) new
+unfolding overlay padded
+behind-cleared new old at e h =
+    let free : List ℕ = zeros (length old - at) in
+    let rest : List ℕ = drop (length new) old in
+    let size : length free ≡ length rest = omega (arith, length-replicate {A = ℕ} (length old - at) 0, length-drop (length new) old) in
+    ap (λ (r : List ℕ). pasted (new ++ r) at free) (sym (append-nil rest))
+    ∙ pasted-pieces new rest [] free at e size
+    ∙ ap (λ (r : List ℕ). new ++ r) (append-nil free)
+    ∙ ap (λ (n : ℕ). new ++ zeros (length old - n)) (sym e)
 
 -- ---- emptying
 
@@ -281,18 +300,21 @@ module _ {epsilon : ℕ} {s : List ℕ} {count stop index at : ℕ} (known : Spa
       (count-is ∙ ap (λ (n : ℕ). pasted d 0 (twoBytes (n + index))) (given .count-is)) (given .ends ∙ ap (frameStart epsilon d) (given .count-is))
       ∙ ap (λ (n : ℕ). pasted (pasted d 0 (twoBytes (twoAt d 0 + index))) (frameStart epsilon d (twoAt d 0)) (take (n - 2) (drop 2 s))) (known .starts))
 
-  pub prefix-cut : (a b l : List ℕ) → a ≡ cutOut s stop 2 (at - 2) → b ≡ cleared a stop (length s)
-      → l ≡ pasted b 0 (twoBytes (count - index)) → l ≡ encodeHoldback (length s) (drop index (held epsilon s))
+  pub front-cut : (a l : List ℕ) → a ≡ pasted s 2 (part s at (stop - at)) → l ≡ pasted a 0 (twoBytes (count - index))
+      → l ≡ overlay (encodeFrames (drop index (held epsilon s))) s
   unfolding twoBytes
-  prefix-cut a b l cut-out emptied count-is =
-      let (low, (below, inside)) = located in
-      let from : 2 + (at - 2) ≡ at = omega arith in
-      let free : at - 2 + (length s - stop) ≡ length s - (2 + (stop - at)) = omega arith in
-      cut-made epsilon s index spans-pieces l index-in (known .two)
+  front-cut a l moved count-is =
+      front-made epsilon s index spans-pieces l (known .two)
       (count-is
-      ∙ ap₂ (λ (r : List ℕ) (n : ℕ). pasted r 0 (twoBytes (n - index)))
-      (emptied
-      ∙ ap (λ (r : List ℕ). cleared r stop (length s)) cut-out
-      ∙ cutOut-cleared s stop 2 (at - 2) (omega arith) inside (length s) inside
-      ∙ ap₂ (λ (n m : ℕ). pasted s 2 (part s n (stop - n) ++ zeros m)) from free) (known .count-is)
-      ∙ ap₂ (λ (n m : ℕ). pasted (pasted s 2 (part s m (n - m) ++ zeros (length s - (2 + (n - m))))) 0 (twoBytes (twoAt s 0 - index))) stop-is (known .starts))
+      ∙ ap₂ (λ (r : List ℕ) (n : ℕ). pasted r 0 (twoBytes (n - index))) moved (known .count-is)
+      ∙ ap₂ (λ (n m : ℕ). pasted (pasted s 2 (part s m (n - m))) 0 (twoBytes (twoAt s 0 - index))) stop-is (known .starts))
+
+  pub prefix-cut : (a l : List ℕ) → a ≡ overlay (encodeFrames (drop index (held epsilon s))) s → l ≡ cleared a (stop - (at - 2)) (length s)
+      → l ≡ encodeHoldback (length s) (drop index (held epsilon s))
+  unfolding encodeHoldback
+  prefix-cut a l cut-out emptied =
+      let ends : length (encodeFrames (drop index (held epsilon s))) ≡ stop - (at - 2) =
+      others-end epsilon s index spans-pieces ∙ ap₂ (λ (n m : ℕ). n - (m - 2)) (sym stop-is) (sym (known .starts)) in
+      emptied
+      ∙ ap (λ (r : List ℕ). cleared r (stop - (at - 2)) (length s)) cut-out
+      ∙ behind-cleared (encodeFrames (drop index (held epsilon s))) s (stop - (at - 2)) ends (omega (arith, located))

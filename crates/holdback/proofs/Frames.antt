@@ -225,6 +225,17 @@ lent b at = take (length b - at) (drop at b)
 pub lent-is : (b : List ℕ) (at : ℕ) → lent b at ≡ drop at b
 lent-is b at = take-all (length b - at) (drop at b) (omega (arith, length-drop at b))
 
+-- of what is lent from `at` on, the frame that ends at `next`
+module _ (epsilon : ℕ) (b : List ℕ) (at next : ℕ) (e : next ≡ at + frameEnd epsilon (drop at b)) where
+  lent-end : frameEnd epsilon (lent b at) ≡ next - at
+  lent-end = let d : frameEnd epsilon (drop at b) ≡ next - at = omega arith in ap (frameEnd epsilon) (lent-is b at) ∙ d
+
+  pub lent-ends : next ≤ length b → frameEnd epsilon (lent b at) ≤ length (lent b at)
+  lent-ends h = omega (arith, lent-end, ap length (lent-is b at), length-drop at b)
+
+  pub lent-frame : take (frameEnd epsilon (lent b at)) (lent b at) ≡ take (next - at) (drop at b)
+  lent-frame = ap₂ take lent-end (lent-is b at)
+
 -- where the frame at `at` ends
 pub next-start : (epsilon : ℕ) (b : List ℕ) (k at size : ℕ) → at ≡ frameStart epsilon b k → size ≡ frameEnd epsilon (lent b at)
     → at + size ≡ frameStart epsilon b (suc k)

@@ -4,7 +4,8 @@ pub mod RoundTrip
 pub mod Frames
 pub mod Judging
 pub mod Searching
--- The table of origins, the order of frames.
+-- Bits as a number, the table of origins, the order of frames.
+pub mod Bits
 pub mod Seen
 pub mod Order
 pub mod Newest

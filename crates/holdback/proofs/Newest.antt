@@ -1,80 +1,150 @@
--- The newest counts decide an order: where the sums are the same and they make the smaller number, the frame comes before.
+-- The newest counts decide an order: where the sums are the same and the numbers that they make differ, the frame with the smaller one comes before.
 -- Assumes nothing.
-use Prim.Native.Nat.{ℕ, _+_, _-_, _≤_, _<_, Ordering, Ordering·lt}
+use Prim.Native.Nat.{ℕ, _+_, _*_, _-_, _^_, _≤_, _<_, Ordering, Ordering·lt}
+use native.Mathlib.Nat.{min-le-right}
 use native.Mathlib.Omega.{arith}
 use mathlib.Core.Path.{_≡_, sym, ap, ap₂, _∙_}
-use mathlib.Core.Bool.{true, false, _&&_}
+use mathlib.Core.Logic.{inl, inr}
 use mathlib.Core.List.{List, [], _∷_, _++_}
-use lib.Dec.{leb, ltb, eqb}
-use lib.ListN.{drop, getD, take-append-drop}
-use borrow.Author.Tests.{leb-true, ltb-true, eqb-true, le-leb, lt-leb, eq-eqb, ne-eqb}
+use lib.Dec.{ltb}
+use lib.ListN.{drop, take-append-drop}
+use borrow.Author.Tests.{lt-ltb, le-ltb}
 use Rattle.laws.specs.Lists.{tab, placedAt}
 use Rattle.laws.specs.Lex.{orElse, isLess, lexCompare, numberOf}
-use Rattle.laws.proofs.Numbers.{and-left, and-right}
+use Rattle.laws.proofs.Numbers.{lt-or-ge}
 use Rattle.laws.proofs.Lists.{length-tab, take-tab}
-use Rattle.laws.proofs.Lex.{lex-append, lex-head-eq, number-ext, number-less}
+use Rattle.laws.proofs.Lex.{flipped, lex-append, lex-flip, lex-head-lt, lex-head-eq, number-ext, number-less, number-split}
 use Rattle.model.specs.Timestamp.{sum}
 use Rattle.model.specs.Order.{countsDown, keyBy}
 use Rattle.lemmas.proofs.Counts.{count-zero, down-counts}
 use Rattle.timestamp.specs.declared.ordering.Rank.{Rank}
+use Rattle.timestamp.specs.Ranks.{rankedFrame}
 use Rattle.timestamp.specs.Views.{ofCounts}
-use Rattle.holdback.specs.Queue.{rankBefore, newest, newestLess}
+use Rattle.frame.specs.Newest.{taken, newestFrom}
+use Rattle.holdback.specs.Queue.{rankBefore}
 use Rattle.holdback.proofs.RoundTrip.{Bytes}
 
--- the number that the code reads is that of the newest counts
-newest-read : (epsilon c : ℕ) (kn : List ℕ) → 8 ≤ epsilon → numberOf 8 (λ k. getD kn (epsilon + c - 7 + (7 - k)) 0) ≡ newest epsilon c kn
-unfolding newest
-newest-read epsilon c kn h =
-    number-ext 8 (λ k. getD kn (epsilon + c - 7 + (7 - k)) 0) (λ k. placedAt 0 kn (epsilon + c - k))
-    (λ k t.
-    let e : epsilon + c - 7 + (7 - k) ≡ epsilon + c - k = omega arith in
-    ap (λ (i : ℕ). getD kn i 0) e ∙ sym (count-zero kn (epsilon + c - k)))
+-- the counts of a list, from offset c down
+abbrev down : ℕ → ℕ → List ℕ → ℕ → ℕ
+down epsilon c kn j = placedAt 0 kn (epsilon + c - j)
 
--- lists of digits whose first eight make the smaller number
-tabs-less : (n : ℕ) (f g : ℕ → ℕ) → 8 ≤ n → ((k : ℕ) → f k < 256) → ((k : ℕ) → g k < 256) → numberOf 8 f < numberOf 8 g → lexCompare (tab n f) (tab n g) ≡ Ordering·lt
-tabs-less n f g h p q l =
-    ap₂ lexCompare (sym (take-append-drop 8 (tab n f))) (sym (take-append-drop 8 (tab n g)))
-    ∙ (ap₂ (λ (a b : List ℕ). lexCompare (a ++ drop 8 (tab n f)) (b ++ drop 8 (tab n g))) (take-tab 8 n f h) (take-tab 8 n g h)
-    ∙ (lex-append (tab 8 f) (tab 8 g) (drop 8 (tab n f)) (drop 8 (tab n g)) (length-tab 8 f ∙ sym (length-tab 8 g))
-    ∙ ap (λ (o : Ordering). orElse o (lexCompare (drop 8 (tab n f)) (drop 8 (tab n g)))) (number-less 8 f g p q l)))
+down-small : (epsilon c : ℕ) (kn : List ℕ) → Bytes kn → (j : ℕ) → down epsilon c kn j < 256
+down-small epsilon c kn p j = rw (count-zero kn (epsilon + c - j)) (p (epsilon + c - j))
 
--- so the whole frame comes before
-pub newest-before :
-    (epsilon : ℕ) (f g : Rank) (kf kg : List ℕ) → Bytes kf → Bytes kg
-    → newestLess epsilon f kf g kg ≡ true → rankBefore epsilon f kf g kg ≡ true
-unfolding newestLess newest rankBefore keyBy
-newest-before epsilon f g kf kg p q h =
-    let tests = and-right (leb 8 epsilon) (eqb (sum (f .reading) (f .c)) (sum (g .reading) (g .c)) && ltb (newest epsilon (f .c) kf) (newest epsilon (g .c) kg)) h in
-    let wide : 8 ≤ epsilon = leb-true 8 epsilon (and-left (leb 8 epsilon) (eqb (sum (f .reading) (f .c)) (sum (g .reading) (g .c)) && ltb (newest epsilon (f .c) kf) (newest epsilon (g .c) kg)) h) in
-    let same : sum (f .reading) (f .c) ≡ sum (g .reading) (g .c) =
-    eqb-true (sum (f .reading) (f .c)) (sum (g .reading) (g .c)) (and-left (eqb (sum (f .reading) (f .c)) (sum (g .reading) (g .c))) (ltb (newest epsilon (f .c) kf) (newest epsilon (g .c) kg)) tests) in
-    let less : newest epsilon (f .c) kf < newest epsilon (g .c) kg =
-    ltb-true (newest epsilon (f .c) kf) (newest epsilon (g .c) kg) (and-right (eqb (sum (f .reading) (f .c)) (sum (g .reading) (g .c))) (ltb (newest epsilon (f .c) kf) (newest epsilon (g .c) kg)) tests) in
-    let down : ℕ → List ℕ → ℕ → ℕ = λ c kn k. placedAt 0 kn (epsilon + c - k) in
+-- a frame's newest counts, and those behind the first eight
+newest-down : (epsilon c : ℕ) (kn : List ℕ) → newestFrom epsilon c 0 kn ≡ numberOf (taken epsilon 0) (down epsilon c kn)
+unfolding newestFrom
+newest-down epsilon c kn =
+    number-ext (taken epsilon 0) (λ j. placedAt 0 kn (epsilon + c - 0 - j)) (down epsilon c kn)
+    (λ j _. let e : epsilon + c - 0 - j ≡ epsilon + c - j = omega arith in ap (placedAt 0 kn) e)
+
+older-down : (epsilon c : ℕ) (kn : List ℕ) → newestFrom epsilon c 8 kn ≡ numberOf (taken epsilon 8) (λ j. down epsilon c kn (8 + j))
+unfolding newestFrom
+older-down epsilon c kn =
+    number-ext (taken epsilon 8) (λ j. placedAt 0 kn (epsilon + c - 8 - j)) (λ j. down epsilon c kn (8 + j))
+    (λ j _. let e : epsilon + c - 8 - j ≡ epsilon + c - (8 + j) = omega arith in ap (placedAt 0 kn) e)
+
+-- where there are none
+pub none-older : (epsilon c : ℕ) (kn : List ℕ) → epsilon ≤ 8 → newestFrom epsilon c 8 kn ≡ 0
+unfolding newestFrom numberOf
+none-older epsilon c kn h =
+    let e : taken epsilon 8 ≡ 0 = omega arith in
+    ap (λ (n : ℕ). numberOf n (λ j. placedAt 0 kn (epsilon + c - 8 - j))) e
+
+-- a number before both
+ltb-behind : (n x y : ℕ) → ltb x y ≡ ltb (n + x) (n + y)
+ltb-behind n x y =
+    elim (lt-or-ge x y) [
+      | inl h ↦ let l : n + x < n + y = omega arith in lt-ltb x y h ∙ sym (lt-ltb (n + x) (n + y) l)
+      | inr h ↦ let l : n + y ≤ n + x = omega arith in le-ltb x y h ∙ sym (le-ltb (n + x) (n + y) l)
+    ]
+
+-- lists of digits of which the first m make the smaller number
+tabs-less : (m n : ℕ) (f g : ℕ → ℕ) → m ≤ n → ((k : ℕ) → f k < 256) → ((k : ℕ) → g k < 256) → numberOf m f < numberOf m g → lexCompare (tab n f) (tab n g) ≡ Ordering·lt
+tabs-less m n f g h p q l =
+    ap₂ lexCompare (sym (take-append-drop m (tab n f))) (sym (take-append-drop m (tab n g)))
+    ∙ (ap₂ (λ (a b : List ℕ). lexCompare (a ++ drop m (tab n f)) (b ++ drop m (tab n g))) (take-tab m n f h) (take-tab m n g h)
+    ∙ (lex-append (tab m f) (tab m g) (drop m (tab n f)) (drop m (tab n g)) (length-tab m f ∙ sym (length-tab m g))
+    ∙ ap (λ (o : Ordering). orElse o (lexCompare (drop m (tab n f)) (drop m (tab n g)))) (number-less m f g p q l)))
+
+-- a key that comes before
+abbrev keyOf : ℕ → Rank → List ℕ → List ℕ
+keyOf epsilon f kf = keyBy epsilon (f .reading) (rankedFrame f kf)
+
+sum-less : (epsilon : ℕ) (f g : Rank) (kf kg : List ℕ) → f .reading + f .c < g .reading + g .c → lexCompare (keyOf epsilon f kf) (keyOf epsilon g kg) ≡ Ordering·lt
+unfolding keyBy sum
+sum-less epsilon f g kf kg h =
+    lex-head-lt (f .reading + f .c) (g .reading + g .c) (countsDown epsilon (ofCounts (f .c) kf) ++ (f .station ∷ f .reading ∷ [])) (countsDown epsilon (ofCounts (g .c) kg) ++ (g .station ∷ g .reading ∷ [])) h
+
+counts-less :
+    (m epsilon : ℕ) (f g : Rank) (kf kg : List ℕ) → Bytes kf → Bytes kg → m ≤ epsilon → f .reading + f .c ≡ g .reading + g .c
+    → numberOf m (down epsilon (f .c) kf) < numberOf m (down epsilon (g .c) kg) → lexCompare (keyOf epsilon f kf) (keyOf epsilon g kg) ≡ Ordering·lt
+unfolding keyBy sum
+counts-less m epsilon f g kf kg p q wide same less =
     rw (down-counts epsilon (ofCounts (f .c) kf), down-counts epsilon (ofCounts (g .c) kg))
-    (ap isLess
-    (lex-head-eq (sum (f .reading) (f .c)) (sum (g .reading) (g .c)) (tab epsilon (down (f .c) kf) ++ (f .station ∷ f .reading ∷ [])) (tab epsilon (down (g .c) kg) ++ (g .station ∷ g .reading ∷ [])) same
-    ∙ (lex-append (tab epsilon (down (f .c) kf)) (tab epsilon (down (g .c) kg)) (f .station ∷ f .reading ∷ []) (g .station ∷ g .reading ∷ [])
-    (length-tab epsilon (down (f .c) kf) ∙ sym (length-tab epsilon (down (g .c) kg)))
+    (lex-head-eq (f .reading + f .c) (g .reading + g .c) (tab epsilon (down epsilon (f .c) kf) ++ (f .station ∷ f .reading ∷ [])) (tab epsilon (down epsilon (g .c) kg) ++ (g .station ∷ g .reading ∷ [])) same
+    ∙ (lex-append (tab epsilon (down epsilon (f .c) kf)) (tab epsilon (down epsilon (g .c) kg)) (f .station ∷ f .reading ∷ []) (g .station ∷ g .reading ∷ [])
+    (length-tab epsilon (down epsilon (f .c) kf) ∙ sym (length-tab epsilon (down epsilon (g .c) kg)))
     ∙ ap (λ (o : Ordering). orElse o (lexCompare (f .station ∷ f .reading ∷ []) (g .station ∷ g .reading ∷ [])))
-    (tabs-less epsilon (down (f .c) kf) (down (g .c) kg) wide (λ k. rw (count-zero kf (epsilon + f .c - k)) (p (epsilon + f .c - k))) (λ k. rw (count-zero kg (epsilon + g .c - k)) (q (epsilon + g .c - k))) less))))
+    (tabs-less m epsilon (down epsilon (f .c) kf) (down epsilon (g .c) kg) wide (down-small epsilon (f .c) kf p) (down-small epsilon (g .c) kg q) less)))
+
+-- one of two keys comes before the other by numbers that differ
+says :
+    (a b : List ℕ) (x y : ℕ) → (x ≡ y → ⊥) → (x < y → lexCompare a b ≡ Ordering·lt) → (y < x → lexCompare b a ≡ Ordering·lt)
+    → ltb x y ≡ isLess (lexCompare a b)
+says a b x y n less more =
+    elim (lt-or-ge x y) [
+      | inl h ↦ lt-ltb x y h ∙ sym (ap isLess (less h))
+      | inr h ↦
+          let l : y < x = omega arith in
+          le-ltb x y h ∙ sym (ap isLess (lex-flip b a ∙ ap flipped (more l)))
+    ]
 
 -- ---- the tests as the code makes them
 
 module _ (epsilon : ℕ) (f : Rank) (kf : List ℕ) (g : Rank) (kg : List ℕ) where
-  pub narrow-no : epsilon < 8 → false ≡ newestLess epsilon f kf g kg
-  unfolding newestLess
-  narrow-no h = rw (lt-leb 8 epsilon h)
+  pub sums-say : (f .reading + f .c ≡ g .reading + g .c → ⊥) → ltb (f .reading + f .c) (g .reading + g .c) ≡ rankBefore epsilon f kf g kg
+  unfolding rankBefore
+  sums-say n =
+      says (keyOf epsilon f kf) (keyOf epsilon g kg) (f .reading + f .c) (g .reading + g .c) n (sum-less epsilon f g kf kg) (sum-less epsilon g f kg kf)
 
-  pub sums-no : 8 ≤ epsilon → (f .reading + f .c ≡ g .reading + g .c → ⊥) → false ≡ newestLess epsilon f kf g kg
-  unfolding newestLess sum
-  sums-no h n = rw (le-leb 8 epsilon h, ne-eqb (f .reading + f .c) (g .reading + g .c) n)
+  module _ (p : Bytes kf) (q : Bytes kg) (same : f .reading + f .c ≡ g .reading + g .c) where
+    -- the first m counts, of which there are ε
+    counts-say :
+        (m : ℕ) → m ≤ epsilon → (numberOf m (down epsilon (f .c) kf) ≡ numberOf m (down epsilon (g .c) kg) → ⊥)
+        → ltb (numberOf m (down epsilon (f .c) kf)) (numberOf m (down epsilon (g .c) kg)) ≡ rankBefore epsilon f kf g kg
+    unfolding rankBefore
+    counts-say m wide n =
+        says (keyOf epsilon f kf) (keyOf epsilon g kg) (numberOf m (down epsilon (f .c) kf)) (numberOf m (down epsilon (g .c) kg)) n
+        (counts-less m epsilon f g kf kg p q wide same) (counts-less m epsilon g f kg kf q p wide (sym same))
 
-  pub numbers-say :
-      (x y : ℕ) → 8 ≤ epsilon → f .reading + f .c ≡ g .reading + g .c
-      → x ≡ numberOf 8 (λ k. getD kf (epsilon + f .c - 7 + (7 - k)) 0)
-      → y ≡ numberOf 8 (λ k. getD kg (epsilon + g .c - 7 + (7 - k)) 0) → ltb x y ≡ newestLess epsilon f kf g kg
-  unfolding newestLess sum
-  numbers-say x y h e p q =
-      rw (le-leb 8 epsilon h, eq-eqb (f .reading + f .c) (g .reading + g .c) e)
-      (ap₂ ltb (p ∙ newest-read epsilon (f .c) kf h) (q ∙ newest-read epsilon (g .c) kg h))
+    module _ {x y : ℕ} (ex : x ≡ newestFrom epsilon (f .c) 0 kf) (ey : y ≡ newestFrom epsilon (g .c) 0 kg) where
+      numbers-f : x ≡ numberOf (taken epsilon 0) (down epsilon (f .c) kf)
+      numbers-f = ex ∙ newest-down epsilon (f .c) kf
+
+      numbers-g : y ≡ numberOf (taken epsilon 0) (down epsilon (g .c) kg)
+      numbers-g = ey ∙ newest-down epsilon (g .c) kg
+
+      pub newest-say : (x ≡ y → ⊥) → ltb x y ≡ rankBefore epsilon f kf g kg
+      newest-say n =
+          ap₂ ltb numbers-f numbers-g
+          ∙ counts-say (taken epsilon 0) (omega (arith, min-le-right 8 (epsilon - 0))) (λ e. n (numbers-f ∙ (e ∙ sym numbers-g)))
+
+      pub older-say : (z w : ℕ) → x ≡ y → z ≡ newestFrom epsilon (f .c) 8 kf → w ≡ newestFrom epsilon (g .c) 8 kg → (z ≡ w → ⊥) → ltb z w ≡ rankBefore epsilon f kf g kg
+      older-say z w e ez ew n =
+          elim (lt-or-ge 8 epsilon) [
+            | inl h ↦
+                let m : ℕ = taken epsilon 8 in
+                let wide : 8 + m ≤ epsilon = omega (arith, min-le-right 8 (epsilon - 8)) in
+                let eight : taken epsilon 0 ≡ 8 = omega arith in
+                let front : numberOf 8 (down epsilon (g .c) kg) ≡ numberOf 8 (down epsilon (f .c) kf) =
+                ap (λ (n : ℕ). numberOf n (down epsilon (g .c) kg)) (sym eight) ∙ (sym numbers-g ∙ (sym e ∙ numbers-f)) ∙ ap (λ (n : ℕ). numberOf n (down epsilon (f .c) kf)) eight in
+                let all : ℕ = numberOf 8 (down epsilon (f .c) kf) * 256 ^ m in
+                let of-f : all + z ≡ numberOf (8 + m) (down epsilon (f .c) kf) =
+                ap (λ (n : ℕ). all + n) (ez ∙ older-down epsilon (f .c) kf) ∙ sym (number-split 8 m (down epsilon (f .c) kf)) in
+                let of-g : all + w ≡ numberOf (8 + m) (down epsilon (g .c) kg) =
+                ap₂ (λ (k n : ℕ). k * 256 ^ m + n) (sym front) (ew ∙ older-down epsilon (g .c) kg) ∙ sym (number-split 8 m (down epsilon (g .c) kg)) in
+                ltb-behind all z w ∙ (ap₂ ltb of-f of-g
+                ∙ counts-say (8 + m) wide (λ t. let s : all + z ≡ all + w = of-f ∙ (t ∙ sym of-g) in n (omega arith)))
+            | inr h ↦ absurd (n (ez ∙ (none-older epsilon (f .c) kf h ∙ sym (ew ∙ none-older epsilon (g .c) kg h))))
+          ]

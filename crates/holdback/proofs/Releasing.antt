@@ -6,39 +6,39 @@ use native.Mathlib.Numerals.{add-one}
 use native.Mathlib.Nat.{add-zero, zero-add, not-suc-le-zero, le-of-suc-le-suc}
 use native.Mathlib.Omega.{arith}
 use mathlib.Core.Path.{_≡_, refl, sym, ap, ap₂, _∙_}
-use mathlib.Core.Bool.{Bool, true, false, _||_, not, cond}
-use mathlib.Core.Logic.{_⊎_, inl, inr}
+use mathlib.Core.Bool.{Bool, true, false, not}
+use mathlib.Core.Logic.{inl, inr}
 use mathlib.Core.List.{List, [], _∷_, _++_, List·Memᴰ}
 use lib.Dec.{ltb, eqb}
 use lib.ListN.{length, take, drop, getD, length-append, length-drop}
 use lib.Seq.{length-take-le, drop-cons, drop-drop, take-add}
-use borrow.Author.Tests.{eq-eqb, ne-eqb, lt-ltb, le-ltb, ltb-true}
-use Rattle.laws.specs.Lists.{any, every, apart, leading, joined, padded, overlay}
-use Rattle.laws.proofs.Numbers.{eq-or-ne, true-or-false, and-left, and-right, false-of-not}
-use Rattle.laws.proofs.Lists.{length-tab, getD-tab, set-tab, tab-ext, leading-le, select-length-le, joined-append, every-mono, any-ext, index-of-mem, mem-of-drop}
-use Rattle.model.specs.Setup.{Setup, depth}
+use borrow.Author.Tests.{lt-ltb, le-ltb, ltb-true}
+use Rattle.laws.specs.Lists.{any, every, apart, leading, joined, overlay}
+use Rattle.laws.proofs.Numbers.{true-or-false, and-left, and-right, false-of-not}
+use Rattle.laws.proofs.Lists.{length-tab, getD-tab, leading-le, select-length-le, joined-append, every-mono, any-ext, index-of-mem, mem-of-drop, length-overlay}
+use Rattle.model.specs.Setup.{Setup, depth, longestFrame, holdbackLength}
 use Rattle.model.specs.Frame.{Frame, twoBytes, twoAt, encode, decode, frameEnd, wellFormed}
 use Rattle.model.specs.Order.{dueNear}
-use Rattle.model.specs.Holdback.{cutFrames, cutBy, heldBytes, held, passes, sameOrigin, soundHoldback, encodeFrames, encodeHoldback}
+use Rattle.model.specs.Holdback.{cutFrames, cutBy, heldBytes, held, passes, sameOrigin, soundHoldback, encodeFrames}
 use Rattle.model.specs.Tick.{dueBefore, holdbackSize}
 use Rattle.timestamp.specs.declared.ordering.Rank.{Rank}
 use Rattle.splice.specs.Bytes.{pasted}
 use Rattle.lemmas.proofs.Bounds.{Limits, QueueOk}
-use Rattle.lemmas.proofs.RoundTrip.{two-at-encode, held-holdback, length-holdback}
+use Rattle.lemmas.proofs.RoundTrip as trips
 use Rattle.lemmas.proofs.Queue.{sound-queue, queue-rest, depth-small, bytes-sound, frames-sound}
 use Rattle.holdback.specs.Queue.{frameStart, bytesAt, frameAt, rankOf, Spans}
 use Rattle.holdback.specs.Sound.{Recent}
-use Rattle.holdback.specs.Seen.{Placeable, Within, tableLength, rankSlot, slotOf, seenTable, withoutMark}
+use Rattle.holdback.specs.Seen.{Placeable, Within, tableLength, rankSlot, slotOf, seenTable, hasMark, withoutMark, isMarked}
 use Rattle.holdback.specs.Starts.{startUnit, startPlaces, framesBelow, startOf, startsOf, loweredStarts}
 use Rattle.holdback.specs.Early.{SoundBy, earlyFrames, otherFrames, EarlyFront, releasedBuffer, Left, Released}
 use Rattle.holdback.proofs.RoundTrip.{Bytes, passing}
 use Rattle.holdback.proofs.Frames.{start-zero, held-tab, lent}
 use Rattle.holdback.proofs.Judging.{fitting, frame-fits, sound-few, sound-passes, sound-ordered, sound-single, sound-frames, sound-formed}
 use Rattle.holdback.proofs.Searching.{Led, led-starts, led-frame, led-turns}
-use Rattle.holdback.proofs.Seen.{fitting-placeable, within, rank-slot, same-slot, length-seen}
+use Rattle.holdback.proofs.Seen.{fitting-placeable, within, rank-slot, same-slot, seen-own, seen-less, length-seen}
 use Rattle.holdback.proofs.Order.{early-prefix, early-rest}
 use Rattle.holdback.proofs.Started.{changed-long, changed-at, starts-at, starts-by, start-parts, spans-small, leading-mono}
-use Rattle.holdback.proofs.Changes.{pieces, length-held}
+use Rattle.holdback.proofs.Changes.{Pieces, pieces, written-over, length-held}
 use Rattle.holdback.proofs.Placed.{written-start}
 
 -- ---- the front
@@ -79,19 +79,6 @@ unfolding apart
 apart-drop zero l h = h
 apart-drop (suc i) [] h = refl
 apart-drop (suc i) (x ∷ l) h = apart-drop i l (and-right (not (any (sameOrigin x) l)) (apart sameOrigin l) h)
-
--- one place not marked any more: no other frame has it
-unmarked-at : (i k : ℕ) (b : Bool) → (k ≡ i → b ≡ false) → (k ≡ i) ⊎ (k ≡ i → ⊥) → _≡_ {A = ℕ} (cond (eqb k i) 0 (cond (eqb i k || b) 1 0)) (cond b 1 0)
-unmarked-at i k b none (inl e) = rw (eq-eqb k i e, none e)
-unmarked-at i k b none (inr n) = rw (ne-eqb k i n, ne-eqb i k (λ e. n (sym e)))
-
-seen-less : (s : Setup) (v : ℕ) (f : Frame) (rest : List Frame) → any (λ g. eqb (slotOf s v g) (slotOf s v f)) rest ≡ false
-    → withoutMark (seenTable s v (f ∷ rest)) (slotOf s v f) ≡ seenTable s v rest
-unfolding seenTable any
-seen-less s v f rest none =
-    set-tab tableLength (λ i. cond (any (λ g. eqb (slotOf s v g) i) (f ∷ rest)) 1 0) (slotOf s v f) 0
-    ∙ tab-ext tableLength (λ i. cond (eqb i (slotOf s v f)) 0 (cond (any (λ g. eqb (slotOf s v g) i) (f ∷ rest)) 1 0)) (λ i. cond (any (λ g. eqb (slotOf s v g) i) rest) 1 0)
-    (λ i h. unmarked-at (slotOf s v f) i (any (λ g. eqb (slotOf s v g) i) rest) (λ e. rw e none) (eq-or-ne i (slotOf s v f)))
 
 -- a walk over the front that has taken the marks of i frames away
 pub record Unmarking (s : Setup) (v least : ℕ) (b table : List ℕ) (index i at : ℕ) : Type 0 where
@@ -143,13 +130,23 @@ module _ {s : Setup} {v least : ℕ} {b table : List ℕ} {index i at : ℕ} (wa
     pub unmarking-within : Within s rank
     unmarking-within = within s v limits below own rank (placeable-at i more) own-rank
 
+    marks : table ≡ seenTable s v (own ∷ drop (suc i) (held (s .epsilon) b))
+    marks = walk .table-is ∙ ap (seenTable s v) front
+
+    pub unmarking-there : hasMark table (rankSlot s rank) ≡ true
+    unfolding any isMarked
+    unmarking-there =
+        ap₂ hasMark marks (rank-slot s v own rank own-rank)
+        ∙ seen-own s v limits below (drop (suc i) (held (s .epsilon) b)) (own ∷ drop (suc i) (held (s .epsilon) b)) own (λ p. refl) (placeable-at i more)
+
     pub unmarking-turns : (l : List ℕ) → i < index → l ≡ withoutMark table (rankSlot s rank) → Unmarking s v least b l index (i + 1) (at + size)
+    unfolding any
     unmarking-turns l few e =
         record {
           led = led-turns (walk .led) more es {t = true} refl refl;
           table-is =
-              e ∙ ap₂ withoutMark (walk .table-is ∙ ap (seenTable s v) front) (rank-slot s v own rank own-rank)
-              ∙ seen-less s v own (drop (suc i) (held (s .epsilon) b)) alone
+              e ∙ ap₂ withoutMark marks (rank-slot s v own rank own-rank)
+              ∙ seen-less s v limits below (drop (suc i) (held (s .epsilon) b)) (own ∷ drop (suc i) (held (s .epsilon) b)) own (λ p. refl) (placeable-at i more) alone
               ∙ ap (λ (n : ℕ). seenTable s v (drop n (held (s .epsilon) b))) (sym (add-one i));
           most = omega arith;
         }
@@ -198,9 +195,11 @@ module _ (s : Setup) (v least : ℕ) (b : List ℕ) (sound : soundHoldback s v l
   others-ok : QueueOk s v (s .modulus) others
   others-ok = queue-rest s v least (held (s .epsilon) b) (sound-queue s v least b limits sound)
 
+  parts : (i : ℕ) → i ≤ twoAt b 0 → Pieces (s .epsilon) b i
+  parts i h = pieces (s .epsilon) b clean two (sound-formed s v least b (twoAt b 0) (λ k l. sound-frames s v least b sound k l)) i h
+
   start-old : (i : ℕ) → i ≤ twoAt b 0 → frameStart (s .epsilon) b i ≡ 2 + length (joined encode (take i (held (s .epsilon) b)))
-  start-old i h =
-      pieces (s .epsilon) b clean two (sound-formed s v least b (twoAt b 0) (λ k l. sound-frames s v least b sound k l)) i h .front
+  start-old i h = parts i h .front
 
   -- where they end in a delivery
   pub early-ends : frameStart (s .epsilon) b index ≡ length (encodeFrames (earlyFrames s v b))
@@ -224,22 +223,23 @@ module _ (s : Setup) (v least : ℕ) (b : List ℕ) (sound : soundHoldback s v l
       }
 
   -- once they have left
-  module _ (b′ : List ℕ) (left : b′ ≡ encodeHoldback (length b) others) where
+  module _ (b′ : List ℕ) (left : b′ ≡ releasedBuffer s v b) where
     pub left-held : held (s .epsilon) b′ ≡ others
+    unfolding overlay
     left-held =
         ap (held (s .epsilon)) left
-        ∙ held-holdback (s .epsilon) (length b) others (λ f m. others-ok .frames f m .sound .wide) (omega (arith, others-few, depth-small s limits))
+        ∙ trips.held-frames (s .epsilon) others _ (λ f m. others-ok .frames f m .sound .wide) (omega (arith, others-few, depth-small s limits))
 
     pub left-count : twoAt b′ 0 ≡ twoAt b 0 - index
-    unfolding encodeHoldback padded
-    left-count = ap (λ (l : List ℕ). twoAt l 0) left ∙ two-at-encode others _ ∙ others-number
+    unfolding overlay
+    left-count = ap (λ (l : List ℕ). twoAt l 0) left ∙ trips.two-at-encode others _ ∙ others-number
 
     pub left-sound : soundHoldback s v (s .modulus) b′ ≡ true
-    unfolding encodeHoldback padded
+    unfolding overlay
     left-sound = ap (soundHoldback s v (s .modulus)) left ∙ frames-sound s v (s .modulus) others _ limits others-few others-ok
 
     pub start-left : (i : ℕ) → i ≤ twoAt b 0 - index → frameStart (s .epsilon) b′ i + frameStart (s .epsilon) b index ≡ frameStart (s .epsilon) b (index + i) + 2
-    unfolding encodeHoldback padded
+    unfolding overlay
     start-left i h =
         let q : List Frame = held (s .epsilon) b in
         let x : List ℕ = joined encode (take index q) in
@@ -275,6 +275,9 @@ module _ (s : Setup) (v least : ℕ) (b : List ℕ) (sound : soundHoldback s v l
     pub none-held : held (s .epsilon) b ≡ others
     none-held = sym (ap (λ (n : ℕ). drop n (held (s .epsilon) b)) none) ∙ early-others s v least b sound
 
+    pub none-leave : b ≡ releasedBuffer s v b
+    none-leave = written-over (s .epsilon) b 0 (parts 0 zero-le) ∙ ap (λ (l : List Frame). overlay (encodeFrames l) b) none-held
+
     pub none-sound : soundHoldback s v (s .modulus) b ≡ true
     none-sound =
         bytes-sound s v (s .modulus) b (omega (arith, length-held (s .epsilon) b, sound-few s v least b sound)) (sound-passes s v least b sound)
@@ -288,14 +291,13 @@ module _ {s : Setup} {v : ℕ} {b : List ℕ} {front at : ℕ} (sound : SoundBy 
 
   pub released-none : {table starts d d′ : List ℕ} → front ≡ 0 → table ≡ seenTable s v (held (s .epsilon) b) → starts ≡ startsOf s v b
       → d′ ≡ overlay (encodeFrames (earlyFrames s v b)) d → Released s v b d front at b table starts d′
-  unfolding releasedBuffer
   released-none zero-is marks tabled given =
       let none : length (earlyFrames s v b) ≡ 0 = sym (early .number) ∙ zero-is in
       let same = none-held s v (sound .least) b (sound .sound) limits clean two none in
       record {
         number = early .number;
         ends = at-ends;
-        queue-is = rw (eq-eqb (length (earlyFrames s v b)) 0 none);
+        queue-is = none-leave s v (sound .least) b (sound .sound) limits clean two none;
         held-is = same;
         sound = none-sound s v (sound .least) b (sound .sound) limits clean two none;
         count-is = omega arith;
@@ -305,10 +307,9 @@ module _ {s : Setup} {v : ℕ} {b : List ℕ} {front at : ℕ} (sound : SoundBy 
         given = given;
       }
 
-  pub released-some : {b′ table′ starts′ d d′ : List ℕ} → (front ≡ 0 → ⊥) → Left s v b front b′ table′ starts′
+  pub released-some : {b′ table′ starts′ d d′ : List ℕ} → Left s v b front b′ table′ starts′
       → d′ ≡ overlay (encodeFrames (earlyFrames s v b)) d → Released s v b d front at b′ table′ starts′ d′
-  unfolding releasedBuffer
-  released-some {b′} some left given =
+  released-some {b′} left given =
       let n : ℕ = length (earlyFrames s v b) in
       let inside = index-in s v (sound .least) b (sound .sound) limits clean two in
       let counted = left-count s v (sound .least) b (sound .sound) limits clean two b′ (left .queue-is) in
@@ -317,7 +318,7 @@ module _ {s : Setup} {v : ℕ} {b : List ℕ} {front at : ℕ} (sound : SoundBy 
       record {
         number = early .number;
         ends = at-ends;
-        queue-is = left .queue-is ∙ rw (ne-eqb n 0 (λ e. some (early .number ∙ e)));
+        queue-is = left .queue-is;
         held-is = left-held s v (sound .least) b (sound .sound) limits clean two b′ (left .queue-is);
         sound = left-sound s v (sound .least) b (sound .sound) limits clean two b′ (left .queue-is);
         count-is = counted ∙ ap (λ (m : ℕ). twoAt b 0 - m) (sym (early .number));
@@ -331,18 +332,16 @@ module _ {s : Setup} {v : ℕ} {b : List ℕ} {front at : ℕ} (sound : SoundBy 
 
 -- the buffer keeps its length
 pub released-long : (s : Setup) (v : ℕ) (b : List ℕ) → Limits s → SoundBy s v b → length b ≡ holdbackSize s → length (releasedBuffer s v b) ≡ length b
-unfolding releasedBuffer
-released-long s v b limits sound size = go (eqb (length (earlyFrames s v b)) 0)
+unfolding encodeFrames holdbackLength
+released-long s v b limits sound size =
+    length-overlay (encodeFrames (otherFrames s v b)) b
+    (rw size (trips.length-frames encode (otherFrames s v b) (longestFrame (s .epsilon)) (depth (s .n) (s .epsilon) (s .delta)) (λ f m. trips.frame-fits s f (others-ok .frames f m)) few))
   where
     others-ok : QueueOk s v (s .modulus) (otherFrames s v b)
     others-ok = queue-rest s v (sound .least) (held (s .epsilon) b) (sound-queue s v (sound .least) b limits (sound .sound))
 
     few : length (otherFrames s v b) ≤ depth (s .n) (s .epsilon) (s .delta)
     few = omega (arith, select-length-le (λ f. not (dueBefore s v f)) (held (s .epsilon) b), length-held (s .epsilon) b, sound-few s v (sound .least) b (sound .sound))
-
-    go : (t : Bool) → length (cond t b (encodeHoldback (length b) (otherFrames s v b))) ≡ length b
-    go true = refl
-    go false = ap (λ (n : ℕ). length (encodeHoldback n (otherFrames s v b))) size ∙ length-holdback s (otherFrames s v b) limits (others-ok .frames) few ∙ sym size
 
 -- ---- the delivery
 

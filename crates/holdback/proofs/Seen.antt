@@ -1,16 +1,16 @@
--- The table of origins: looking up, marking, and the empty table.
+-- The table of origins: looking up, marking, taking a mark away, and the empty table.
 -- Assumes nothing.
-use Prim.Native.Nat.{ℕ, _<_}
+use Prim.Native.Nat.{ℕ, _*_, _<_}
 use native.Mathlib.Omega.{arith}
 use mathlib.Core.Path.{_≡_, refl, sym, ap, _∙_}
-use mathlib.Core.Bool.{Bool, true, false, _||_, cond}
+use mathlib.Core.Bool.{Bool, true, false, _||_}
 use mathlib.Core.List.{List, [], List·Memᴰ}
 use lib.Dec.{eqb}
-use lib.ListN.{length, getD, replicate}
-use borrow.Author.Tests.{eqb-true, eq-eqb}
+use lib.ListN.{length, replicate}
+use borrow.Author.Tests.{eqb-true, eq-eqb, ne-eqb}
 use Rattle.laws.specs.Lists.{any, insertAt}
-use Rattle.laws.proofs.Numbers.{and-intro, and-left, and-right, same-test, eqb-sym}
-use Rattle.laws.proofs.Lists.{length-tab, getD-tab, set-tab, tab-ext, replicate-tab, any-ext, any-insertAt}
+use Rattle.laws.proofs.Numbers.{and-intro, and-left, and-right, or-left, same-test}
+use Rattle.laws.proofs.Lists.{any-ext, any-insertAt}
 use Rattle.model.specs.Setup.{Setup}
 use Rattle.model.specs.Frame.{Frame, decode}
 use Rattle.model.specs.Order.{readingOf}
@@ -18,13 +18,12 @@ use Rattle.model.specs.Holdback.{sameOrigin}
 use Rattle.timestamp.specs.declared.ordering.Rank.{Rank}
 use Rattle.holdback.specs.Queue.{rankOf}
 use Rattle.holdback.specs.Sound.{Recent}
-use Rattle.holdback.specs.Seen.{Placeable, Within, tableLength, rankSlot, slotOf, seenTable, marked}
+use Rattle.holdback.specs.Seen.{Placeable, Within, wordLength, tableLength, rankSlot, slotOf, seenTable, withoutMark, isMarked, marked}
 use Rattle.lemmas.proofs.Bounds.{Limits}
 use Rattle.holdback.proofs.RoundTrip.{passing}
 use Rattle.lemmas.proofs.Queue.{overdue-from, reading-high}
 use Rattle.lemmas.proofs.Reading.{near-injective}
-use Rattle.splice.specs.Bytes.{cleared, zeros}
-use Rattle.holdback.proofs.Changes.{all-cleared}
+use Rattle.holdback.proofs.Bits.{table-has, table-with, table-without, no-marks, length-table}
 use Rattle.holdback.proofs.Judging.{Fitting}
 
 -- a frame that a sound queue can have is one
@@ -34,7 +33,7 @@ fitting-placeable s v least bytes near fit =
     let o = overdue-from s v least (decode (s .epsilon) bytes) (fit .overdue) in
     record { station-below = p .station-below; r-below = p .r-below; not-before = omega arith }
 
-pub rank-below : (s : Setup) → Limits s → (rank : Rank) → Within s rank → rankSlot s rank < tableLength
+pub rank-below : (s : Setup) → Limits s → (rank : Rank) → Within s rank → rankSlot s rank < tableLength * wordLength
 rank-below s limits rank w = omega arith
 
 -- the place of a frame's rank is the frame's
@@ -51,7 +50,7 @@ module _ (s : Setup) (v : ℕ) (limits : Limits s) (below : v < s .modulus) wher
       let h = reading-high s v f limits in
       record { station-below = omega (arith, w .station-below); not-before = omega (arith, w .not-before); not-past = omega arith }
 
-  slot-below : (f : Frame) → Placeable s v f → slotOf s v f < tableLength
+  slot-below : (f : Frame) → Placeable s v f → slotOf s v f < tableLength * wordLength
   unfolding slotOf
   slot-below f w = rank-below s limits (rankOf s v f) (within f (rankOf s v f) w refl)
 
@@ -84,42 +83,45 @@ module _ (s : Setup) (v : ℕ) (limits : Limits s) (below : v < s .modulus) wher
 
   -- question 16 is one look-up
   pub seen-at : (queue : List Frame) (f : Frame) → ((g : Frame) → List·Memᴰ g queue → Placeable s v g) → Placeable s v f
-      → getD (seenTable s v queue) (slotOf s v f) 0 ≡ cond (any (sameOrigin f) queue) 1 0
-  unfolding seenTable
+      → isMarked s v f (seenTable s v queue) ≡ any (sameOrigin f) queue
+  unfolding isMarked seenTable
   seen-at queue f all w =
-      getD-tab tableLength (λ i. cond (any (λ g. eqb (slotOf s v g) i) queue) 1 0) (slotOf s v f) 0 (slot-below f w)
-      ∙ ap (λ (t : Bool). cond t 1 0)
-      (any-ext (λ g. eqb (slotOf s v g) (slotOf s v f)) (sameOrigin f) queue (λ g m. same-slot f g w (all g m)))
+      table-has (slotOf s v f) (slot-below f w) (λ i. any (λ g. eqb (slotOf s v g) i) queue)
+      ∙ any-ext (λ g. eqb (slotOf s v g) (slotOf s v f)) (sameOrigin f) queue (λ g m. same-slot f g w (all g m))
 
-both-marked : (a b c : Bool) → a ≡ c → _≡_ {A = ℕ} (cond a 1 (cond b 1 0)) (cond (c || b) 1 0)
-both-marked true b true e = refl
-both-marked true b false e = ap (λ (t : Bool). cond t 1 (cond b 1 0)) e
-both-marked false b true e = ap (λ (t : Bool). cond t 1 (cond b 1 0)) e
-both-marked false b false e = refl
+  -- a frame more, wherever it is put: at its own place the table is marked, at no other it changes
+  module _ (queue more : List Frame) (f : Frame) (e : (p : Frame → Bool) → any p more ≡ (p f || any p queue)) where
+    more-own : any (λ g. eqb (slotOf s v g) (slotOf s v f)) more ≡ true
+    more-own =
+        e (λ g. eqb (slotOf s v g) (slotOf s v f)) ∙ or-left (any (λ g. eqb (slotOf s v g) (slotOf s v f)) queue) (eq-eqb (slotOf s v f) (slotOf s v f) refl)
 
--- a frame's place marked: the table of origins of the queue with that frame, wherever it is put
-pub seen-more : (s : Setup) (v : ℕ) (queue more : List Frame) (f : Frame)
-    → ((p : Frame → Bool) → any p more ≡ (p f || any p queue)) → marked s v f (seenTable s v queue) ≡ seenTable s v more
-unfolding marked seenTable
-seen-more s v queue more f e =
-    set-tab tableLength (λ i. cond (any (λ g. eqb (slotOf s v g) i) queue) 1 0) (slotOf s v f) 1
-    ∙ tab-ext tableLength (λ i. cond (eqb i (slotOf s v f)) 1 (cond (any (λ g. eqb (slotOf s v g) i) queue) 1 0)) (λ i. cond (any (λ g. eqb (slotOf s v g) i) more) 1 0)
-    (λ i h.
-    both-marked (eqb i (slotOf s v f)) (any (λ g. eqb (slotOf s v g) i) queue) (eqb (slotOf s v f) i) (eqb-sym i (slotOf s v f))
-    ∙ ap (λ (t : Bool). cond t 1 0) (sym (e (λ g. eqb (slotOf s v g) i))))
+    more-other : (j : ℕ) → (j ≡ slotOf s v f → ⊥) → any (λ g. eqb (slotOf s v g) j) queue ≡ any (λ g. eqb (slotOf s v g) j) more
+    more-other j d = sym (e (λ g. eqb (slotOf s v g) j) ∙ rw (ne-eqb (slotOf s v f) j (λ h. d (sym h))))
 
-pub seen-insert : (s : Setup) (v : ℕ) (queue : List Frame) (place : ℕ) (f : Frame) → marked s v f (seenTable s v queue) ≡ seenTable s v (insertAt place f queue)
-seen-insert s v queue place f = seen-more s v queue (insertAt place f queue) f (λ p. any-insertAt p place f queue)
+    pub seen-more : Placeable s v f → isMarked s v f (seenTable s v queue) ≡ false → marked s v f (seenTable s v queue) ≡ seenTable s v more
+    unfolding isMarked marked seenTable
+    seen-more w new =
+        table-with (slotOf s v f) (slot-below f w) (λ i. any (λ g. eqb (slotOf s v g) i) queue) (λ i. any (λ g. eqb (slotOf s v g) i) more)
+        (sym (table-has (slotOf s v f) (slot-below f w) (λ i. any (λ g. eqb (slotOf s v g) i) queue)) ∙ new) more-own more-other
+
+    -- and one less
+    pub seen-own : Placeable s v f → isMarked s v f (seenTable s v more) ≡ true
+    unfolding isMarked seenTable
+    seen-own w = table-has (slotOf s v f) (slot-below f w) (λ i. any (λ g. eqb (slotOf s v g) i) more) ∙ more-own
+
+    pub seen-less : Placeable s v f → any (λ g. eqb (slotOf s v g) (slotOf s v f)) queue ≡ false → withoutMark (seenTable s v more) (slotOf s v f) ≡ seenTable s v queue
+    unfolding seenTable
+    seen-less w alone =
+        table-without (slotOf s v f) (slot-below f w) (λ i. any (λ g. eqb (slotOf s v g) i) queue) (λ i. any (λ g. eqb (slotOf s v g) i) more) alone more-own more-other
+
+  pub seen-insert : (queue : List Frame) (place : ℕ) (f : Frame) → Placeable s v f → isMarked s v f (seenTable s v queue) ≡ false
+      → marked s v f (seenTable s v queue) ≡ seenTable s v (insertAt place f queue)
+  seen-insert queue place f w new = seen-more queue (insertAt place f queue) f (λ p. any-insertAt p place f queue) w new
 
 pub seen-none : (s : Setup) (v : ℕ) → replicate tableLength 0 ≡ seenTable s v []
 unfolding seenTable any
-seen-none s v = replicate-tab tableLength 0
-
--- a table of origins that is cleared
-pub seen-cleared : (s : Setup) (v : ℕ) (table l : List ℕ) (n : ℕ) → length table ≡ tableLength → n ≡ length table → l ≡ cleared table 0 n → l ≡ seenTable s v []
-seen-cleared s v table l n size e h =
-    h ∙ ap (cleared table 0) e ∙ all-cleared table ∙ ap zeros size ∙ seen-none s v
+seen-none s v = no-marks
 
 pub length-seen : (s : Setup) (v : ℕ) (queue : List Frame) → length (seenTable s v queue) ≡ tableLength
 unfolding seenTable
-length-seen s v queue = length-tab tableLength (λ i. cond (any (λ f. eqb (slotOf s v f) i) queue) 1 0)
+length-seen s v queue = length-table (λ i. any (λ f. eqb (slotOf s v f) i) queue)

@@ -2,13 +2,13 @@
 -- Assumes nothing.
 use Prim.Native.Nat.{ℕ, _+_, _-_, _≤_, _<_, _^_}
 use native.Mathlib.Omega.{arith}
-use mathlib.Core.Path.{_≡_, refl, sym, ap, ap₂, _∙_}
+use mathlib.Core.Path.{_≡_, refl, ap, ap₂, _∙_}
 use mathlib.Core.Bool.{Bool, true, false}
 use mathlib.Core.Logic.{_⊎_, inl, inr}
 use mathlib.Core.List.{List}
-use lib.Dec.{leb}
+use lib.Dec.{leb, eqb}
 use lib.ListN.{length}
-use borrow.Author.Tests.{le-leb, lt-leb, leb-true, eq-eqb, ne-eqb}
+use borrow.Author.Tests.{le-leb, lt-leb, leb-true}
 use Rattle.laws.specs.Lex.{lexCompare, isLess}
 use Rattle.laws.proofs.Numbers.{and-left, and-right}
 use Rattle.model.specs.Setup.{Setup, width}
@@ -35,17 +35,13 @@ use Rattle.holdback.proofs.RoundTrip.{passing}
 
 -- ---- 10 to 12 by their number
 
-pub check-yes : (s : Setup) (bytes : List ℕ) (r : ℕ) → r ≡ firstNo (frameQuestions s bytes) → r ≡ 0 → passes s bytes ≡ true
+pub passes-by : (s : Setup) (bytes : List ℕ) (r : ℕ) → r ≡ firstNo (frameQuestions s bytes) → eqb r 0 ≡ passes s bytes
 unfolding passes
-check-yes s bytes r e z = eq-eqb (firstNo (frameQuestions s bytes)) 0 (sym e ∙ z)
+passes-by s bytes r e = ap (λ (n : ℕ). eqb n 0) e
 
-check-no : (s : Setup) (bytes : List ℕ) (r : ℕ) → r ≡ firstNo (frameQuestions s bytes) → (r ≡ 0 → ⊥) → passes s bytes ≡ false
-unfolding passes
-check-no s bytes r e z = ne-eqb (firstNo (frameQuestions s bytes)) 0 (λ q. z (e ∙ q))
-
-pub unfit-passes : (s : Setup) (v least : ℕ) (bytes : List ℕ) (r : ℕ) → r ≡ firstNo (frameQuestions s bytes) → (r ≡ 0 → ⊥) → fits s v least bytes ≡ false
+pub unfit-passes : (s : Setup) (v least : ℕ) (bytes : List ℕ) → passes s bytes ≡ false → fits s v least bytes ≡ false
 unfolding fits
-unfit-passes s v least bytes r e z = rw (check-no s bytes r e z)
+unfit-passes s v least bytes e = rw e
 
 -- ---- sums
 

@@ -1,6 +1,6 @@
 -- The walk over the frames of a queue: one frame judged, one turn, the end.
 -- Assumes nothing.
-use Prim.Native.Nat.{ℕ, zero, suc, _+_, _*_, _-_, _≤_, _<_, _^_}
+use Prim.Native.Nat.{ℕ, zero, suc, _+_, _*_, _-_, _≤_, _<_, _^_, zero-le}
 use native.Mathlib.Numerals.{add-one}
 use native.Mathlib.Nat.{not-suc-le-zero}
 use native.Mathlib.Omega.{arith}
@@ -8,15 +8,14 @@ use mathlib.Core.Path.{_≡_, refl, sym, ap, ap₂, _∙_}
 use mathlib.Core.Bool.{Bool, true, false, _||_, not, cond}
 use mathlib.Core.Logic.{_⊎_, inl, inr}
 use mathlib.Core.List.{List, [], _∷_, List·Memᴰ}
-use lib.Dec.{eqb}
-use lib.ListN.{length, take, drop, getD, length-drop, length-replicate}
-use borrow.Author.Tests.{eq-eqb, ne-eqb}
+use lib.Dec.{ltb}
+use lib.ListN.{length, take, drop, getD, length-drop, length-replicate, getD-replicate}
+use borrow.Author.Tests.{eq-eqb, ne-eqb, lt-ltb, le-ltb}
 use Rattle.laws.specs.Lists.{tab, any}
 use Rattle.laws.proofs.Numbers.{clash, lt-or-ge, false-of-no, false-of-not, true-of-not, not-of-true, not-of-false, and-intro}
-use Rattle.laws.proofs.Lists.{length-tab, getD-tab, tab-suc, any-append, index-of-mem}
+use Rattle.laws.proofs.Lists.{length-tab, getD-tab, eq-tab, tab-suc, any-append, index-of-mem}
 use Rattle.model.specs.Setup.{Setup, depth}
 use Rattle.model.specs.Frame.{Frame, twoAt, countsOf, decode, payloadCountAt, frameEnd, wellFormed}
-use Rattle.model.specs.Question.{firstNo, frameQuestions}
 use Rattle.model.specs.Holdback.{passes, sameOrigin, soundHoldback}
 use Rattle.model.specs.Order.{dueNear}
 use Rattle.model.specs.Tick.{openingQueue}
@@ -25,69 +24,47 @@ use Rattle.timestamp.specs.declared.ordering.Rank.{Rank}
 use Rattle.timestamp.specs.Ranks.{Ranked}
 use Rattle.holdback.specs.declared.soundness.Judged.{Judged}
 use Rattle.holdback.specs.declared.soundness.Walk.{Walk}
-use Rattle.holdback.specs.Queue.{frameStart, bytesAt, frameAt, rankOf, rankBefore, newestLess, countsAt}
-use Rattle.holdback.specs.Sound.{fits, follows, isNew, frameSound, timely, rankFollows, Compared, unsound, judgedAt, Recent, Walking, Starting, emptied, Walked}
-use Rattle.holdback.specs.Seen.{Placeable, Within, rankSlot, hasMark, withMark, marked, seenTable, tableLength}
-use Rattle.holdback.specs.Starts.{startUnit, startPlaces, front, allFront, placesTo, startOf, startsOf, filled}
-use Rattle.holdback.proofs.RoundTrip.{Bytes, passing}
-use Rattle.holdback.proofs.Frames.{start-zero, start-suc, start-inside, start-within, counts-at, counts-inside, counts-bytes, bytes-drop, held-tab, FormedUpTo, lent, lent-is, next-start, bytes-part}
+use Rattle.holdback.specs.Queue.{frameStart, bytesAt, frameAt, rankOf, rankBefore, countsAt}
+use Rattle.holdback.specs.Sound.{fits, follows, isNew, frameSound, timely, rankFollows, Compared, unsound, judgedAt, Recent, Walking, Starting, noRank, emptied, Walked}
+use Rattle.holdback.specs.Seen.{Placeable, Within, rankSlot, hasMark, withMark, isMarked, marked, seenTable, tableLength}
+use Rattle.holdback.specs.Starts.{startUnit, startPlaces, front, allFront, placesTo, startOf, startsOf, changed, filled}
+use Rattle.holdback.proofs.RoundTrip.{passing}
+use Rattle.holdback.proofs.Frames.{start-zero, start-suc, start-inside, start-within, counts-at, counts-inside, held-tab, FormedUpTo, lent, lent-is, next-start, bytes-part}
 use Rattle.holdback.proofs.Judging.{fitting, frame-fits, frame-follows, frame-new, sound-by, sound-few, sound-frames, sound-formed}
 use Rattle.holdback.proofs.Started.{changed-long, place-inside, sums-rise, starts-by, start-at, filled-more, spans-small}
 use Rattle.holdback.proofs.Seen.{fitting-placeable, within, rank-slot, seen-at, seen-more, length-seen}
-use Rattle.holdback.proofs.Newest.{newest-before}
-use Rattle.holdback.proofs.Testing.{check-yes, unfit-passes, fits-by, ranked, rank-low, rank-fits, places-placed, before-by}
+use Rattle.holdback.proofs.Testing.{unfit-passes, fits-by, ranked, rank-low, rank-fits, places-placed, before-by}
 
--- ---- two frames compared, by the counts that the code lends
+-- ---- two frames compared, by the bytes that the code lends
 
--- a frame with 2ε counts: it starts within the queue, and they end within it
-counts-there : (epsilon : ℕ) (b : List ℕ) (at : ℕ) (rank : Rank) → Ranked epsilon rank (countsAt epsilon b at)
-    → (at ≤ length b) × (payloadCountAt epsilon ≤ length (lent b at))
+-- a frame with 2ε counts starts within the queue
+counts-there : (epsilon : ℕ) (b : List ℕ) (at : ℕ) (rank : Rank) → Ranked epsilon rank (countsAt epsilon b at) → at ≤ length b
 unfolding payloadCountAt
 counts-there epsilon b at rank r =
     let inside : payloadCountAt epsilon ≤ length (drop at b) = counts-inside epsilon (drop at b) (omega (arith, r .lead)) (r .long) in
-    (omega (arith, length-drop at b), rw (lent-is b at) inside)
-
--- its counts as they are lent
-lent-counts : (epsilon : ℕ) (b : List ℕ) (at : ℕ) {kn : List ℕ} → kn ≡ countsOf epsilon (lent b at) → kn ≡ countsAt epsilon b at
-lent-counts epsilon b at e = e ∙ ap (countsOf epsilon) (lent-is b at)
-
-lent-ranked : (epsilon : ℕ) (b : List ℕ) (at : ℕ) {kn : List ℕ} (rank : Rank) → kn ≡ countsOf epsilon (lent b at) → Ranked epsilon rank (countsAt epsilon b at) → Ranked epsilon rank kn
-lent-ranked epsilon b at rank e r = rw (lent-counts epsilon b at e) r
-
-lent-bytes : (epsilon : ℕ) (b : List ℕ) (at : ℕ) {kn : List ℕ} → kn ≡ countsOf epsilon (lent b at) → Bytes b → Bytes kn
-lent-bytes epsilon b at e clean = rw (lent-counts epsilon b at e) (counts-bytes epsilon (drop at b) (bytes-drop at b clean))
+    omega (arith, length-drop at b)
 
 module _ {epsilon : ℕ} {b : List ℕ} {i prev : ℕ} {last : Rank} {at : ℕ} {rank : Rank} (two : Compared epsilon b i prev last at rank) where
-  pub own-there : (at ≤ length b) × (payloadCountAt epsilon ≤ length (lent b at))
+  pub own-there : at ≤ length b
   own-there = counts-there epsilon b at rank (two .own)
 
   module _ (n : i ≡ 0 → ⊥) where
-    pub previous-there : (prev ≤ length b) × (payloadCountAt epsilon ≤ length (lent b prev))
+    pub previous-there : prev ≤ length b
     previous-there = counts-there epsilon b prev last (two .previous n)
 
-    module _ {kb ko : List ℕ} (eb : kb ≡ countsOf epsilon (lent b prev)) (eo : ko ≡ countsOf epsilon (lent b at)) where
-      pub both-ranked : Ranked epsilon last kb × Ranked epsilon rank ko
-      both-ranked = (lent-ranked epsilon b prev last eb (two .previous n), lent-ranked epsilon b at rank eo (two .own))
+    pub both-ranked : Ranked epsilon last (countsOf epsilon (lent b prev)) × Ranked epsilon rank (countsOf epsilon (lent b at))
+    both-ranked = (rw (lent-is b prev) (two .previous n), rw (lent-is b at) (two .own))
 
-      pub follows-some : {t : Bool} → t ≡ rankBefore epsilon last kb rank ko → t ≡ rankFollows epsilon b i prev last at rank
-      unfolding rankFollows
-      follows-some h =
-          rw (ne-eqb i 0 n) (h ∙ ap₂ (λ (x y : List ℕ). rankBefore epsilon last x rank y) (lent-counts epsilon b prev eb) (lent-counts epsilon b at eo))
-
-      pub follows-newest : Bytes b → newestLess epsilon last kb rank ko ≡ true → true ≡ rankFollows epsilon b i prev last at rank
-      follows-newest clean h =
-          follows-some (sym (newest-before epsilon last rank kb ko (lent-bytes epsilon b prev eb clean) (lent-bytes epsilon b at eo clean) h))
+    pub follows-some : {t : Bool} → t ≡ rankBefore epsilon last (countsOf epsilon (lent b prev)) rank (countsOf epsilon (lent b at)) → t ≡ rankFollows epsilon b i prev last at rank
+    unfolding rankFollows
+    follows-some h =
+        rw (ne-eqb i 0 n) (h ∙ ap₂ (λ (x y : List ℕ). rankBefore epsilon last (countsOf epsilon x) rank (countsOf epsilon y)) (lent-is b prev) (lent-is b at))
 
 pub follows-none : (epsilon : ℕ) (b : List ℕ) (i prev : ℕ) (last : Rank) (at : ℕ) (rank : Rank) → i ≡ 0 → true ≡ rankFollows epsilon b i prev last at rank
 unfolding rankFollows
 follows-none epsilon b i prev last at rank e = rw (eq-eqb i 0 e)
 
 -- ---- one frame judged
-
--- a mark is 1
-one-is : (t : Bool) → eqb (cond t 1 0) 1 ≡ t
-one-is true = refl
-one-is false = refl
 
 sound-of-parts : (s : Setup) (v least : ℕ) (b : List ℕ) (i : ℕ) → fits s v least (bytesAt (s .epsilon) b i) ≡ true → follows s v b i ≡ true → isNew s b i ≡ true → frameSound s v least b i ≡ true
 unfolding frameSound
@@ -114,6 +91,16 @@ module _ {s : Setup} {v least : ℕ} {b table : List ℕ} {i prev : ℕ} {last :
 
   pub table-long : length table ≡ tableLength
   table-long = ap length (walk .table-is) ∙ length-seen s v (tab i (frameAt (s .epsilon) b))
+
+  -- the frames so far have places
+  all-placeable : Recent s least → (g : Frame) → List·Memᴰ g (tab i (frameAt (s .epsilon) b)) → Placeable s v g
+  unfolding frameAt
+  all-placeable near g m =
+      let frame : ℕ → Frame = frameAt (s .epsilon) b in
+      let r = index-of-mem (frame 0) m in
+      let l : r .0 < i = rw (length-tab i frame) at (r .1) in
+      let e : frame (r .0) ≡ g = sym (getD-tab i frame (r .0) (frame 0) l) ∙ r .2 in
+      rw (← e) (fitting-placeable s v least (bytesAt (s .epsilon) b (r .0)) near (fitting s v least (bytesAt (s .epsilon) b (r .0)) (frame-fits s v least b (r .0) (walk .each (r .0) l))))
 
   -- the frame before it passes 10 to 12
   passed-before : (k : ℕ) → k < i → passes s (bytesAt (s .epsilon) b k) ≡ true
@@ -155,12 +142,12 @@ module _ {s : Setup} {v least : ℕ} {b table : List ℕ} {i prev : ℕ} {last :
     judged-unfit e = judged-no s v least b i (false-of-no (frameSound s v least b i) (λ h. clash (frame-fits s v least b i h) e))
 
     -- 10 to 12
-    module _ (r : ℕ) (e : r ≡ firstNo (frameQuestions s (take (at + size - at) (drop at b)))) where
-      pub judged-failed : (r ≡ 0 → ⊥) → unsound ≡ judgedAt s v least b i
-      judged-failed n = judged-unfit (ap (fits s v least) (sym part-is) ∙ unfit-passes s v least (take (at + size - at) (drop at b)) r e n)
+    pub judged-failed : passes s (take (at + size - at) (drop at b)) ≡ false → unsound ≡ judgedAt s v least b i
+    judged-failed e = judged-unfit (ap (fits s v least) (sym part-is) ∙ unfit-passes s v least (take (at + size - at) (drop at b)) e)
 
-      pub passed-part : r ≡ 0 → passes s (take (at + size - at) (drop at b)) ≡ true
-      passed-part z = check-yes s (take (at + size - at) (drop at b)) r e z
+    -- where it ends, as it is asked
+    pub asked-to : at + size ≡ at + frameEnd (s .epsilon) (drop at b)
+    asked-to = ap (λ (n : ℕ). at + n) (es ∙ ap (frameEnd (s .epsilon)) (lent-is b at))
 
     -- it passes 10 to 12, and its rank is read
     module _ (passed : passes s (take (at + size - at) (drop at b)) ≡ true) (rank : Rank) (er : rank ≡ rankOf s v (decode (s .epsilon) (take (at + size - at) (drop at b)))) where
@@ -219,23 +206,13 @@ module _ {s : Setup} {v least : ℕ} {b table : List ℕ} {i prev : ℕ} {last :
         pub own-within : Within s rank
         own-within = within s v limits below (frameAt (s .epsilon) b i) rank own-placeable own-rank
 
-        all-placeable : (g : Frame) → List·Memᴰ g (tab i (frameAt (s .epsilon) b)) → Placeable s v g
-        unfolding frameAt
-        all-placeable g m =
-            let frame : ℕ → Frame = frameAt (s .epsilon) b in
-            let r = index-of-mem (frame 0) m in
-            let l : r .0 < i = rw (length-tab i frame) at (r .1) in
-            let e : frame (r .0) ≡ g = sym (getD-tab i frame (r .0) (frame 0) l) ∙ r .2 in
-            rw (← e) (fitting-placeable s v least (bytesAt (s .epsilon) b (r .0)) near (fitting s v least (bytesAt (s .epsilon) b (r .0)) (frame-fits s v least b (r .0) (walk .each (r .0) l))))
-
         looked-up : (t : Bool) → t ≡ hasMark table (rankSlot s rank) → isNew s b i ≡ not t
-        unfolding isNew
+        unfolding isNew isMarked
         looked-up t e =
             let f : Frame = frameAt (s .epsilon) b i in
             let queue : List Frame = tab i (frameAt (s .epsilon) b) in
             let same : t ≡ any (sameOrigin f) queue =
-            e ∙ ap₂ hasMark (walk .table-is) (rank-slot s v f rank own-rank)
-            ∙ ap (λ (n : ℕ). eqb n 1) (seen-at s v limits below queue f all-placeable own-placeable) ∙ one-is (any (sameOrigin f) queue) in
+            e ∙ ap₂ hasMark (walk .table-is) (rank-slot s v f rank own-rank) ∙ seen-at s v limits below queue f (all-placeable near) own-placeable in
             ap not (sym same)
 
         pub judged-repeated : (t : Bool) → t ≡ hasMark table (rankSlot s rank) → t ≡ true → unsound ≡ judgedAt s v least b i
@@ -315,10 +292,26 @@ unfolding any
 any-last p k f = ap (any p) (tab-suc k f) ∙ any-append p (tab k f) (f k ∷ []) ∙ or-swap (any p (tab k f)) (p (f k))
 
 module _ {s : Setup} {v least : ℕ} {b table : List ℕ} {i prev : ℕ} {last : Rank} {at : ℕ} (walk : Walking s v least b table i prev last at) {next : ℕ} {rank : Rank} (right : Right s v least b i next rank) where
-  pub judged-within : Limits s → v < s .modulus → Recent s least → Within s rank
+  right-placeable : Recent s least → Placeable s v (frameAt (s .epsilon) b i)
   unfolding frameAt
-  judged-within limits below near =
-      within s v limits below (frameAt (s .epsilon) b i) rank (fitting-placeable s v least (bytesAt (s .epsilon) b i) near (fitting s v least (bytesAt (s .epsilon) b i) (frame-fits s v least b i (right .sound)))) (right .rank-is)
+  right-placeable near =
+      fitting-placeable s v least (bytesAt (s .epsilon) b i) near (fitting s v least (bytesAt (s .epsilon) b i) (frame-fits s v least b i (right .sound)))
+
+  pub judged-within : Limits s → v < s .modulus → Recent s least → Within s rank
+  judged-within limits below near = within s v limits below (frameAt (s .epsilon) b i) rank (right-placeable near) (right .rank-is)
+
+  -- its origin is new
+  right-new : Limits s → v < s .modulus → Recent s least → isMarked s v (frameAt (s .epsilon) b i) (seenTable s v (tab i (frameAt (s .epsilon) b))) ≡ false
+  unfolding isNew
+  right-new limits below near =
+      let f : Frame = frameAt (s .epsilon) b i in
+      let queue : List Frame = tab i (frameAt (s .epsilon) b) in
+      seen-at s v limits below queue f (all-placeable walk near) (right-placeable near) ∙ false-of-not (any (sameOrigin f) queue) (frame-new s v least b i (right .sound))
+
+  pub judged-new : Limits s → v < s .modulus → Recent s least → hasMark table (rankSlot s rank) ≡ false
+  unfolding isMarked
+  judged-new limits below near =
+      ap₂ hasMark (walk .table-is) (rank-slot s v (frameAt (s .epsilon) b i) rank (right .rank-is)) ∙ right-new limits below near
 
   each-more : (k : ℕ) → k < i + 1 → frameSound s v least b k ≡ true
   each-more k h = go (lt-or-ge k i)
@@ -327,9 +320,9 @@ module _ {s : Setup} {v least : ℕ} {b table : List ℕ} {i prev : ℕ} {last :
       go (inl l) = walk .each k l
       go (inr l) = let e : i ≡ k = omega arith in rw (← e) (right .sound)
 
-  pub walk-turns : (l : List ℕ) → l ≡ withMark table (rankSlot s rank) → Walking s v least b l (i + 1) at rank next
+  pub walk-turns : Limits s → v < s .modulus → Recent s least → (l : List ℕ) → l ≡ withMark table (rankSlot s rank) → Walking s v least b l (i + 1) at rank next
   unfolding marked
-  walk-turns l e =
+  walk-turns limits below near l e =
       let f : Frame = frameAt (s .epsilon) b i in
       let back : i ≡ i + 1 - 1 = omega arith in
       record {
@@ -340,7 +333,7 @@ module _ {s : Setup} {v least : ℕ} {b table : List ℕ} {i prev : ℕ} {last :
         each = each-more;
         table-is =
             e ∙ ap₂ withMark (walk .table-is) (rank-slot s v f rank (right .rank-is))
-            ∙ seen-more s v (tab i (frameAt (s .epsilon) b)) (tab (suc i) (frameAt (s .epsilon) b)) f (λ p. any-last p i (frameAt (s .epsilon) b))
+            ∙ seen-more s v limits below (tab i (frameAt (s .epsilon) b)) (tab (suc i) (frameAt (s .epsilon) b)) f (λ p. any-last p i (frameAt (s .epsilon) b)) (right-placeable near) (right-new limits below near)
             ∙ ap (λ (n : ℕ). seenTable s v (tab n (frameAt (s .epsilon) b))) (sym (add-one i));
       }
 
@@ -409,3 +402,18 @@ walked-yes {s} {v} {least} {b} {count} {i} begin walk filled-all le ge =
           (ap (λ (n : ℕ). tab n (frameAt (s .epsilon) b)) all ∙ sym (held-tab (s .epsilon) b) ∙ rw sound);
       starts-is = filled-all ∙ rw sound;
     }
+
+-- a queue of no frames: the tables of origins and of starts are its own already
+front-filled : (starts : List ℕ) (count : ℕ) → starts ≡ allFront → count ≡ 0 → starts ≡ filled (count * startUnit + 2) 0 startPlaces starts
+unfolding changed
+front-filled starts count e none =
+    let long : length starts ≡ startPlaces = ap length e ∙ length-replicate startPlaces front in
+    eq-tab starts startPlaces (λ k. cond (ltb k 0) (getD starts k 0) (cond (ltb k startPlaces) (count * startUnit + 2) (getD starts k 0))) 0 long
+    (λ k h.
+    let here : getD starts k 0 ≡ 2 = ap (λ (l : List ℕ). getD l k 0) e ∙ getD-replicate startPlaces k 2 0 h in
+    rw (le-ltb k 0 zero-le, lt-ltb k startPlaces h) (here ∙ omega arith))
+
+pub walked-none : {s : Setup} {v least : ℕ} {b table starts : List ℕ} {count : ℕ} → Starting s v b table starts count → count ≡ 0 → Walked s v least b true count 2 table starts
+walked-none {s} {v} {least} {b} {table} {starts} {count} begin none =
+    let walk : Walking s v least b table 0 2 noRank 2 = walk-starts noRank begin in
+    walked-yes begin walk (filling-ends walk (filling-starts (begin .all-front)) (begin .count-is) zero-le (omega arith) (front-filled starts count (begin .all-front) none)) zero-le (omega arith)

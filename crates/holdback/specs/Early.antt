@@ -2,14 +2,13 @@
 -- Assumes nothing.
 use Prim.Native.Nat.{ℕ, _+_, _-_}
 use mathlib.Core.Path.{_≡_}
-use mathlib.Core.Bool.{true, not, cond}
+use mathlib.Core.Bool.{true, not}
 use mathlib.Core.List.{List}
-use lib.Dec.{eqb}
 use lib.ListN.{length}
 use Rattle.laws.specs.Lists.{select, overlay}
 use Rattle.model.specs.Setup.{Setup}
 use Rattle.model.specs.Frame.{Frame, twoAt}
-use Rattle.model.specs.Holdback.{held, soundHoldback, encodeFrames, encodeHoldback}
+use Rattle.model.specs.Holdback.{held, soundHoldback, encodeFrames}
 use Rattle.model.specs.Tick.{dueBefore}
 use Rattle.holdback.specs.Queue.{frameStart, endOf}
 use Rattle.holdback.specs.Sound.{Recent}
@@ -38,14 +37,13 @@ pub record EarlyFront (s : Setup) (v : ℕ) (queue : List ℕ) (index at : ℕ) 
   pub number : index ≡ length (earlyFrames s v queue)
   pub starts : at ≡ frameStart (s .epsilon) queue index
 
--- the buffer once they have left: where there are none it stays as it is
-unfoldable pub releasedBuffer : Setup → ℕ → List ℕ → List ℕ
-releasedBuffer s v queue =
-    cond (eqb (length (earlyFrames s v queue)) 0) queue (encodeHoldback (length queue) (otherFrames s v queue))
+-- the buffer once they have left: the others from its front on, and of the bytes behind the frames those that are not needed stay as they were
+abbrev pub releasedBuffer : Setup → ℕ → List ℕ → List ℕ
+releasedBuffer s v queue = overlay (encodeFrames (otherFrames s v queue)) queue
 
 -- what is left of the queue, with its tables: no due clock is before v
 pub record Left (s : Setup) (v : ℕ) (queue : List ℕ) (index : ℕ) (queue′ table′ starts′ : List ℕ) : Type 0 where
-  pub queue-is : queue′ ≡ encodeHoldback (length queue) (otherFrames s v queue)
+  pub queue-is : queue′ ≡ releasedBuffer s v queue
   pub table-is : table′ ≡ seenTable s v (otherFrames s v queue)
   pub starts-is : starts′ ≡ startsOf s v queue′
 

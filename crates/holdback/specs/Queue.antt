@@ -1,17 +1,15 @@
 -- Where the frames of a hold-back queue (01: the shelf) stand in its bytes, one by one.
 -- Assumes nothing.
-use Prim.Native.Nat.{ℕ, zero, suc, _+_, _-_, _≤_}
+use Prim.Native.Nat.{ℕ, zero, suc, _+_, _≤_}
 use mathlib.Core.Path.{_≡_}
-use mathlib.Core.Bool.{Bool, true, _&&_}
+use mathlib.Core.Bool.{Bool, true}
 use mathlib.Core.List.{List}
-use lib.Dec.{leb, ltb, eqb}
 use lib.ListN.{length, take, drop}
-use Rattle.laws.specs.Lists.{every, placedAt}
-use Rattle.laws.specs.Lex.{lexCompare, isLess, numberOf}
+use Rattle.laws.specs.Lists.{every}
+use Rattle.laws.specs.Lex.{lexCompare, isLess}
 use Rattle.model.specs.Frame.{Frame, twoAt, countsOf, wellFormed, decode, frameEnd}
 use Rattle.model.specs.Holdback.{heldBytes}
 use Rattle.model.specs.Setup.{Setup}
-use Rattle.model.specs.Timestamp.{sum}
 use Rattle.model.specs.Order.{readingOf, keyBy}
 use Rattle.timestamp.specs.declared.ordering.Rank.{Rank}
 use Rattle.timestamp.specs.Ranks.{rankedFrame}
@@ -59,15 +57,6 @@ rankOf s v f = rankAt (readingOf s v f) f
 unfoldable pub rankBefore : ℕ → Rank → List ℕ → Rank → List ℕ → Bool
 rankBefore epsilon f kf g kg =
     isLess (lexCompare (keyBy epsilon (f .reading) (rankedFrame f kf)) (keyBy epsilon (g .reading) (rankedFrame g kg)))
-
--- the eight newest of the ε counts, from offset c down, as one number
-unfoldable pub newest : ℕ → ℕ → List ℕ → ℕ
-newest epsilon c kn = numberOf 8 (λ k. placedAt 0 kn (epsilon + c - k))
-
--- the sums are the same, and the newest counts of the first make the smaller number
-unfoldable pub newestLess : ℕ → Rank → List ℕ → Rank → List ℕ → Bool
-newestLess epsilon f kf g kg =
-    leb 8 epsilon && (eqb (sum (f .reading) (f .c)) (sum (g .reading) (g .c)) && ltb (newest epsilon (f .c) kf) (newest epsilon (g .c) kg))
 
 -- the 2ε counts of a frame of a queue that starts at `at`
 abbrev pub countsAt : ℕ → List ℕ → ℕ → List ℕ

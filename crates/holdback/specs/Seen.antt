@@ -1,6 +1,6 @@
--- The table of origins: for each station and each reading that a frame of a sound queue can have, whether such a frame is there.
+-- The table of origins: for each station and each reading that a frame of a sound queue can have a bit, whether such a frame is there.
 -- Assumes nothing.
-use Prim.Native.Nat.{ℕ, _+_, _-_, _*_, _≤_, _<_}
+use Prim.Native.Nat.{ℕ, zero, suc, _+_, _-_, _*_, _/_, _%_, _^_, _≤_, _<_}
 use mathlib.Core.Bool.{Bool, cond}
 use mathlib.Core.List.{List}
 use lib.Dec.{eqb}
@@ -16,9 +16,13 @@ use Rattle.holdback.specs.Queue.{rankOf}
 abbrev rowLength : ℕ
 rowLength = 128
 
--- places for 16 stations
+-- places in a word of the table, a bit for each
+abbrev pub wordLength : ℕ
+wordLength = 64
+
+-- words for the places of 16 stations
 abbrev pub tableLength : ℕ
-tableLength = 2048
+tableLength = 32
 
 -- a frame that has a place
 pub record Placeable (s : Setup) (v : ℕ) (f : Frame) : Type 0 where
@@ -40,21 +44,30 @@ rankSlot s rank = rank .station * rowLength + (rank .reading + (s .delta + 3 * s
 unfoldable pub slotOf : Setup → ℕ → Frame → ℕ
 slotOf s v f = rankSlot s (rankOf s v f)
 
--- 1 at the place of each frame of the queue, 0 elsewhere
+-- n bits as one number, the first the lowest
+unfoldable pub bitsOf : ℕ → (ℕ → Bool) → ℕ
+bitsOf zero f = 0
+bitsOf (suc n) f = cond (f 0) 1 0 + 2 * bitsOf n (λ k. f (suc k))
+
+-- the words in which the places are marked of which the test holds: place i is bit i % 64 of word i / 64
+unfoldable pub tableOf : (ℕ → Bool) → List ℕ
+tableOf p = tab tableLength (λ w. bitsOf wordLength (λ k. p (w * wordLength + k)))
+
+-- the place of each frame of the queue is marked
 unfoldable pub seenTable : Setup → ℕ → List Frame → List ℕ
-seenTable s v queue = tab tableLength (λ i. cond (any (λ f. eqb (slotOf s v f) i) queue) 1 0)
+seenTable s v queue = tableOf (λ i. any (λ f. eqb (slotOf s v f) i) queue)
 
 -- a place is marked
-abbrev pub hasMark : List ℕ → ℕ → Bool
-hasMark table i = eqb (getD table i 0) 1
+unfoldable pub hasMark : List ℕ → ℕ → Bool
+hasMark table i = eqb (getD table (i / wordLength) 0 / 2 ^ (i % wordLength) % 2) 1
 
--- the table of origins with a place marked
-abbrev pub withMark : List ℕ → ℕ → List ℕ
-withMark table i = set table i 1
+-- the table of origins with a place marked, which was not
+unfoldable pub withMark : List ℕ → ℕ → List ℕ
+withMark table i = set table (i / wordLength) (getD table (i / wordLength) 0 + 2 ^ (i % wordLength))
 
--- the table of origins with a place not marked
-abbrev pub withoutMark : List ℕ → ℕ → List ℕ
-withoutMark table i = set table i 0
+-- the table of origins with a place not marked, which was
+unfoldable pub withoutMark : List ℕ → ℕ → List ℕ
+withoutMark table i = set table (i / wordLength) (getD table (i / wordLength) 0 - 2 ^ (i % wordLength))
 
 -- a frame's place is marked
 unfoldable pub isMarked : Setup → ℕ → Frame → List ℕ → Bool

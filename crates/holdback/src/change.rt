@@ -1,4 +1,4 @@
-// Changes of a hold-back queue in its buffer: emptying, placing a frame, cutting off a prefix.
+// Changes of a hold-back queue in its buffer: emptying, placing a frame, cutting off a prefix, with zeros behind the others or without.
 ghost use mathlib.Core.Path.{_≡_};
 ghost use mathlib.Core.Bool.{true};
 ghost use mathlib.Core.List.{[], _++_};
@@ -59,6 +59,19 @@ pub fn append_prefix(
     splice::copy_into(delivery, given.at, &buf[2..at]);
 }
 
+// The first frames of a queue leave it: the others move to the front. Of the bytes behind the frames those that are not needed stay
+// as they were.
+pub fn cut_front(epsilon: usize, buf: &mut [u8], count: usize, end: usize, prefix: Place)
+    requires { ⌜ Spans epsilon (now buf) count end (prefix .index) (prefix .at) ⌝ }
+    requires { ⌜ count < 65536 ⌝ }
+    ensures { λ _. ⌜ now (buf .exit)
+        ≡ overlay (encodeFrames (drop (prefix .index) (held epsilon (now (buf .entry))))) (now (buf .entry)) ⌝ }
+{
+    let at = prefix.at;
+    splice::move_left(buf, at, 2, end - at);
+    splice::put_u16(buf, 0, count - prefix.index);
+}
+
 // 01, tick 6: they leave the shelf; the others move to the front, "then zeros".
 pub fn cut_prefix(epsilon: usize, buf: &mut [u8], count: usize, end: usize, prefix: Place)
     requires { ⌜ Spans epsilon (now buf) count end (prefix .index) (prefix .at) ⌝ }
@@ -68,7 +81,6 @@ pub fn cut_prefix(epsilon: usize, buf: &mut [u8], count: usize, end: usize, pref
 {
     let at = prefix.at;
     let len = buf.len();
-    splice::cut(buf, end, 2, at - 2);
-    splice::clear(buf, end, len);
-    splice::put_u16(buf, 0, count - prefix.index);
+    cut_front(epsilon, buf, count, end, prefix);
+    splice::clear(buf, end - (at - 2), len);
 }

@@ -19,7 +19,7 @@ ghost use Rattle.setup.specs.Views.{setupOf};
 ghost use Rattle.holdback.specs.Queue.{frameStart, Spans, Stands};
 
 // The frames at the front that are due at most `d` ticks after v: those before the first that is due later.
-pub fn due_prefix(s: Setup, v: usize, d: usize, buf: &[u8], count: usize) -> Place
+fn due_prefix(s: Setup, v: usize, d: usize, buf: &[u8], count: usize) -> Place
     requires { ⌜ (inLimits (setupOf s) ≡ true) × ((v < s .modulus) × (d < 2 ^ 16)) ⌝ }
     requires { ⌜ (soundHoldback (setupOf s) v (s .modulus) (now buf) ≡ true) × ((2 ≤ length (now buf)) × (count ≡ twoAt (now buf) 0)) ⌝ }
     ensures { λ p. ⌜ Stands (s .epsilon) (now (buf .entry)) (leading (dueWithin (setupOf s) v d) (held (s .epsilon) (now (buf .entry)))) (p .index) (p .at) ⌝ }

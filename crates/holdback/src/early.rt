@@ -2,7 +2,7 @@
 // table of starts says where the others begin.
 use crate::change::Place;
 use crate::change::append_prefix;
-use crate::change::cut_prefix;
+use crate::change::cut_front;
 use crate::compare::rank_of;
 use crate::origins::clear_mark;
 use crate::starts::START_UNIT;
@@ -34,7 +34,7 @@ fn early_front(s: Setup, v: usize, buf: &[u8], starts: &[u32]) -> Place
 }
 
 // Takes the marks of the first `index` frames away.
-fn unmark(s: Setup, v: usize, buf: &[u8], index: usize, seen: &mut [u8])
+fn unmark(s: Setup, v: usize, buf: &[u8], index: usize, seen: &mut [u64])
     requires { ⌜ (inLimits (setupOf s) ≡ true) × (v < s .modulus) ⌝ }
     requires { ⌜ SoundBy (setupOf s) v (now buf) × ((2 ≤ length (now buf)) × (index ≤ twoAt (now buf) 0)) ⌝ }
     requires { ⌜ now seen ≡ seenTable (setupOf s) v (held (s .epsilon) (now buf)) ⌝ }
@@ -59,7 +59,7 @@ fn cut_early(
     count: usize,
     end: usize,
     early: Place,
-    seen: &mut [u8],
+    seen: &mut [u64],
     starts: &mut [u32],
 )
     requires { ⌜ (inLimits (setupOf s) ≡ true) × (v < s .modulus) ⌝ }
@@ -70,7 +70,7 @@ fn cut_early(
 {
     unmark(s, v, buf, early.index, seen);
     lower_starts(starts, (early.index * START_UNIT + (early.at - 2)) as u32);
-    cut_prefix(s.epsilon as usize, buf, count, end, early);
+    cut_front(s.epsilon as usize, buf, count, end, early);
 }
 
 // Hands out the frames that are due before v: their number, and where they end in the delivery.
@@ -80,7 +80,7 @@ pub fn release(
     buf: &mut [u8],
     count: usize,
     end: usize,
-    seen: &mut [u8],
+    seen: &mut [u64],
     starts: &mut [u32],
     delivery: &mut [u8],
 ) -> Place

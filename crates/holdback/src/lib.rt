@@ -16,7 +16,6 @@ pub use change::put;
 pub use compare::comes_before;
 pub use compare::rank_of;
 pub use due::cut_due;
-pub use due::due_prefix;
 pub use early::release;
 pub use origins::TABLE_LENGTH;
 pub use origins::mark;

@@ -38,13 +38,12 @@ pub fn place_for(
 {
     let epsilon = s.epsilon as usize;
     let rank = rank_at(reading, frame);
-    let kn = frame::counts_part(epsilon, frame);
     let start = starts[rank_place(s, rank)] as usize;
     let mut i = start / START_UNIT;
     let mut at = start % START_UNIT;
     while i < count {
         let next = at + frame::frame_end(epsilon, &buf[at..]);
-        if !frame_before(s, v, &buf[at..next], rank, kn) {
+        if !frame_before(s, v, &buf[at..next], rank, frame) {
             return Place { index: i, at };
         }
         at = next;

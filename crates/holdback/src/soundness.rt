@@ -1,7 +1,7 @@
 // 01: "It is sound if": one walk over the frames, each judged once, its origin by one look-up.
-use crate::compare::comes_before;
-use crate::compare::newest_less;
+use crate::compare::precedes;
 use crate::compare::rank_of;
+use crate::origins::clear_marks;
 use crate::origins::is_marked;
 use crate::origins::set_mark;
 use crate::starts::FRONT;
@@ -13,12 +13,16 @@ use crate::timing::timely;
 use setup::Setup;
 use setup::depth;
 use timestamp::Rank;
+use timestamp::limits_of;
 ghost use mathlib.Core.Path.{_≡_};
 ghost use mathlib.Core.Bool.{true};
-ghost use Prim.Native.Nat.{_≤_, _<_};
-ghost use lib.ListN.{length, replicate};
+ghost use Prim.Native.Nat.{_+_, _-_, _≤_, _<_};
+ghost use lib.ListN.{length, take, drop, replicate};
 ghost use Rattle.model.specs.Setup.{inLimits};
+ghost use Rattle.model.specs.Frame.{frameEnd};
+ghost use Rattle.model.specs.Holdback.{passes};
 ghost use Rattle.setup.specs.Views.{setupOf};
+ghost use Rattle.timestamp.specs.Window.{limitsOf};
 ghost use Rattle.holdback.specs.Seen.{tableLength};
 ghost use Rattle.holdback.specs.Starts.{allFront};
 ghost use Rattle.holdback.specs.Sound.{emptied, noRank, rankFollows, Compared, unsound, judgedAt, Recent, Walking, Starting, Walked};
@@ -82,12 +86,20 @@ fn follows(
     if i == 0 {
         return true;
     }
-    let before = frame::counts_part(epsilon, &buf[prev..]);
-    let own = frame::counts_part(epsilon, &buf[at..]);
-    if newest_less(epsilon, last, before, rank, own) {
-        return true;
+    precedes(epsilon, last, &buf[prev..], rank, &buf[at..])
+}
+
+// The frame from `at` up to `next` passes 10 to 12. `limits` is what its counts are held to. Where the buffer is too short for a window, the
+// frame is asked by itself.
+fn passes_at(s: Setup, limits: &[u8], buf: &[u8], at: usize, next: usize) -> bool
+    requires { ⌜ (inLimits (setupOf s) ≡ true) × (now limits ≡ limitsOf (s .n) (s .epsilon)) ⌝ }
+    requires { ⌜ (next ≡ at + frameEnd (s .epsilon) (drop at (now buf))) × (next ≤ length (now buf)) ⌝ }
+    ensures { λ b. ⌜ b ≡ passes (setupOf s) (take (next - at) (drop at (now (buf .entry)))) ⌝ }
+{
+    if buf.len() < at + frame::WINDOW {
+        return frame::check(s, &buf[at..next]) == 0;
     }
-    comes_before(epsilon, last, before, rank, own)
+    frame::check_window(s, limits, &buf[at..]) == 0
 }
 
 // Judges frame i, which starts at `at`; the one before it starts at `prev` and has the rank `last`. Once it passes 10 to 12, its rank
@@ -96,14 +108,15 @@ fn judge_at(
     s: Setup,
     v: usize,
     least: usize,
+    limits: &[u8],
     buf: &[u8],
-    seen: &[u8],
+    seen: &[u64],
     i: usize,
     prev: usize,
     last: Rank,
     at: usize,
 ) -> Judged
-    requires { ⌜ (inLimits (setupOf s) ≡ true) × (v < s .modulus) ⌝ }
+    requires { ⌜ (inLimits (setupOf s) ≡ true) × ((v < s .modulus) × (now limits ≡ limitsOf (s .n) (s .epsilon))) ⌝ }
     requires { ⌜ Recent (setupOf s) least × Walking (setupOf s) v least (now buf) (now seen) i prev last at ⌝ }
     ensures { λ r. ⌜ r ≡ judgedAt (setupOf s) v least (now (buf .entry)) i ⌝ }
 {
@@ -112,7 +125,7 @@ fn judge_at(
     if buf.len() < next {
         return unsound();
     }
-    if frame::check(s, &buf[at..next]) != 0 {
+    if !passes_at(s, limits, buf, at, next) {
         return unsound();
     }
     let rank = rank_of(s, v, &buf[at..next]);
@@ -135,26 +148,26 @@ fn walk_frames(
     s: Setup,
     v: usize,
     least: usize,
+    limits: &[u8],
     buf: &[u8],
     count: usize,
-    seen: &mut [u8],
+    seen: &mut [u64],
     starts: &mut [u32],
 ) -> Walk
-    requires { ⌜ (inLimits (setupOf s) ≡ true) × (v < s .modulus) ⌝ }
+    requires { ⌜ (inLimits (setupOf s) ≡ true) × ((v < s .modulus) × (now limits ≡ limitsOf (s .n) (s .epsilon))) ⌝ }
     requires { ⌜ Recent (setupOf s) least × Starting (setupOf s) v (now buf) (now seen) (now starts) count ⌝ }
     ensures { λ w. ⌜ Walked (setupOf s) v least (now (buf .entry)) (w .sound) (w .count) (w .end) (now (seen .exit)) (now (starts .exit)) ⌝ }
 {
-    let slots = seen.len();
     let mut i = 0;
     let mut prev = 2;
     let mut at = 2;
     let mut last = no_rank();
     let mut filled = 0;
     while i < count {
-        let judged = judge_at(s, v, least, buf, seen, i, prev, last, at);
+        let judged = judge_at(s, v, least, limits, buf, seen, i, prev, last, at);
         let next = judged.end;
         if next == 0 {
-            splice::clear(seen, 0, slots);
+            clear_marks(seen);
             fill(starts, 0, START_PLACES, FRONT);
             return emptied();
         }
@@ -183,13 +196,13 @@ fn walk_frames(
 // 01: "It is sound if it holds at most n(δ + 3ε) frames that pass 10 to 12, strictly in order, no station and r twice, each
 // sum at most ε − 1 past v and each sum + δ + ε not before v", here not before the least due clock allowed. The tables of origins
 // and of starts are lent, the one empty and the other with the front in each place, and come back for the frames of the queue, or
-// of an empty one.
+// of an empty one. Where there are no frames, they are that already.
 pub fn sound(
     s: Setup,
     v: usize,
     least: usize,
     buf: &[u8],
-    seen: &mut [u8],
+    seen: &mut [u64],
     starts: &mut [u32],
 ) -> Walk
     requires { ⌜ (inLimits (setupOf s) ≡ true) × ((v < s .modulus) × Recent (setupOf s) least) ⌝ }
@@ -200,5 +213,11 @@ pub fn sound(
     if depth(s.n as usize, s.epsilon as usize, s.delta as usize) < count {
         return emptied();
     }
-    walk_frames(s, v, least, buf, count, seen, starts)
+    if count == 0 {
+        let sound = true;
+        let end = 2;
+        return Walk { sound, count, end };
+    }
+    let limits = limits_of(s.n as usize, s.epsilon as usize);
+    walk_frames(s, v, least, &limits, buf, count, seen, starts)
 }

@@ -1,8 +1,8 @@
 -- Laws of the lexicographic order: it is a strict total order, and the first difference decides it.
 -- Assumes nothing.
-use Prim.Native.Nat.{ℕ, zero, suc, _+_, _*_, _≤_, _<_, zero-le, suc-le-suc, compare, Ordering, Ordering·lt, Ordering·eq, Ordering·gt}
+use Prim.Native.Nat.{ℕ, zero, suc, _+_, _*_, _/_, _^_, _≤_, _<_, zero-le, suc-le-suc, compare, Ordering, Ordering·lt, Ordering·eq, Ordering·gt}
 use native.Mathlib.Omega.{arith}
-use native.Mathlib.Nat.{suc-inj, not-suc-le-zero, le-of-suc-le-suc}
+use native.Mathlib.Nat.{suc-inj, not-suc-le-zero, le-of-suc-le-suc, add-zero, add-suc, mul-comm, mul-assoc, pow-zero, pow-suc, div-one, div-div-eq-div-mul}
 use mathlib.Core.Bool.{true}
 use mathlib.Core.List.{List, [], _∷_, _++_}
 use mathlib.Core.Logic.{_⊎_, inl, inr}
@@ -260,3 +260,19 @@ number-less (suc n) f g p q h =
           (ap (λ (l : List ℕ). lexCompare l (tab n g)) (number-same n f g p q e) ∙ lex-refl (tab n g))
           ∙ lex-head-lt (f n) (g n) [] [] d)
     ]
+
+-- the number of the first digits is what is left where those behind them are divided off
+pub number-front : (a b : ℕ) (f : ℕ → ℕ) → ((k : ℕ) → f k < 256) → numberOf (a + b) f / 256 ^ b ≡ numberOf a f
+unfolding numberOf
+number-front a zero f p = rw (add-zero a, pow-zero 256) (div-one (numberOf a f))
+number-front a (suc b) f p =
+    let last : (numberOf (a + b) f * 256 + f (a + b)) / 256 ≡ numberOf (a + b) f = omega (arith, p (a + b)) in
+    rw (add-suc a b, pow-suc 256 b, mul-comm (256 ^ b) 256)
+    (sym (div-div-eq-div-mul (numberOf (a + b) f * 256 + f (a + b)) 256 (256 ^ b)) ∙ (ap (λ (x : ℕ). x / 256 ^ b) last ∙ number-front a b f p))
+
+-- the digits behind the first make a number of their own
+pub number-split : (a b : ℕ) (f : ℕ → ℕ) → numberOf (a + b) f ≡ numberOf a f * 256 ^ b + numberOf b (λ k. f (a + k))
+unfolding numberOf
+number-split a zero f = rw (add-zero a, pow-zero 256) (omega arith)
+number-split a (suc b) f =
+    rw (add-suc a b, pow-suc 256 b, number-split a b f, sym (mul-assoc (numberOf a f) (256 ^ b) 256)) (omega arith)

@@ -2,8 +2,10 @@
 use crate::questions::judge;
 use batch::count_of;
 use batch::walker::walk_step;
-use longframe::stamp_of;
+use longframe::r_of;
+use longframe::six_on;
 use longqueue::append;
+use node::absorb_counts;
 use setup::Setup;
 use timestamp::Timestamp;
 ghost use mathlib.Core.Path.{_≡_};
@@ -17,12 +19,13 @@ ghost use Rattle.long.specs.States.{Timed, Readable, Holding, HeardQueue
 // "c and each count become the larger of own and frame's, both placed relative to v", as plain numbers.
 fn absorb_frame(setup: Setup, clock: usize, stamp: Timestamp, s: &[u8]) -> Timestamp
     requires { ⌜ Readable (setupOf setup) clock (now s) ⌝ }
+    requires { ⌜ stampOf stamp ≡ widened (trimmed (setup .epsilon) (stampOf stamp)) ⌝ }
     ensures { λ r. ⌜ stampOf r
         ≡ widened (longAbsorbBy 0 (setupOf setup) clock (longDecode (setup .epsilon) (now (s .entry))) (trimmed (setup .epsilon) (stampOf stamp))) ⌝ }
 {
-    let epsilon = setup.epsilon as usize;
-    let other = stamp_of(epsilon, s);
-    stamp.absorb(epsilon, clock, other.r, other)
+    let later = six_on(s);
+    let r = r_of(s);
+    absorb_counts(setup, clock, stamp, later, r)
 }
 
 // What hearing answers beside the buffers.

@@ -9,7 +9,6 @@ pub use form::check;
 pub use form::frame_end;
 pub use form::r_of;
 pub use form::six_on;
-pub use form::stamp_of;
 pub use form::station_of;
 pub use limits::BOUND;
 pub use limits::MOST;

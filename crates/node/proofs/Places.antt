@@ -25,7 +25,7 @@ use Rattle.lemmas.proofs.Queue.{Passed, sound-queue, queue-none, queue-take, qu
 use Rattle.setup.proofs.InLimits.{frames-most}
 use Rattle.holdback.specs.Early.{SoundBy, earlyFrames, releasedBuffer, Released}
 use Rattle.holdback.specs.Queue.{frameStart, endOf, Spans}
-use Rattle.holdback.specs.Seen.{Placeable, seenTable, marked}
+use Rattle.holdback.specs.Seen.{Placeable, seenTable, isMarked, marked}
 use Rattle.holdback.specs.Sound as sounds
 use Rattle.holdback.specs.Starts.{startUnit, allFront, sumPlace, startsOf, Moving, movedStarts}
 use Rattle.holdback.proofs.RoundTrip.{Bytes}
@@ -38,7 +38,7 @@ use Rattle.holdback.proofs.Judging.{sound-few}
 use Rattle.holdback.proofs.Seen.{seen-insert}
 use Rattle.node.specs.Views.{questionsFor}
 use Rattle.node.specs.States.{Timed, Queued, Extent, Taking, keptBuffer, QueueJudged, earlyOnes, HandedEarly, QueueOpened}
-use Rattle.node.proofs.Verdicts.{taken-passed, asked-form, asked-passed, fits-when, late-placeable}
+use Rattle.node.proofs.Verdicts.{taken-passed, asked-form, asked-passed, fits-when, late-placeable, marked-is}
 
 -- ---- a sound queue
 
@@ -175,6 +175,10 @@ module _ {s : Setup} {v : ℕ} {buffer : List ℕ} {place at : ℕ} {bytes : Lis
   pub movable : {starts : List ℕ} → starts ≡ startsOf s v buffer → Moving starts (startUnit + length bytes)
   movable e = moving s v (s .modulus) buffer (k .limits) (t .sound) e (omega (arith, short))
 
+  -- 16: its origin has no mark yet
+  pub unmarked : {table starts : List ℕ} → Queued s v buffer table starts → isMarked s v (decode (s .epsilon) bytes) table ≡ false
+  unmarked {table} {starts} q = marked-is s v buffer table starts (decode (s .epsilon) bytes) (t .timed) q (k .placeable) ∙ k .passed .new
+
   -- what placing it is told
   pub spans : {count stop : ℕ} → Extent (s .epsilon) buffer count stop → Spans (s .epsilon) buffer count stop place at
   spans e =
@@ -237,7 +241,7 @@ module _ {s : Setup} {v : ℕ} {buffer : List ℕ} {place at : ℕ} {bytes : Lis
             size = ap length e ∙ (length-overlay (encodeFrames more) buffer long ∙ t .size);
             sound = ap (soundHoldback s v (s .modulus)) e ∙ frames-sound s v (s .modulus) more (drop (length (encodeFrames more)) buffer) (k .limits) (omega (arith, more-room)) more-ok;
             table-is =
-                h′ ∙ (ap (marked s v (decode (s .epsilon) bytes)) (old .table-is) ∙ (seen-insert s v (held (s .epsilon) buffer) place (decode (s .epsilon) bytes) ∙ sym (ap (seenTable s v) more-held)));
+                h′ ∙ (ap (marked s v (decode (s .epsilon) bytes)) (old .table-is) ∙ (seen-insert s v (k .limits) (k .below) (held (s .epsilon) buffer) place (decode (s .epsilon) bytes) (k .placeable) (ap (isMarked s v (decode (s .epsilon) bytes)) (sym (old .table-is)) ∙ unmarked old) ∙ sym (ap (seenTable s v) more-held)));
             starts-is = more-starts (old .starts-is) own moved;
           }
 

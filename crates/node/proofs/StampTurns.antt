@@ -1,23 +1,38 @@
 -- The hearing loop, the half that goes into the stamp, whatever an entry's share of it is: what is absorbed so far, and what absorbing the rest
 -- makes of it, is what absorbing all entries makes. Assumes nothing.
-use Prim.Native.Nat.{ℕ, zero, suc, _+_, _-_, _≤_, _<_}
+use Prim.Native.Nat.{ℕ, zero, suc, _+_, _*_, _-_, _≤_, _<_}
 use native.Mathlib.Nat.{sub-zero}
 use native.Mathlib.Omega.{arith}
 use mathlib.Core.Path.{_≡_, refl, sym, ap, ap₂, _∙_}
 use mathlib.Core.Bool.{Bool, true, false, cond}
 use mathlib.Core.List.{List, [], _∷_}
-use lib.ListN.{length, drop}
+use lib.ListN.{length, drop, length-take, length-drop}
 use Rattle.model.specs.Setup.{Setup, width}
-use Rattle.model.specs.Timestamp.{Timestamp, trimmed, widened}
+use Rattle.model.specs.Timestamp.{Timestamp, trimmed, widened, absorb}
 use Rattle.model.specs.Order.{readingOf}
-use Rattle.model.specs.Frame.{Frame, decode}
+use Rattle.model.specs.Frame.{Frame, countsOf, payloadCountAt, decode}
 use Rattle.model.specs.Batch.{exactBatch, batchEntries}
 use Rattle.model.specs.Judge.{absorbBy, absorbAll, absorbEach}
 use Rattle.lemmas.proofs.Counts.{trimmed-wide, trimmed-widened, absorb-wide}
+use Rattle.timestamp.specs.Views.{ofCounts}
 use Rattle.batch.specs.Walk.{countOf, entryAt, nextAt}
 use Rattle.batch.proofs.Walk.{walked, batch-walked}
 use Rattle.node.specs.States.{absorbedFor}
 use Rattle.node.proofs.HearTurns.{walk-more}
+
+-- ---- a frame's share, of its c and its counts as the code lends them
+
+pub counts-wide : (epsilon : ℕ) (bytes : List ℕ) → payloadCountAt epsilon ≤ length bytes → length (countsOf epsilon bytes) ≡ 2 * epsilon
+unfolding countsOf payloadCountAt width
+counts-wide epsilon bytes h = rw (length-take, length-drop) (omega arith)
+
+-- its r is not looked at
+pub counts-absorbed : (epsilon at reading : ℕ) (t : Timestamp) (bytes : List ℕ) (c : ℕ) (counts : List ℕ) → c ≡ decode epsilon bytes .stamp .c → counts ≡ countsOf epsilon bytes
+    → absorb epsilon at t reading (ofCounts c counts) ≡ absorb epsilon at t reading (decode epsilon bytes .stamp)
+unfolding absorb decode
+counts-absorbed epsilon at reading t bytes c counts ec e = rw (ec, e)
+
+-- ---- the loop
 
 -- an entry's share of the stamp, by its verdict's number
 abbrev pub Share : Type 0

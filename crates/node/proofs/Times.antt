@@ -66,7 +66,6 @@ pub record Given (s : Setup) (v : ℕ) (bytes : List ℕ) : Type 0 where
   pub limits : Limits s
   pub below : v < s .modulus
   pub frame : FrameOk s (decode (s .epsilon) bytes)
-  pub formed : wellFormed (s .epsilon) bytes ≡ true
   pub r-below : decode (s .epsilon) bytes .stamp .r < s .modulus
   pub c-below : decode (s .epsilon) bytes .stamp .c < s .epsilon
   pub long : payloadCountAt (s .epsilon) ≤ length bytes
@@ -82,7 +81,6 @@ given s v bytes p =
       limits = lim;
       below = p .timed .below;
       frame = ok;
-      formed = form;
       r-below = ok .r-below;
       c-below = ok .sound .close;
       long = omega (arith, formed-from (s .epsilon) bytes form .size);

@@ -2,10 +2,9 @@
 use Prim.Native.Nat.{ℕ, zero, suc, _+_, _≤_}
 use native.Mathlib.Omega.{arith}
 use mathlib.Core.Path.{_≡_, refl, sym, ap, _∙_}
-use mathlib.Core.Bool.{Bool, true, false, cond}
+use mathlib.Core.Bool.{Bool, true, false}
 use mathlib.Core.List.{List, [], _∷_, _++_}
-use lib.Dec.{leb, ltb, eqb}
-use lib.ListN.{getD}
+use lib.Dec.{leb, ltb}
 use borrow.Author.Tests.{leb-true, eq-eqb}
 use Rattle.laws.specs.Lists.{any, every}
 use Rattle.laws.proofs.Numbers.{and-intro}
@@ -19,7 +18,7 @@ use Rattle.lemmas.proofs.Bounds.{Limits, FrameOk, QueueOk}
 use Rattle.lemmas.proofs.Questions.{limits-from, first-yes, other-yes, no-append, yes-append, front-append}
 use Rattle.lemmas.proofs.Queue.{InWindow, Passed, judged-passed, observed-passed, sound-queue, queue-window, overdue-to}
 use Rattle.holdback.specs.Queue.{frameStart}
-use Rattle.holdback.specs.Seen.{Placeable, isMarked, slotOf}
+use Rattle.holdback.specs.Seen.{Placeable, isMarked}
 use Rattle.holdback.specs.Sound.{fits}
 use Rattle.holdback.proofs.Seen.{seen-at}
 use Rattle.node.specs.declared.verdict.Placed.{Placed}
@@ -181,17 +180,11 @@ unfolding timeQuestions timeQuestionsAt notEarly
 time-early listens s v f e =
     first-yes (notEarly s v f) 13 _ (other-yes (leb (s .modulus) (readingOf s v f + (s .delta + s .epsilon))) 12 _ e)
 
-marked-by : (b : Bool) → eqb (cond b 1 0) 1 ≡ b
-marked-by true = refl
-marked-by false = refl
-
 -- question 16 by one look-up
 pub marked-is : (s : Setup) (v : ℕ) (buffer table starts : List ℕ) (f : Frame) → Timed s v → Queued s v buffer table starts → Placeable s v f
     → isMarked s v f table ≡ any (sameOrigin f) (held (s .epsilon) buffer)
-unfolding isMarked
 marked-is s v buffer table starts f t q w =
     let lim : Limits s = limits-from s (t .limits) in
     let ok : QueueOk s v (s .modulus) (held (s .epsilon) buffer) = sound-queue s v (s .modulus) buffer lim (q .sound) in
-    ap (λ (l : List ℕ). eqb (getD l (slotOf s v f) 0) 1) (q .table-is)
-    ∙ (ap (λ (x : ℕ). eqb x 1) (seen-at s v (limits-from s (t .limits)) (t .below) (held (s .epsilon) buffer) f (λ g m. placeable-of s v g (queue-window s v (s .modulus) (held (s .epsilon) buffer) lim ok g m) (ok .frames g m)) w)
-    ∙ marked-by (any (sameOrigin f) (held (s .epsilon) buffer)))
+    ap (isMarked s v f) (q .table-is)
+    ∙ seen-at s v lim (t .below) (held (s .epsilon) buffer) f (λ g m. placeable-of s v g (queue-window s v (s .modulus) (held (s .epsilon) buffer) lim ok g m) (ok .frames g m)) w

@@ -32,7 +32,7 @@ pub record Readable (s : Setup) (v : ℕ) (bytes : List ℕ) : Type 0 where
   pub timed : Timed s v
   pub passed : firstNo (frameQuestions s bytes) ≡ 0
 
--- what the questions on a frame's time ask of its bytes, with r at a reading, and v at its own: both are numbers of the machine
+-- what the questions on a frame's time, and its counts absorbed, ask of its bytes, with r at a reading, and v at its own: both are numbers of the machine
 pub record Askable (s : Setup) (at reading : ℕ) (bytes : List ℕ) : Type 0 where
   pub n-pos : 1 ≤ s .n
   pub epsilon-pos : 1 ≤ s .epsilon

@@ -40,7 +40,7 @@ pub fn attend(
         (r .repair) (r .taken) (r .delivered) (now (holdback .exit)) (now (verdicts .exit)) (now (delivery .exit)) ⌝ }
     ensures { λ r. ⌜ AttendedStamp listens (setupOf setup) clock least (stampOf stamp) (now (batch .entry)) (now (holdback .entry)) (stampOf (r .stamp)) ⌝ }
 {
-    let mut seen = [0u8; TABLE_LENGTH];
+    let mut seen = [0u64; TABLE_LENGTH];
     let mut starts = [FRONT; START_PLACES];
     let opened = open_queue(
         setup,

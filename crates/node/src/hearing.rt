@@ -6,7 +6,8 @@ use crate::verdict::Verdict;
 use crate::verdict::number_of;
 use batch::count_of;
 use batch::walker::walk_step;
-use frame::stamp_of;
+use frame::c_of;
+use frame::counts_part;
 use holdback::START_UNIT;
 use holdback::mark;
 use holdback::put;
@@ -16,13 +17,13 @@ use setup::Setup;
 use timestamp::Timestamp;
 ghost use mathlib.Core.Path.{_≡_};
 ghost use mathlib.Core.Bool.{cond};
-ghost use Rattle.model.specs.Timestamp.{trimmed, widened};
+ghost use Rattle.model.specs.Timestamp.{trimmed, widened, absorb};
 ghost use Rattle.model.specs.Frame.{decode};
 ghost use Rattle.model.specs.Order.{readingOf};
 ghost use Rattle.model.specs.Judge.{absorbBy};
 ghost use Rattle.setup.specs.Views.{setupOf};
 ghost use Rattle.timestamp.specs.Views.{stampOf};
-ghost use Rattle.node.specs.States.{Timed, Readable, Queued, Extent, Taking, Enqueued, Hearing, HeardQueue, HeardStamp};
+ghost use Rattle.node.specs.States.{Timed, Readable, Askable, Queued, Extent, Taking, Enqueued, Hearing, HeardQueue, HeardStamp};
 
 // "A taken frame goes on the shelf". Its origin is marked, and the starts of the larger sums move. The queue has `count` frames,
 // which end at `end`; the frame's r is read already.
@@ -34,7 +35,7 @@ fn enqueue(
     end: usize,
     s: &[u8],
     holdback: &mut [u8],
-    seen: &mut [u8],
+    seen: &mut [u64],
     starts: &mut [u32],
 )
     requires { ⌜ Taking (setupOf setup) clock (now holdback) (placed .place .index) (placed .place .at) (now s) ⌝ }
@@ -51,8 +52,26 @@ fn enqueue(
     mark(setup, clock, s, reading, seen);
 }
 
-// "c and each count become the larger of own and frame's, both placed relative to v": the frame's r is read already. 02, 2.6: one that
-// only listens keeps "no counts", and its stamp stays.
+// "c and each count become the larger of own and frame's, both placed relative to v": of a frame whose r is read already, and v at its own
+// reading: B at a station, and v itself where clocks are long (02, 2.9). Its counts are read where they stand.
+pub fn absorb_counts(
+    setup: Setup,
+    at: usize,
+    stamp: Timestamp,
+    s: &[u8],
+    reading: usize,
+) -> Timestamp
+    requires { ⌜ Askable (setupOf setup) at reading (now s) × (stampOf stamp ≡ widened (trimmed (setup .epsilon) (stampOf stamp))) ⌝ }
+    ensures { λ r. ⌜ stampOf r
+        ≡ widened (absorb (setup .epsilon) at (trimmed (setup .epsilon) (stampOf stamp)) reading (decode (setup .epsilon) (now (s .entry)) .stamp)) ⌝ }
+{
+    let epsilon = setup.epsilon as usize;
+    let c = c_of(s);
+    let counts = counts_part(epsilon, s);
+    stamp.absorb(epsilon, at, reading, c, counts)
+}
+
+// The same of a taken frame at a station. 02, 2.6: one that only listens keeps "no counts", and its stamp stays.
 fn absorb_frame(
     setup: Setup,
     clock: usize,
@@ -62,16 +81,15 @@ fn absorb_frame(
     reading: usize,
 ) -> Timestamp
     requires { ⌜ Readable (setupOf setup) clock (now s) × (reading ≡ readingOf (setupOf setup) clock (decode (setup .epsilon) (now s))) ⌝ }
+    requires { ⌜ stampOf stamp ≡ widened (trimmed (setup .epsilon) (stampOf stamp)) ⌝ }
     ensures { λ r. ⌜ stampOf r ≡ cond listens (stampOf stamp)
         (widened (absorbBy 0 (setupOf setup) clock (decode (setup .epsilon) (now (s .entry))) (trimmed (setup .epsilon) (stampOf stamp)))) ⌝ }
 {
     if listens {
         return stamp;
     }
-    let epsilon = setup.epsilon as usize;
     let modulus = setup.modulus as usize;
-    let other = stamp_of(epsilon, s);
-    stamp.absorb(epsilon, modulus, reading, other)
+    absorb_counts(setup, modulus, stamp, s, reading)
 }
 
 // What hearing answers beside the buffers.
@@ -97,7 +115,7 @@ pub fn hear(
     count: usize,
     end: usize,
     holdback: &mut [u8],
-    seen: &mut [u8],
+    seen: &mut [u64],
     starts: &mut [u32],
     verdicts: &mut [u8],
 ) -> Heard

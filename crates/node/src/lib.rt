@@ -14,6 +14,7 @@ pub use attending::attend;
 pub use call::check_buffers;
 pub use clock::OpenedClock;
 pub use clock::open_clock;
+pub use hearing::absorb_counts;
 pub use questions::check_time;
 pub use ticking::Answer;
 pub use ticking::Opening;

@@ -51,7 +51,7 @@ pub fn judge(
     listens: bool,
     holdback: &[u8],
     count: usize,
-    seen: &[u8],
+    seen: &[u64],
     starts: &[u32],
     s: &[u8],
 ) -> Verdict

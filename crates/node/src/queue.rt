@@ -32,7 +32,7 @@ fn judge_queue(
     clock: usize,
     least: usize,
     holdback: &mut [u8],
-    seen: &mut [u8],
+    seen: &mut [u64],
     starts: &mut [u32],
 ) -> JudgedQueue
     requires { ⌜ Timed (setupOf setup) clock × Recent (setupOf setup) least ⌝ }
@@ -74,7 +74,7 @@ pub fn open_queue(
     clock: usize,
     least: usize,
     holdback: &mut [u8],
-    seen: &mut [u8],
+    seen: &mut [u64],
     starts: &mut [u32],
     delivery: &mut [u8],
 ) -> OpenedQueue

@@ -1,10 +1,10 @@
 // The poll as a call: any setup, numbers and bytes get an answer, and the shelf is only read.
 use crate::front::Next;
 use crate::front::next_due;
+use crate::front::number_within;
 use holdback::FRONT;
 use holdback::START_PLACES;
 use holdback::TABLE_LENGTH;
-use holdback::due_prefix;
 use holdback::sound;
 use setup::Setup;
 use setup::check_holdback;
@@ -20,6 +20,7 @@ ghost use Rattle.model.specs.Question.{firstNo};
 ghost use Rattle.model.specs.Holdback.{held, soundHoldback};
 ghost use Rattle.model.specs.Poll.{pollQuestions, polledQueue, pollBy, poll};
 ghost use Rattle.setup.specs.Views.{setupOf};
+ghost use Rattle.holdback.specs.Starts.{startsOf};
 ghost use Rattle.polling.specs.Answers.{pollAnswer};
 
 // What the call answers.
@@ -52,36 +53,44 @@ fn nothing(number: u8) -> Polled
     }
 }
 
-// What a sound shelf of `count` frames tells.
-fn tell(setup: Setup, clock: usize, d: usize, holdback: &[u8], count: usize) -> Polled
+// What a sound shelf of `count` frames tells, with its table of starts.
+fn tell(
+    setup: Setup,
+    clock: usize,
+    d: usize,
+    holdback: &[u8],
+    count: usize,
+    starts: &[u32],
+) -> Polled
     requires { ⌜ (inLimits (setupOf setup) ≡ true) × ((clock < setup .modulus) × (d < 65536)) ⌝ }
     requires { ⌜ (soundHoldback (setupOf setup) clock (setup .modulus) (now holdback) ≡ true) × ((2 ≤ length (now holdback)) × (count ≡ twoAt (now holdback) 0)) ⌝ }
+    requires { ⌜ now starts ≡ startsOf (setupOf setup) clock (now holdback) ⌝ }
     ensures { λ r. ⌜ pollAnswer r ≡ pollBy 0 (setupOf setup) clock d (held (setup .epsilon) (now (holdback .entry))) ⌝ }
 {
     let next = next_due(setup, clock, holdback, count);
-    let due = due_prefix(setup, clock, d, holdback, count);
+    let within = number_within(setup, clock, d, holdback, count, starts);
     Polled {
         number: 0,
         next,
-        within: due.index,
+        within,
     }
 }
 
-// The shelf judged "for the last tick's clock v, every due clock past v", and what it tells; `d` is 02's d. The tables of origins
-// and of starts, which the walk fills, are not used.
+// The shelf judged "for the last tick's clock v, every due clock past v", and what it tells; `d` is 02's d. The walk fills
+// the table of origins too, which is not used.
 fn ask_queue(setup: Setup, clock: usize, d: usize, holdback: &[u8]) -> Polled
     requires { ⌜ (inLimits (setupOf setup) ≡ true) × ((clock < setup .modulus) × (d < 65536)) ⌝ }
     requires { ⌜ 2 ≤ length (now holdback) ⌝ }
     ensures { λ r. ⌜ pollAnswer r ≡ pollBy 0 (setupOf setup) clock d (polledQueue (setupOf setup) clock (now (holdback .entry))) ⌝ }
 {
-    let mut seen = [0u8; TABLE_LENGTH];
+    let mut seen = [0u64; TABLE_LENGTH];
     let mut starts = [FRONT; START_PLACES];
     let least = setup.modulus as usize + 1;
     let walk = sound(setup, clock, least, holdback, &mut seen, &mut starts);
     if !walk.sound {
         return nothing(0);
     }
-    tell(setup, clock, d, holdback, walk.count)
+    tell(setup, clock, d, holdback, walk.count, &starts)
 }
 
 // The poll, at most `d` ticks after the clock.

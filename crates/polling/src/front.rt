@@ -1,4 +1,6 @@
-// The front of a sound queue: the frame there is due soonest.
+// The front of a sound queue: the frame there is due soonest, and what is due within some ticks is there.
+use holdback::START_PLACES;
+use holdback::START_UNIT;
 use holdback::clock_at;
 use holdback::due_of;
 use setup::Setup;
@@ -9,8 +11,9 @@ ghost use lib.ListN.{length};
 ghost use Rattle.model.specs.Setup.{inLimits};
 ghost use Rattle.model.specs.Frame.{twoAt};
 ghost use Rattle.model.specs.Holdback.{held, soundHoldback};
-ghost use Rattle.model.specs.Poll.{nextDue};
+ghost use Rattle.model.specs.Poll.{nextDue, numberWithin};
 ghost use Rattle.setup.specs.Views.{setupOf};
+ghost use Rattle.holdback.specs.Starts.{startsOf};
 ghost use Rattle.polling.specs.Answers.{nextOf};
 
 // When something shows next: at no clock, or at that one, modulo B.
@@ -31,4 +34,26 @@ pub fn next_due(s: Setup, v: usize, buf: &[u8], count: usize) -> Next
     let end = 2 + frame::frame_end(s.epsilon as usize, &buf[2..]);
     let due = due_of(s, v, &buf[2..end]);
     Next::At(clock_at(s, v, due))
+}
+
+// 02: the number "due at most d ticks after v". The table of starts has it in place d + 1, as the number of frames whose sums have
+// lower places. Where there is no such place, all frames are due by then.
+pub fn number_within(
+    s: Setup,
+    v: usize,
+    d: usize,
+    buf: &[u8],
+    count: usize,
+    starts: &[u32],
+) -> usize
+    requires { ⌜ (inLimits (setupOf s) ≡ true) × (d < 65536) ⌝ }
+    requires { ⌜ (soundHoldback (setupOf s) v (s .modulus) (now buf) ≡ true) × (count ≡ twoAt (now buf) 0) ⌝ }
+    requires { ⌜ now starts ≡ startsOf (setupOf s) v (now buf) ⌝ }
+    ensures { λ r. ⌜ r ≡ numberWithin (setupOf s) v d (held (s .epsilon) (now (buf .entry))) ⌝ }
+{
+    let place = d + 1;
+    if START_PLACES <= place {
+        return count;
+    }
+    starts[place] as usize / START_UNIT
 }

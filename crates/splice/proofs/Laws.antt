@@ -7,7 +7,7 @@ use Prim.Native.Nat.{ℕ, zero, suc, _+_, _-_, _*_, _/_, _%_, _≤_, _<_}
 use native.Mathlib.Nat.{add-zero}
 use native.Mathlib.Numerals.{add-one}
 use native.Mathlib.Omega.{arith}
-use lib.ListN.{length, take, drop, getD, set, length-append, length-take, length-drop, length-set, length-replicate, replicate-append-replicate, take-append-drop}
+use lib.ListN.{length, take, drop, getD, set, length-append, length-take, length-drop, length-set, length-replicate, take-append-drop}
 use lib.Seq.{length-take-le, take-append-le, drop-append-le, drop-append-add, take-take, take-at, take-all, take-suc, drop-at, drop-drop, drop-length, set-split, getD-take, getD-drop, slice, slice-empty, slice-cons, length-slice}
 use Rattle.laws.specs.Lex.{numberOf}
 use Rattle.laws.proofs.Lex.{number-ext}
@@ -243,18 +243,6 @@ module _ (l : List ℕ) (used at n : ℕ) (h : at + n ≤ used) (room : used ≤
       ∙ rw (moved, e)
       (pasted-right l at (usedFrom l used (at + n)) (used - n) (omega (arith, rest-size)) (zeros n) (omega arith)
       ∙ sym cutOut-pasted)
-
-  end-of-cutOut : used ≡ at + length (usedFrom l used (at + n) ++ zeros n)
-  end-of-cutOut = simp length-append (omega (arith, rest-size, length-zeros n))
-
-  -- and all cleared from there up to `to`
-  pub cutOut-cleared : (to : ℕ) → used ≤ to → cleared (cutOut l used at n) used to ≡ pasted l at (usedFrom l used (at + n) ++ zeros (n + (to - used)))
-  cutOut-cleared to below =
-      ap (λ (r : List ℕ). cleared r used to) cutOut-pasted
-      ∙ pasted-right l at (usedFrom l used (at + n) ++ zeros n) used end-of-cutOut (zeros (to - used)) (omega arith)
-      ∙ ap (pasted l at)
-      (append-assoc (usedFrom l used (at + n)) (zeros n) (zeros (to - used))
-      ∙ ap (λ (r : List ℕ). usedFrom l used (at + n) ++ r) (replicate-append-replicate n (to - used) 0))
 
 -- ---- two bytes stored
 

@@ -1,4 +1,4 @@
-// Changes to a byte buffer in place: copy into it, clear a part of it, insert into and cut from the
+// Changes to a byte buffer in place: copy into it, move a part of it down, clear a part, insert into and cut from the
 // bytes in use, and write a number in two bytes or in eight. And what stands at a position of any bytes, one of them,
 // two or eight as a number, and a part of them.
 //
@@ -29,7 +29,7 @@ pub fn copy_into(dst: &mut [u8], at: usize, src: &[u8])
 // Moves the `len` bytes at index `from` down to index `to`; the two places may overlap. Where they are
 // one place there is nothing to do: the loop would write each byte over itself, and the compiler cannot
 // take many bytes at a time there.
-fn move_left(buf: &mut [u8], from: usize, to: usize, len: usize)
+pub fn move_left(buf: &mut [u8], from: usize, to: usize, len: usize)
     requires { ⌜ (to ≤ from) × (from + len ≤ length (now buf)) ⌝ }
     ensures { λ _. ⌜ now (buf .exit) ≡ pasted (now (buf .entry)) to (part (now (buf .entry)) from len) ⌝ }
 {

@@ -6,3 +6,4 @@ mod Deciding
 mod Readings
 mod Steps
 mod Soundness
+mod Windows

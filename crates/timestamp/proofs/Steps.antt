@@ -1,17 +1,18 @@
--- Each step of a tick on a timestamp with all its places, from what the code's copies of the counts hold.
+-- Each step of a tick on a timestamp with all its places, from what the code's lists of counts hold.
 -- Assumes nothing.
 use Prim.Native.Nat.{ℕ, _+_, _-_, _*_, _≤_, _<_, max}
 use native.Mathlib.Omega.{arith}
 use mathlib.Core.Path.{_≡_, sym, ap, _∙_}
 use mathlib.Core.List.{List}
 use lib.ListN.{length, take, drop, getD, set, replicate, length-replicate, length-take}
-use lib.Seq.{getD-take}
+use lib.Seq.{getD-take, take-all}
 use Rattle.laws.specs.Lists.{tab, padded, placedAt}
 use Rattle.laws.proofs.Lists.{getD-padded, tab-ext}
 use Rattle.model.specs.Setup.{width}
 use Rattle.model.specs.Timestamp.{Timestamp, countAt, sum, trimmed, widened, fresh, replaced, shift, step, absorb, countOwn}
 use Rattle.lemmas.proofs.Counts.{count-moved, count-zero}
-use Rattle.timestamp.specs.Views.{largerAt}
+use Rattle.timestamp.specs.Views.{largerAt, raisedAt}
+use Rattle.timestamp.proofs.Readings.{larger-raised}
 use Rattle.timestamp.proofs.Counts.{set-padded, padded-zeros, padded-more, drop-of-take, trimmed-take}
 
 -- a list of counts with its timestamp's other fields
@@ -64,28 +65,42 @@ module _ (epsilon : ℕ) (t : Timestamp) (small : epsilon ≤ 16) (long : length
         set-padded 32 (take (2 * epsilon) (t .kn)) epsilon (getD (take (2 * epsilon) (t .kn)) epsilon 0 + 1) inside,
       )
 
-  pub absorb-widened : (modulus reading c : ℕ) (f : Timestamp) (kn : List ℕ) → length (f .kn) ≡ 32
-      → c ≡ max (t .c) (reading + f .c - modulus)
-      → kn ≡ padded 32 (tab (2 * epsilon) (largerAt modulus reading (take (2 * epsilon) (t .kn)) (take (2 * epsilon) (f .kn))))
-      → stamp (t .r) c kn ≡ widened (absorb epsilon modulus (trimmed epsilon t) reading (trimmed epsilon f))
+  -- places past the 2ε counts are 0
+  narrow-counts : t ≡ widened (trimmed epsilon t) → t .kn ≡ padded 32 (take (2 * epsilon) (t .kn))
+  unfolding widened
+  narrow-counts narrow = ap (λ (u : Timestamp). u .kn) (narrow ∙ ap widened trimmed-all)
+
+  -- of a frame with that c and those counts, the own ones raised where they stand
+  pub absorb-widened : (modulus reading up down count c d : ℕ) (counts kn : List ℕ) → t ≡ widened (trimmed epsilon t) → length counts ≡ 2 * epsilon
+      → up ≡ reading - modulus → down ≡ modulus - reading → count ≡ 2 * epsilon - (up + down)
+      → kn ≡ tab 32 (raisedAt up (t .kn) (take count (drop down counts))) → d ≡ max (t .c) (reading + c - modulus)
+      → stamp (t .r) d kn ≡ widened (absorb epsilon modulus (trimmed epsilon t) reading (stamp 0 c counts))
   unfolding widened absorb countAt sum width
-  absorb-widened modulus reading c f kn long-f ec e =
-      let trimmed-f : trimmed epsilon f ≡ stamp (f .r) (f .c) (take (2 * epsilon) (f .kn)) = trimmed-take epsilon f (omega arith) in
+  absorb-widened modulus reading up down count c d counts kn narrow wide eu ed ec e el =
       rw (
         trimmed-all,
-        trimmed-f,
-        ec,
+        el,
         e,
-        tab-ext (2 * epsilon) (largerAt modulus reading (take (2 * epsilon) (t .kn)) (take (2 * epsilon) (f .kn)))
-            (λ i. max (placedAt (modulus + epsilon) (take (2 * epsilon) (t .kn)) (modulus + i + epsilon)) (placedAt (reading + epsilon) (take (2 * epsilon) (f .kn)) (modulus + i + epsilon))) one,
+        raised,
+        tab-ext (2 * epsilon) (largerAt modulus reading (take (2 * epsilon) (t .kn)) counts)
+            (λ i. max (placedAt (modulus + epsilon) (take (2 * epsilon) (t .kn)) (modulus + i + epsilon)) (placedAt (reading + epsilon) counts (modulus + i + epsilon))) one,
       )
     where
+      all : take (2 * epsilon) counts ≡ counts
+      all = take-all (2 * epsilon) counts (omega arith)
+
+      raised : tab 32 (raisedAt up (t .kn) (take count (drop down counts))) ≡ padded 32 (tab (2 * epsilon) (largerAt modulus reading (take (2 * epsilon) (t .kn)) counts))
+      raised =
+          ap (λ (l : List ℕ). tab 32 (raisedAt up l (take count (drop down counts)))) (narrow-counts narrow)
+          ∙ larger-raised (2 * epsilon) modulus reading up down count counts eu ed ec 32 (t .kn) (omega arith)
+          ∙ ap (λ (l : List ℕ). padded 32 (tab (2 * epsilon) (largerAt modulus reading (take (2 * epsilon) (t .kn)) l))) all
+
       one : (i : ℕ) → i < 2 * epsilon
-          → largerAt modulus reading (take (2 * epsilon) (t .kn)) (take (2 * epsilon) (f .kn)) i
-          ≡ max (placedAt (modulus + epsilon) (take (2 * epsilon) (t .kn)) (modulus + i + epsilon)) (placedAt (reading + epsilon) (take (2 * epsilon) (f .kn)) (modulus + i + epsilon))
+          → largerAt modulus reading (take (2 * epsilon) (t .kn)) counts i
+          ≡ max (placedAt (modulus + epsilon) (take (2 * epsilon) (t .kn)) (modulus + i + epsilon)) (placedAt (reading + epsilon) counts (modulus + i + epsilon))
       one i h =
           rw (
             count-moved (modulus + epsilon) 0 (take (2 * epsilon) (t .kn)) (modulus + i + epsilon) i (omega arith),
             count-zero (take (2 * epsilon) (t .kn)) i,
-            count-moved (reading + epsilon) reading (take (2 * epsilon) (f .kn)) (modulus + i + epsilon) (modulus + i) (omega arith),
+            count-moved (reading + epsilon) reading counts (modulus + i + epsilon) (modulus + i) (omega arith),
           )

@@ -1,6 +1,7 @@
 // 01: the stamp, what one tick does to it, and the order of two stamps.
 mod ordering;
 mod stamp;
+mod window;
 
 pub use ordering::Comparison;
 pub use ordering::Rank;
@@ -14,3 +15,5 @@ pub use stamp::counts_at_most;
 pub use stamp::counts_of;
 pub use stamp::near;
 pub use stamp::sound_counts;
+pub use window::limits_of;
+pub use window::sound_window;

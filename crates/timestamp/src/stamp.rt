@@ -8,7 +8,7 @@ ghost use Rattle.laws.specs.Lists.{tab, padded};
 ghost use Rattle.model.specs.Setup.{widest};
 ghost use Rattle.model.specs.Timestamp.{atMost, soundTimestamp, soundBeside, soundTables, trimmed, widened};
 ghost use Rattle.model.specs.Timestamp as model;
-ghost use Rattle.timestamp.specs.Views.{stampOf, ofCounts, withinLimits, largerAt, raisedAt};
+ghost use Rattle.timestamp.specs.Views.{stampOf, ofCounts, withinLimits, raisedAt};
 
 // 01: the stamp.
 pub struct Timestamp {
@@ -56,18 +56,30 @@ impl Timestamp {
         }
     }
 
-    // 01, tick 3: "c and each count become the larger of own and frame's, both placed relative to v", which reads B.
-    pub fn absorb(self, epsilon: usize, modulus: usize, reading: usize, f: Timestamp) -> Self
-        requires { ⌜ (epsilon ≤ 16) × ((modulus ≤ 2 ^ 63) × ((reading ≤ 2 ^ 63) × (f .c ≤ 2 ^ 16))) ⌝ }
+    // 01, tick 3: "c and each count become the larger of own and frame's, both placed relative to v", which reads B. The frame's 2ε
+    // counts are a part of it, and the own ones are raised where they stand. A reading past v lays the frame's counts further up, one
+    // before v further down; where none of them meets an own one, the own counts stay.
+    pub fn absorb(
+        self,
+        epsilon: usize,
+        modulus: usize,
+        reading: usize,
+        c: usize,
+        counts: &[u8],
+    ) -> Self
+        requires { ⌜ (epsilon ≤ 16) × ((modulus ≤ 2 ^ 63) × ((reading ≤ 2 ^ 63) × (c ≤ 2 ^ 16))) ⌝ }
+        requires { ⌜ (stampOf self ≡ widened (trimmed epsilon (stampOf self))) × (length (now counts) ≡ 2 * epsilon) ⌝ }
         ensures { λ s. ⌜ stampOf s
-            ≡ widened (model.absorb epsilon modulus (trimmed epsilon (stampOf self)) reading (trimmed epsilon (stampOf f))) ⌝ }
+            ≡ widened (model.absorb epsilon modulus (trimmed epsilon (stampOf self)) reading (ofCounts c (now (counts .entry)))) ⌝ }
     {
+        let up = past(reading, modulus);
+        let down = past(modulus, reading);
+        let count = past(2 * epsilon, up + down);
         let own = self.kn;
-        let other = f.kn;
-        let kn = larger_counts(&own, &other, 2 * epsilon, modulus, reading);
+        let kn = raise(own, up, counts, down, count);
         Timestamp {
             r: self.r,
-            c: larger_lead(self.c, reading + f.c, modulus),
+            c: larger_lead(self.c, reading + c, modulus),
             kn,
         }
     }
@@ -199,7 +211,7 @@ pub fn counts_of(s: &[u8], from: usize, count: usize) -> [u8; Timestamp::WIDTH]
 }
 
 // The larger of two counts.
-fn larger(a: u8, b: u8) -> u8
+pub fn larger(a: u8, b: u8) -> u8
     ensures { λ x. ⌜ x ≡ max a b ⌝ }
 {
     if a < b { b } else { a }
@@ -242,26 +254,6 @@ fn raise(
         i += 1;
     }
     kn
-}
-
-// 01, tick 3: each count "the larger of own and frame's", the frame's placed by its reading. A reading past v lays the frame's
-// counts further up, one before v further down; where none of them meets an own one, the own counts stay.
-fn larger_counts(
-    own: &[u8],
-    other: &[u8],
-    width: usize,
-    modulus: usize,
-    reading: usize,
-) -> [u8; Timestamp::WIDTH]
-    requires { ⌜ (width ≤ 32) × ((width ≤ length (now own)) × ((width ≤ length (now other)) × (modulus ≤ 2 ^ 63))) ⌝ }
-    ensures { λ kn. ⌜ kn
-        ≡ padded widest (tab width (largerAt modulus reading (take width (now (own .entry))) (take width (now (other .entry))))) ⌝ }
-{
-    let up = past(reading, modulus);
-    let down = past(modulus, reading);
-    let count = past(width, up + down);
-    let kn = counts_of(own, 0, width);
-    raise(kn, up, other, down, count)
 }
 
 // 01: "u is (r − v) modulo B".

@@ -4,16 +4,17 @@ use native.Mathlib.Omega.{arith}
 use mathlib.Core.Path.{_≡_, refl, sym, ap, ap₂, _∙_}
 use mathlib.Core.List.{List}
 use lib.ListN.{length, drop, getD}
+use Rattle.laws.specs.Lists.{overlay}
 use Rattle.model.specs.Setup.{Setup}
 use Rattle.model.specs.Frame.{Frame, twoAt}
-use Rattle.model.specs.Holdback.{held, encodeHoldback}
+use Rattle.model.specs.Holdback.{held, encodeFrames}
 use Rattle.setup.specs.Views.{setupOf}
 use Rattle.lemmas.proofs.Bounds.{Limits}
 use Rattle.lemmas.proofs.Questions.{limits-from}
 use Rattle.holdback.specs.Queue.{frameStart, Spans}
 use Rattle.holdback.specs.Seen.{seenTable}
 use Rattle.holdback.specs.Starts.{startUnit, startPlaces, startOf, loweredStarts}
-use Rattle.holdback.specs.Early.{SoundBy, EarlyFront, earlyFrames, otherFrames}
+use Rattle.holdback.specs.Early.{SoundBy, EarlyFront, earlyFrames, otherFrames, releasedBuffer}
 use Rattle.holdback.proofs.RoundTrip.{Bytes}
 use Rattle.holdback.proofs.Changes.{located}
 use Rattle.holdback.proofs.Cut.{count-small}
@@ -95,15 +96,15 @@ lower-starts-requires c κs =
             arith,
             step-is at,
             starts-at (s at) (v at) (b at) tabled k h,
-            start-lowered (s at) (v at) (sound at .least) (b at) (sound at .sound) (limits at) (clean at) (start at .pre .1 .0 .1 .0) (encodeHoldback (length (b at)) (otherFrames (s at) (v at) (b at))) refl k,
+            start-lowered (s at) (v at) (sound at .least) (b at) (sound at .sound) (limits at) (clean at) (start at .pre .1 .0 .1 .0) (releasedBuffer (s at) (v at) (b at)) refl k,
           ),
     )
 
-cast-cut-prefix : tie.Need-cast-cut-prefix
-cast-cut-prefix c = search needs
+cast-cut-front : tie.Need-cast-cut-front
+cast-cut-front c = search needs
 
-cut-prefix-requires : tie.Need-cut-prefix-requires
-cut-prefix-requires c κs =
+cut-front-requires : tie.Need-cut-front-requires
+cut-front-requires c κs =
     let at = c .before .before .before .before .before .before .before .before .before .before .before .before .before .before .before in
     (spans at, omega (arith, count-small (s at) (v at) (sound at .least) (b at) (sound at .sound) (start at .args .count) (limits at) (start at .pre .1 .0 .1 .1)))
 
@@ -121,7 +122,7 @@ returns c =
     let at = c .before .before .before .before .before .before .before .before .before .before .before .before .before .before .before .before .before .before in
     let rest : drop (start at .args .early .index) (held (s at .epsilon) (b at)) ≡ otherFrames (s at) (v at) (b at) =
     ap (λ (n : ℕ). drop n (held (s at .epsilon) (b at))) (front at .number) ∙ early-others (s at) (v at) (sound at .least) (b at) (sound at .sound) in
-    let cut = c .before .before .cut-prefix .ensures ∙ ap (encodeHoldback (length (b at))) rest in
+    let cut = c .before .before .cut-front .ensures ∙ ap (λ (l : List Frame). overlay (encodeFrames l) (b at)) rest in
     record {
       queue-is = cut;
       table-is = c .before .before .before .before .before .before .before .before .before .before .before .before .before .unmark .ensures ∙ ap (seenTable (s at) (v at)) rest;
@@ -140,8 +141,8 @@ cut-early-spec =
     add-lower-starts
     cast-lower-starts
     lower-starts-requires
-    cast-cut-prefix
-    cut-prefix-requires
+    cast-cut-front
+    cut-front-requires
     same-length
     same-length-2
     same-length-3

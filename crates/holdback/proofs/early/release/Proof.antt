@@ -114,7 +114,7 @@ same-length-7 c = search needs
 returns-2 : tie.Need-returns-2
 returns-2 c =
     let at = c .before .before .before .before .before .before .before .before .before .before .before .before .before .before .before .before .before .before .before .before .before .before in
-    released-some (sound at) (limits at) (clean at) (start at .pre .1 .0 .1 .0) (front at) (c .before .before .before .before .before .before .before .before .before .before .if1 .left) (c .before .before .before .before .before .before .cut-early .ensures)
+    released-some (sound at) (limits at) (clean at) (start at .pre .1 .0 .1 .0) (front at) (c .before .before .before .before .before .before .cut-early .ensures)
     (begun-given (s at .epsilon) (start at .args .delivery .now) _ (long at) (c .before .before .before .before .before .before .before .before .before .before .before .before .before .before .before .before .before .before .before .before .put-u16 .ensures) (earlyFrames (s at) (v at) (b at)) _ (first at) (c .before .before .before .before .before .before .before .before .before .before .before .before .before .before .append-prefix .ensures))
 
 pub release-spec : {M : Type 1} → statement M

@@ -13,7 +13,7 @@ use Rattle.holdback.specs.Early.{SoundBy}
 use Rattle.holdback.proofs.RoundTrip.{passing}
 use Rattle.holdback.proofs.Seen.{length-seen}
 use Rattle.holdback.proofs.Searching.{led-inside, led-next, led-passes}
-use Rattle.holdback.proofs.Releasing.{Unmarking, unmarking-starts, unmarking-within, unmarking-turns, unmarking-long, unmarking-ends}
+use Rattle.holdback.proofs.Releasing.{Unmarking, unmarking-starts, unmarking-within, unmarking-there, unmarking-turns, unmarking-long, unmarking-ends}
 use borrow.Author.Needs.{needs}
 use Rattle.holdback.proofs.early.unmark.Statement.{statement}
 use Rattle.holdback.proofs.early.unmark.Tie as tie
@@ -72,9 +72,12 @@ rank-of-requires c κs =
 clear-mark-requires : tie.Need-clear-mark-requires Inv-loop μ-loop
 clear-mark-requires c κs =
     let start = c .before .before .before .before .before .before .before .before .before .before in
-    let walk = c .before .before .before .before .before .before .loop .inv in (
-      (start .pre .0 .0, unmarking-within (walk .1) (more (c .before .before .before .before .before)) (limits start) (start .pre .0 .1) (walk .0 .recent) (c .before .before .before .frame-end .ensures) (c .before .rank-of .result) (c .before .rank-of .ensures)),
-      unmarking-long (walk .1),
+    let walk = c .before .before .before .before .before .before .loop .inv in
+    let more-here = more (c .before .before .before .before .before) in
+    let ends = c .before .before .before .frame-end .ensures in
+    let read = c .before .rank-of in (
+      (start .pre .0 .0, unmarking-within (walk .1) more-here (limits start) (start .pre .0 .1) (walk .0 .recent) ends (read .result) (read .ensures)),
+      (unmarking-long (walk .1), unmarking-there (walk .1) more-here (limits start) (start .pre .0 .1) (walk .0 .recent) ends (read .result) (read .ensures)),
     )
 
 add-i : tie.Need-add-i Inv-loop μ-loop

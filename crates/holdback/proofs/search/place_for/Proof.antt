@@ -9,11 +9,10 @@ use Rattle.setup.specs.Views.{setupOf}
 use Rattle.lemmas.proofs.Questions.{limits-from}
 use Rattle.holdback.specs.Starts.{startPlaces, sumPlace}
 use Rattle.model.specs.Holdback.{passes}
-use mathlib.Core.Path.{_≡_, _∙_}
+use mathlib.Core.Path.{_≡_, refl, _∙_}
 use mathlib.Core.Bool.{true}
 use Rattle.lemmas.proofs.Bounds.{Limits}
-use Rattle.holdback.proofs.RoundTrip.{passing}
-use Rattle.holdback.proofs.Frames.{counts-end, counts-decoded}
+use Rattle.holdback.proofs.Frames.{counts-decoded}
 use Rattle.holdback.specs.Queue.{rankOf}
 use Rattle.holdback.proofs.Testing.{rank-read, fits-passes, ranked, rank-fits, rank-placed, before-rank}
 use Rattle.holdback.proofs.Started.{place-inside, place-at, starts-long, starts-at, start-leads}
@@ -22,10 +21,10 @@ use Rattle.holdback.proofs.search.place_for.Statement.{statement}
 use Rattle.holdback.proofs.search.place_for.Tie as tie
 
 abbrev Inv-loop : tie.InvT-loop
-Inv-loop s v buf count starts frame reading epsilon rank kn start i₀ at₀ i at = Led (λ g. before (setupOf s) v g (decode (s .epsilon) frame)) (setupOf s) v (s .modulus) buf count i at
+Inv-loop s v buf count starts frame reading epsilon rank start i₀ at₀ i at = Led (λ g. before (setupOf s) v g (decode (s .epsilon) frame)) (setupOf s) v (s .modulus) buf count i at
 
 abbrev μ-loop : tie.MeasureT-loop
-μ-loop s v buf count starts frame reading epsilon rank kn start i₀ at₀ i at = count - i
+μ-loop s v buf count starts frame reading epsilon rank start i₀ at₀ i at = count - i
 
 -- the frame passes 10 to 12
 passed : (c : tie.Start Inv-loop μ-loop) → passes (setupOf (c .args .s)) (c .args .frame .now) ≡ true
@@ -46,22 +45,17 @@ own-rank c =
     let start = c .before .before .before .before .before in
     rank-read (setupOf (start .args .s)) (start .args .v) (decode (start .args .s .epsilon) (start .args .frame .now)) (start .args .reading) (c .rank-at .ensures (start .args .s .epsilon)) (start .pre .1 .1 .1 .1)
 
-counts-part-requires : tie.Need-counts-part-requires Inv-loop μ-loop
-counts-part-requires c κs =
-    let start = c .before .before .before .before .before in
-    (limits start .epsilon-most, counts-end (start .args .s .epsilon) (start .args .frame .now) (passing (setupOf (start .args .s)) (start .args .frame .now) (passed start) .well))
-
 rank-place-requires : tie.Need-rank-place-requires Inv-loop μ-loop
 rank-place-requires c κs =
-    let start = c .before .before .before .before .before .before in
-    (start .pre .0 .0, rank-fits (setupOf (start .args .s)) (start .args .v) (start .args .s .modulus) (start .args .frame .now) (c .before .rank-at .result) (limits start) (start .pre .1 .1 .1 .0) (own-rank (c .before)))
+    let start = c .before .before .before .before .before in
+    (start .pre .0 .0, rank-fits (setupOf (start .args .s)) (start .args .v) (start .args .s .modulus) (start .args .frame .now) (c .rank-at .result) (limits start) (start .pre .1 .1 .1 .0) (own-rank c))
 
 -- the frame's sum has a place
-place : (c : tie.After-rank-place Inv-loop μ-loop) → c .rank-place .result ≡ sumPlace (setupOf (c .before .before .before .before .before .before .before .args .s)) (c .before .before .before .before .before .before .before .args .v) (decode (c .before .before .before .before .before .before .before .args .s .epsilon) (c .before .before .before .before .before .before .before .args .frame .now))
+place : (c : tie.After-rank-place Inv-loop μ-loop) → c .rank-place .result ≡ sumPlace (setupOf (c .before .before .before .before .before .before .args .s)) (c .before .before .before .before .before .before .args .v) (decode (c .before .before .before .before .before .before .args .s .epsilon) (c .before .before .before .before .before .before .args .frame .now))
 place c =
-    let start = c .before .before .before .before .before .before .before in
+    let start = c .before .before .before .before .before .before in
     c .rank-place .ensures
-    ∙ rank-placed (setupOf (start .args .s)) (start .args .v) (decode (start .args .s .epsilon) (start .args .frame .now)) (c .before .before .rank-at .result) (own-rank (c .before .before))
+    ∙ rank-placed (setupOf (start .args .s)) (start .args .v) (decode (start .args .s .epsilon) (start .args .frame .now)) (c .before .rank-at .result) (own-rank (c .before))
 
 -- which tells its due clock
 due-is : (c : tie.Start Inv-loop μ-loop) → c .args .s .modulus + sumPlace (setupOf (c .args .s)) (c .args .v) (decode (c .args .s .epsilon) (c .args .frame .now)) ≡ dueNear (setupOf (c .args .s)) (c .args .v) (decode (c .args .s .epsilon) (c .args .frame .now))
@@ -69,7 +63,7 @@ due-is c = place-at (setupOf (c .args .s)) (c .args .v) (c .args .s .modulus) (o
 
 inside : (c : tie.After-rank-place Inv-loop μ-loop) → c .rank-place .result < startPlaces
 inside c =
-    let start = c .before .before .before .before .before .before .before in
+    let start = c .before .before .before .before .before .before in
     omega (arith, place c, due-is start, place-inside (setupOf (start .args .s)) (start .args .v) (start .args .s .modulus) (limits start) (start .args .frame .now) (start .pre .1 .1 .1 .0))
 
 mul-start : tie.Need-mul-start Inv-loop μ-loop
@@ -77,7 +71,7 @@ mul-start c = omega (arith, inside c)
 
 shared-slice-read-start : tie.Need-shared-slice-read-start Inv-loop μ-loop
 shared-slice-read-start c =
-    let start = c .before .before .before .before .before .before .before .before in
+    let start = c .before .before .before .before .before .before .before in
     omega (arith, inside (c .before), starts-long (setupOf (start .args .s)) (start .args .v) (start .args .buf .now) (start .pre .1 .1 .0))
 
 cast-start : tie.Need-cast-start Inv-loop μ-loop
@@ -85,7 +79,7 @@ cast-start c = omega (arith, c .shared-slice-known4 .given (c .before .rank-plac
 
 loop-holds : tie.Need-loop-holds Inv-loop μ-loop
 loop-holds c =
-    let start = c .before .before .before .before .before .before .before .before in
+    let start = c .before .before .before .before .before .before .before in
     let s = setupOf (start .args .s) in
     start-leads s (start .args .v) (start .args .s .modulus) (start .args .buf .now) (limits start) (start .pre .1 .0 .0) (c .before .rank-place .result) (decode (start .args .s .epsilon) (start .args .frame .now)) (start .pre .1 .0 .1 .0) (start .pre .1 .0 .1 .1) (starts-at s (start .args .v) (start .args .buf .now) (start .pre .1 .1 .0) (c .before .rank-place .result) (inside (c .before))) (omega (arith, place (c .before), due-is start))
 
@@ -99,7 +93,7 @@ part-frame-end-end : tie.Need-part-frame-end-end Inv-loop μ-loop
 part-frame-end-end c = search needs
 
 frame-end-requires : tie.Need-frame-end-requires Inv-loop μ-loop
-frame-end-requires c κs = limits (c .before .before .before .before .before .before .before .before .before .before .before) .epsilon-most
+frame-end-requires c κs = limits (c .before .before .before .before .before .before .before .before .before .before) .epsilon-most
 
 add-next : tie.Need-add-next Inv-loop μ-loop
 add-next c = omega (arith, led-next (c .before .before .before .loop .inv) (c .before .before .loop-test .taken) (c .frame-end .ensures))
@@ -115,19 +109,19 @@ part-frame-before-end c = omega (arith, led-next (c .before .before .before .loo
 
 frame-before-requires : tie.Need-frame-before-requires Inv-loop μ-loop
 frame-before-requires c κs =
-    let start = c .before .before .before .before .before .before .before .before .before .before .before .before .before in
-    let read = c .before .before .before .before .before .before .before .before .rank-at in
-    let counts = counts-decoded (start .args .s .epsilon) (start .args .frame .now) (c .before .before .before .before .before .before .before .counts-part .ensures) in
+    let start = c .before .before .before .before .before .before .before .before .before .before .before .before in
+    let read = c .before .before .before .before .before .before .before .rank-at in
+    let counts = counts-decoded (start .args .s .epsilon) (start .args .frame .now) refl in
     let ok = led-passes (c .before .before .before .before .loop .inv) (c .before .before .before .loop-test .taken) (c .before .frame-end .ensures) in
-    (start .pre .0, (ok, ranked (setupOf (start .args .s)) (start .args .v) (start .args .frame .now) _ (read .result) (limits start) (passed start) counts (own-rank (c .before .before .before .before .before .before .before .before))))
+    (start .pre .0, (ok, ranked (setupOf (start .args .s)) (start .args .v) (start .args .frame .now) _ (read .result) (limits start) (passed start) counts (own-rank (c .before .before .before .before .before .before .before))))
 
 returns : tie.Need-returns Inv-loop μ-loop
 unfolding placeFor
 returns c =
-    let start = c .before .before .before .before .before .before .before .before .before .before .before .before .before .before .before in
-    let read = c .before .before .before .before .before .before .before .before .before .before .rank-at in
-    let counts = counts-decoded (start .args .s .epsilon) (start .args .frame .now) (c .before .before .before .before .before .before .before .before .before .counts-part .ensures) in
-    let tested = before-rank (setupOf (start .args .s)) (start .args .v) _ (decode (start .args .s .epsilon) (start .args .frame .now)) (read .result) _ (own-rank (c .before .before .before .before .before .before .before .before .before .before)) counts (c .before .frame-before .ensures) in
+    let start = c .before .before .before .before .before .before .before .before .before .before .before .before .before .before in
+    let read = c .before .before .before .before .before .before .before .before .before .rank-at in
+    let counts = counts-decoded (start .args .s .epsilon) (start .args .frame .now) refl in
+    let tested = before-rank (setupOf (start .args .s)) (start .args .v) _ (decode (start .args .s .epsilon) (start .args .frame .now)) (read .result) _ (own-rank (c .before .before .before .before .before .before .before .before .before)) counts (c .before .frame-before .ensures) in
     led-stops (c .before .before .before .before .before .before .loop .inv) (c .before .before .before .before .before .loop-test .taken) (c .before .before .before .frame-end .ensures) tested (c .if1 .taken)
 
 add-i : tie.Need-add-i Inv-loop μ-loop
@@ -138,10 +132,10 @@ loop-less c = omega arith
 
 loop-again : tie.Need-loop-again Inv-loop μ-loop
 loop-again c =
-    let start = c .before .before .before .before .before .before .before .before .before .before .before .before .before .before .before in
-    let read = c .before .before .before .before .before .before .before .before .before .before .rank-at in
-    let counts = counts-decoded (start .args .s .epsilon) (start .args .frame .now) (c .before .before .before .before .before .before .before .before .before .counts-part .ensures) in
-    let tested = before-rank (setupOf (start .args .s)) (start .args .v) _ (decode (start .args .s .epsilon) (start .args .frame .now)) (read .result) _ (own-rank (c .before .before .before .before .before .before .before .before .before .before)) counts (c .before .frame-before .ensures) in
+    let start = c .before .before .before .before .before .before .before .before .before .before .before .before .before .before in
+    let read = c .before .before .before .before .before .before .before .before .before .rank-at in
+    let counts = counts-decoded (start .args .s .epsilon) (start .args .frame .now) refl in
+    let tested = before-rank (setupOf (start .args .s)) (start .args .v) _ (decode (start .args .s .epsilon) (start .args .frame .now)) (read .result) _ (own-rank (c .before .before .before .before .before .before .before .before .before)) counts (c .before .frame-before .ensures) in
     led-turns (c .before .before .before .before .before .before .loop .inv) (c .before .before .before .before .before .loop-test .taken) (c .before .before .before .frame-end .ensures) tested (c .if1 .left)
 
 returns-2 : tie.Need-returns-2 Inv-loop μ-loop
@@ -156,7 +150,6 @@ place-for-spec =
     μ-loop
     cast-epsilon
     rank-at-requires
-    counts-part-requires
     rank-place-requires
     mul-start
     shared-slice-read-start

@@ -1,7 +1,7 @@
 -- `holdback::soundness::judge_at` meets its contract: each test that fails makes the frame unsound, and all together make it sound. Assumes nothing.
 use native.Mathlib.Omega.{arith}
 use Prim.Native.Nat.{ℕ, _+_, _-_}
-use mathlib.Core.Path.{_≡_, _∙_}
+use mathlib.Core.Path.{_≡_, sym, _∙_}
 use mathlib.Core.Bool.{true}
 use mathlib.Core.List.{List}
 use lib.ListN.{length, take, drop}
@@ -15,7 +15,8 @@ use Rattle.holdback.specs.Queue.{bytesAt}
 use Rattle.holdback.specs.Sound.{fits, Walking}
 use Rattle.holdback.proofs.RoundTrip.{passing}
 use Rattle.holdback.proofs.Frames.{end-small, bytes-take, bytes-drop}
-use Rattle.holdback.proofs.Walks.{at-inside, judged-cut, judged-failed, passed-part, rank-small, judged-untimely, fit-of, compared, judged-unordered, own-within, table-long, judged-repeated, judged-sound}
+use Rattle.holdback.proofs.Walks.{at-inside, judged-cut, judged-failed, asked-to, rank-small, judged-untimely, fit-of, compared, judged-unordered, own-within, table-long, judged-repeated, judged-sound}
+use borrow.Author.Tests.{not-true, not-false}
 use borrow.Author.Needs.{needs}
 use Rattle.holdback.proofs.soundness.judge_at.Statement.{statement}
 use Rattle.holdback.proofs.soundness.judge_at.Tie as tie
@@ -24,27 +25,27 @@ cast-epsilon : tie.Need-cast-epsilon
 cast-epsilon c = search needs
 
 sub-frame-end : tie.Need-sub-frame-end
-sub-frame-end c = at-inside (c .before .before .before .pre .1 .1)
+sub-frame-end c = at-inside (c .before .before .before .before .pre .1 .1)
 
 part-frame-end-start : tie.Need-part-frame-end-start
 part-frame-end-start c =
-    let h = at-inside (c .before .before .before .pre .1 .1) in
+    let h = at-inside (c .before .before .before .before .pre .1 .1) in
     omega arith
 
 part-frame-end-end : tie.Need-part-frame-end-end
 part-frame-end-end c = search needs
 
 frame-end-requires : tie.Need-frame-end-requires
-frame-end-requires c κs = limits-from (setupOf (c .before .before .before .before .args .s)) (c .before .before .before .before .pre .0 .0) .epsilon-most
+frame-end-requires c κs = limits-from (setupOf (c .before .before .before .before .before .args .s)) (c .before .before .before .before .before .pre .0 .0) .epsilon-most
 
 add-next : tie.Need-add-next
 add-next c =
-    let start = c .before .before .before .before .before in
+    let start = c .before .before .before .before .before .before in
     let limits = limits-from (setupOf (start .args .s)) (start .pre .0 .0) in
     let h = at-inside (start .pre .1 .1) in
     let b = start .args .buf .now in
     let at = start .args .at in
-    let small = end-small (start .args .s .epsilon) (take (length b - at) (drop at b)) (limits .epsilon-most) (bytes-take (length b - at) (drop at b) (bytes-drop at b (λ i. omega (arith, c .before .before .before .before .shared-slice-known .given i)))) in
+    let small = end-small (start .args .s .epsilon) (take (length b - at) (drop at b)) (limits .epsilon-most) (bytes-take (length b - at) (drop at b) (bytes-drop at b (λ i. omega (arith, c .before .before .before .before .shared-slice-known2 .given i)))) in
     omega (arith, c .frame-end .ensures)
 
 unsound-requires : tie.Need-unsound-requires
@@ -53,28 +54,22 @@ unsound-requires c κs = search needs
 returns : tie.Need-returns
 returns c =
     let end = c .before .before .frame-end in
-    c .unsound .ensures ∙ judged-cut (c .before .before .before .before .before .before .before .pre .1 .1) (end .result) (end .ensures) (c .before .if1 .taken)
+    c .unsound .ensures ∙ judged-cut (c .before .before .before .before .before .before .before .before .pre .1 .1) (end .result) (end .ensures) (c .before .if1 .taken)
 
-sub-check : tie.Need-sub-check
-sub-check c = search needs
-
-part-check-start : tie.Need-part-check-start
-part-check-start c = search needs
-
-part-check-end : tie.Need-part-check-end
-part-check-end c = search needs
-
-check-requires : tie.Need-check-requires
-check-requires c κs = search needs
+passes-at-requires : tie.Need-passes-at-requires
+passes-at-requires c κs =
+    let start = c .before .before .before .before .before .before .before in
+    let end = c .before .frame-end in
+    ((start .pre .0 .0, start .pre .0 .1 .1), (asked-to (start .pre .1 .1) (end .result) (end .ensures), omega arith))
 
 unsound-requires-2 : tie.Need-unsound-requires-2
 unsound-requires-2 c κs = search needs
 
 returns-2 : tie.Need-returns-2
 returns-2 c =
-    let end = c .before .before .before .before .before .frame-end in
-    let asked = c .before .before .check in
-    c .unsound2 .ensures ∙ judged-failed (c .before .before .before .before .before .before .before .before .before .before .pre .1 .1) (end .result) (end .ensures) (asked .result) (asked .ensures) (c .before .if2 .taken)
+    let end = c .before .before .before .before .frame-end in
+    let asked = c .before .before .passes-at in
+    c .unsound2 .ensures ∙ judged-failed (c .before .before .before .before .before .before .before .before .before .before .pre .1 .1) (end .result) (end .ensures) (sym (asked .ensures) ∙ not-true (asked .result) (c .before .if2 .taken))
 
 sub-rank-of : tie.Need-sub-rank-of
 sub-rank-of c = search needs
@@ -100,19 +95,19 @@ module _ (c : tie.After-rank-of-arg) where
   limits = limits-from setup (start .pre .0 .0)
 
   abbrev size : ℕ
-  size = c .before .before .before .before .before .frame-end .result
+  size = c .before .before .before .before .frame-end .result
 
   abbrev ends : size ≡ frameEnd (setup .epsilon) (take (length (start .args .buf .now) - start .args .at) (drop (start .args .at) (start .args .buf .now)))
-  ends = c .before .before .before .before .before .frame-end .ensures
+  ends = c .before .before .before .before .frame-end .ensures
 
   abbrev part : List ℕ
   part = take (start .args .at + size - start .args .at) (drop (start .args .at) (start .args .buf .now))
 
   passed : passes setup part ≡ true
-  passed = passed-part walk size ends (c .before .before .check .result) (c .before .before .check .ensures) (c .before .if2 .left)
+  passed = let asked = c .before .before .passes-at in sym (asked .ensures) ∙ not-false (asked .result) (c .before .if2 .left)
 
 rank-of-requires : tie.Need-rank-of-requires
-rank-of-requires c κs = (c .before .before .before .before .before .before .before .before .before .before .pre .0, passing (setup c) (part c) (passed c) .r-below)
+rank-of-requires c κs = ((start c .pre .0 .0, start c .pre .0 .1 .0), passing (setup c) (part c) (passed c) .r-below)
 
 timely-requires : tie.Need-timely-requires
 timely-requires c κs =
@@ -155,7 +150,7 @@ is-marked-requires : tie.Need-is-marked-requires
 is-marked-requires c κs =
     let at = c .before .before .before .before .before in
     let read = c .before .before .before .before .rank-of in
-    ((start at .pre .0 .0, own-within (walk at) (size at) (ends at) (passed at) (read .result) (read .ensures) (fit (c .before .before)) (limits at) (start at .pre .0 .1) (start at .pre .1 .0)), table-long (walk at))
+    ((start at .pre .0 .0, own-within (walk at) (size at) (ends at) (passed at) (read .result) (read .ensures) (fit (c .before .before)) (limits at) (start at .pre .0 .1 .0) (start at .pre .1 .0)), table-long (walk at))
 
 unsound-requires-5 : tie.Need-unsound-requires-5
 unsound-requires-5 c κs = search needs
@@ -164,13 +159,13 @@ returns-5 : tie.Need-returns-5
 returns-5 c =
     let at = c .before .before .before .before .before .before .before .before in
     let read = c .before .before .before .before .before .before .before .rank-of in
-    c .unsound5 .ensures ∙ judged-repeated (walk at) (size at) (ends at) (passed at) (read .result) (read .ensures) (fit (c .before .before .before .before .before)) (limits at) (start at .pre .0 .1) (start at .pre .1 .0) (c .before .before .is-marked .result) (c .before .before .is-marked .ensures) (c .before .if5 .taken)
+    c .unsound5 .ensures ∙ judged-repeated (walk at) (size at) (ends at) (passed at) (read .result) (read .ensures) (fit (c .before .before .before .before .before)) (limits at) (start at .pre .0 .1 .0) (start at .pre .1 .0) (c .before .before .is-marked .result) (c .before .before .is-marked .ensures) (c .before .if5 .taken)
 
 returns-6 : tie.Need-returns-6
 returns-6 c =
     let at = c .before .before .before .before .before .before .before in
     let read = c .before .before .before .before .before .before .rank-of in
-    judged-sound (walk at) (size at) (ends at) (passed at) (read .result) (read .ensures) (fit (c .before .before .before .before)) (limits at) (start at .pre .0 .1) (start at .pre .1 .0) (c .before .before .before .follows .result) (c .before .is-marked .result) (c .before .before .before .follows .ensures) (c .before .before .if4 .left) (c .before .is-marked .ensures) (c .if5 .left)
+    judged-sound (walk at) (size at) (ends at) (passed at) (read .result) (read .ensures) (fit (c .before .before .before .before)) (limits at) (start at .pre .0 .1 .0) (start at .pre .1 .0) (c .before .before .before .follows .result) (c .before .is-marked .result) (c .before .before .before .follows .ensures) (c .before .before .if4 .left) (c .before .is-marked .ensures) (c .if5 .left)
 
 pub judge-at-spec : {M : Type 1} → statement M
 judge-at-spec =
@@ -184,10 +179,7 @@ judge-at-spec =
     add-next
     unsound-requires
     returns
-    sub-check
-    part-check-start
-    part-check-end
-    check-requires
+    passes-at-requires
     unsound-requires-2
     returns-2
     sub-rank-of

@@ -7,7 +7,7 @@ use mathlib.Core.Path.{_∙_}
 use Rattle.setup.specs.Views.{setupOf}
 use Rattle.lemmas.proofs.Questions.{limits-from}
 use Rattle.holdback.proofs.Seen.{seen-none}
-use Rattle.holdback.proofs.Walks.{walked-no, too-many}
+use Rattle.holdback.proofs.Walks.{walked-no, walked-none, too-many}
 use borrow.Author.Needs.{needs}
 use Rattle.holdback.proofs.soundness.sound.Statement.{statement}
 use Rattle.holdback.proofs.soundness.sound.Tie as tie
@@ -39,16 +39,44 @@ returns c =
     let many : depth (start .args .s .n) (start .args .s .epsilon) (start .args .s .delta) < twoAt (start .args .buf .now) 0 = omega (arith, c .before .before .before .before .before .before .two-at .ensures, c .before .before .depth .ensures, c .before .if1 .taken) in
     walked-no (c .emptied .ensures) (too-many (setupOf (start .args .s)) (start .args .v) (start .args .least) (start .args .buf .now) many) (start .pre .1 .1 .0 ∙ seen-none (setupOf (start .args .s)) (start .args .v)) (start .pre .1 .1 .1)
 
+returns-2 : tie.Need-returns-2
+returns-2 c =
+    let left = c .before in
+    let start = left .before .before .before .before .before .before .before .before .before in
+    walked-none (record {
+      two = start .pre .1 .0;
+      count-is = left .before .before .before .before .before .two-at .ensures;
+      few = omega (arith, left .before .depth .ensures, left .if1 .left);
+      empty = start .pre .1 .1 .0 ∙ seen-none (setupOf (start .args .s)) (start .args .v);
+      all-front = start .pre .1 .1 .1;
+    }) (omega (arith, c .if2 .taken))
+
+cast-limits-of : tie.Need-cast-limits-of
+cast-limits-of c = search needs
+
+cast-limits-of-2 : tie.Need-cast-limits-of-2
+cast-limits-of-2 c = search needs
+
+limits-of-requires : tie.Need-limits-of-requires
+limits-of-requires c κs =
+    let start = c .before .before .before .before .before .before .before .before .before .before .before .before in
+    let limits = limits-from (setupOf (start .args .s)) (start .pre .0 .0) in
+    (limits .n-most, limits .epsilon-most)
+
+slice-aggregate-walk-frames : tie.Need-slice-aggregate-walk-frames
+slice-aggregate-walk-frames c = search needs
+
 walk-frames-requires : tie.Need-walk-frames-requires
 walk-frames-requires c κs =
-    let start = c .before .before .before .before .before .before .before .before .before .before .before in (
-      (start .pre .0 .0, start .pre .0 .1 .0),
+    let left = c .before .before .before .before .before .before .before in
+    let start = left .before .before .before .before .before .before .before .before .before in (
+      (start .pre .0 .0, (start .pre .0 .1 .0, c .before .before .before .limits-of .ensures)),
       (
         start .pre .0 .1 .1,
         record {
           two = start .pre .1 .0;
-          count-is = c .before .before .before .before .before .before .before .two-at .ensures;
-          few = omega (arith, c .before .before .before .depth .ensures, c .before .before .if1 .left);
+          count-is = left .before .before .before .before .before .two-at .ensures;
+          few = omega (arith, left .before .depth .ensures, left .if1 .left);
           empty = start .pre .1 .1 .0 ∙ seen-none (setupOf (start .args .s)) (start .args .v);
           all-front = start .pre .1 .1 .1;
         },
@@ -61,8 +89,8 @@ same-length c = search needs
 same-length-2 : tie.Need-same-length-2
 same-length-2 c = search needs
 
-returns-2 : tie.Need-returns-2
-returns-2 c = search needs
+returns-3 : tie.Need-returns-3
+returns-3 c = search needs
 
 pub sound-spec : {M : Type 1} → statement M
 sound-spec =
@@ -75,7 +103,12 @@ sound-spec =
     depth-requires
     emptied-requires
     returns
+    returns-2
+    cast-limits-of
+    cast-limits-of-2
+    limits-of-requires
+    slice-aggregate-walk-frames
     walk-frames-requires
     same-length
     same-length-2
-    returns-2)
+    returns-3)

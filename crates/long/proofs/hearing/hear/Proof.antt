@@ -144,7 +144,7 @@ append-requires c κs =
     ((start .pre .0 .limits, holding .extent), (taken-passes (readable (c .before)), taken-few (bytes (c .before .before .before .before .before)) (start .pre .0) (holding .extent) (taken (c .before))))
 
 absorb-frame-requires : tie.Need-absorb-frame-requires Inv-loop μ-loop
-absorb-frame-requires c κs = readable (c .before .before .before .before)
+absorb-frame-requires c κs = (readable (c .before .before .before .before), c .before .before .before .before .before .before .before .before .before .before .loop .inv .1 .narrow)
 
 add-held : tie.Need-add-held Inv-loop μ-loop
 add-held c = omega (arith, taken-few (bytes (c .before .before .before .before .before .before .before .before .before)) (c .before .before .before .before .before .before .before .before .before .before .before .before .before .before .before .before .pre .0) (c .before .before .before .before .before .before .before .before .before .before .before .loop .inv .0 .holding .extent) (taken (c .before .before .before .before .before)))

@@ -10,7 +10,7 @@ use Rattle.holdback.proofs.RoundTrip.{Bytes}
 use Rattle.holdback.proofs.Seen.{length-seen}
 use Rattle.holdback.proofs.Started.{place-inside, place-at}
 use Rattle.setup.specs.Views.{setupOf}
-use Rattle.node.proofs.Places.{Known, known, fits, short, movable, spans, more-held, more-extent, more-queued}
+use Rattle.node.proofs.Places.{Known, known, fits, short, movable, unmarked, spans, more-held, more-extent, more-queued}
 use Rattle.node.proofs.hearing.enqueue.Statement.{statement}
 use Rattle.node.proofs.hearing.enqueue.Tie as tie
 
@@ -60,7 +60,13 @@ mark-requires : tie.Need-mark-requires
 mark-requires c κs =
     let start = c .before .before .before .before .before .before .before .before .before .before .before .before .before .before .before .before in (
       (start .pre .0 .timed .limits, start .pre .0 .timed .below),
-      (here start .placeable, (ap length (start .pre .1 .0 .table-is) ∙ length-seen (setupOf (start .args .setup)) (start .args .clock) (held (start .args .setup .epsilon) (start .args .holdback .now)), start .pre .1 .1 .1)),
+      (
+        here start .placeable,
+        (
+          (ap length (start .pre .1 .0 .table-is) ∙ length-seen (setupOf (start .args .setup)) (start .args .clock) (held (start .args .setup .epsilon) (start .args .holdback .now)), start .pre .1 .1 .1),
+          unmarked (start .pre .0) (start .pre .1 .0),
+        ),
+      ),
     )
 
 same-length : tie.Need-same-length

@@ -166,7 +166,7 @@ enqueue-requires c κs = let queue = c .before .before .before .before .before .
 absorb-frame-requires : tie.Need-absorb-frame-requires Inv-loop μ-loop
 absorb-frame-requires c κs =
     let start = c .before .before .before .before .before .before .before .before .before .before .before .before .before .before .before .before .before .before .before .before .before .before .before .before .before .before .before in
-    (taken-readable (start .args .listens) (setupOf (start .args .setup)) (start .args .clock) (held (start .args .setup .epsilon) (c .before .before .before .before .before .before .before .before .before .before .before .before .before .before .before .before .before .before .before .before .loop .holdback)) (bytes (c .before .before .before .before .before .before .before .before .before .before .before .before .before .before .before .before .before .before)) (c .before .before .before .before .before .before .before .before .before .before .before .verdict .given .0 .0 .place .index) (start .pre .0) (judged (c .before .before .before .before .before .before .before .before .before .before)), read (c .before .before .before .before .before .before .before .before .before .before))
+    ((taken-readable (start .args .listens) (setupOf (start .args .setup)) (start .args .clock) (held (start .args .setup .epsilon) (c .before .before .before .before .before .before .before .before .before .before .before .before .before .before .before .before .before .before .before .before .loop .holdback)) (bytes (c .before .before .before .before .before .before .before .before .before .before .before .before .before .before .before .before .before .before)) (c .before .before .before .before .before .before .before .before .before .before .before .verdict .given .0 .0 .place .index) (start .pre .0) (judged (c .before .before .before .before .before .before .before .before .before .before)), read (c .before .before .before .before .before .before .before .before .before .before)), c .before .before .before .before .before .before .before .before .before .before .before .before .before .before .before .before .before .before .before .before .loop .inv .1 .narrow)
 
 add-held : tie.Need-add-held Inv-loop μ-loop
 add-held c = omega (arith, known (taking (c .before .before .before .before .before .before .before .before .before .before .before)) .few, c .before .before .before .before .before .before .before .before .before .before .before .before .before .before .before .before .before .before .before .before .before .loop .inv .0 .extent .count-is)

@@ -1,30 +1,34 @@
--- `timestamp::stamp::Timestamp::absorb` meets its contract: both lists of counts are long enough, and the sums are small.
+-- `timestamp::stamp::Timestamp::absorb` meets its contract: the own counts, raised by those of the frame that have a place among them.
 -- Assumes nothing.
 use mathlib.Core.Path.{_≡_}
 use native.Mathlib.Omega.{arith}
 use lib.ListN.{length}
-use Rattle.timestamp.proofs.Steps.{absorb-widened}
 use borrow.Author.Needs.{needs}
+use Rattle.timestamp.proofs.Steps.{absorb-widened}
+use Rattle.timestamp.specs.Views.{stampOf}
 use Rattle.timestamp.proofs.stamp.Timestamp.absorb.Statement.{statement}
 use Rattle.timestamp.proofs.stamp.Timestamp.absorb.Tie as tie
 
 long : (c : tie.Start) → length (c .args .self .kn) ≡ 32
 long c = search needs
 
-long-other : (c : tie.Start) → length (c .args .f .kn) ≡ 32
-long-other c = search needs
+past-requires : tie.Need-past-requires
+past-requires c κs = search needs
 
-slice-aggregate-larger-counts : tie.Need-slice-aggregate-larger-counts
-slice-aggregate-larger-counts c = search needs
+past-requires-2 : tie.Need-past-requires-2
+past-requires-2 c κs = search needs
 
-slice-aggregate-larger-counts-2 : tie.Need-slice-aggregate-larger-counts-2
-slice-aggregate-larger-counts-2 c = search needs
+mul-past : tie.Need-mul-past
+mul-past c = search needs
 
-mul-larger-counts : tie.Need-mul-larger-counts
-mul-larger-counts c = search needs
+add-past : tie.Need-add-past
+add-past c = search needs
 
-larger-counts-requires : tie.Need-larger-counts-requires
-larger-counts-requires c κs = omega (arith, long (c .before .before .before .before), long-other (c .before .before .before .before))
+past-requires-3 : tie.Need-past-requires-3
+past-requires-3 c κs = search needs
+
+raise-requires : tie.Need-raise-requires
+raise-requires c κs = search needs
 
 add-larger-lead : tie.Need-add-larger-lead
 add-larger-lead c = search needs
@@ -34,16 +38,24 @@ larger-lead-requires c κs = search needs
 
 returns : tie.Need-returns
 returns c =
-    absorb-widened _ _ (c .before .before .before .before .before .before .before .pre .0) (long (c .before .before .before .before .before .before .before)) _ _ _ _ _ (long-other (c .before .before .before .before .before .before .before)) (c .larger-lead .ensures) (c .before .before .larger-counts .ensures)
+    let start = c .before .before .before .before .before .before .before in
+    let a = start .args in
+    let up = c .before .before .before .before .before .past in
+    let down = c .before .before .before .before .past2 in
+    let count = c .before .before .before .past3 in
+    absorb-widened (a .epsilon) (stampOf (a .self)) (start .pre .0 .0) (long start) (a .modulus) (a .reading) (up .result) (down .result) (count .result) (a .c) (c .larger-lead .result) (a .counts .now) (c .before .raise .result)
+    (start .pre .1 .0) (start .pre .1 .1) (up .ensures) (down .ensures) (count .ensures) (c .before .raise .ensures) (c .larger-lead .ensures)
 
 pub absorb-spec : {M : Type 1} → statement M
 absorb-spec =
     tie.close
     (tie.spec
-    slice-aggregate-larger-counts
-    slice-aggregate-larger-counts-2
-    mul-larger-counts
-    larger-counts-requires
+    past-requires
+    past-requires-2
+    mul-past
+    add-past
+    past-requires-3
+    raise-requires
     add-larger-lead
     larger-lead-requires
     returns)

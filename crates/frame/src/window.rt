@@ -1,0 +1,69 @@
+// 01, 10 to 12, of a frame at the front of a window: bytes of which there are enough for all of a frame but its payload, whatever ε is. Each place
+// is read as it stands, with no look at where the bytes end.
+use crate::form::C_AT;
+use crate::form::COUNTS_AT;
+use crate::form::NODE_SIZE;
+use crate::form::R_AT;
+use crate::form::STAMP_AT;
+use crate::form::STATION_AT;
+use setup::LONGEST_PAYLOAD;
+use setup::Setup;
+use timestamp::sound_window;
+ghost use mathlib.Core.Path.{_≡_};
+ghost use mathlib.Core.Bool.{true, _&&_};
+ghost use Prim.Native.Nat.{_≤_};
+ghost use lib.Dec.{ltb};
+ghost use lib.ListN.{length, take, getD};
+ghost use Rattle.model.specs.Setup.{inLimits};
+ghost use Rattle.model.specs.Frame.{frameEnd, wellFormed, twoAt};
+ghost use Rattle.model.specs.Question.{firstNo, frameQuestions};
+ghost use Rattle.setup.specs.Views.{setupOf};
+ghost use Rattle.timestamp.specs.Window.{limitsOf};
+
+// The bytes of a frame beside its payload at ε 16.
+pub const WINDOW: usize = 39;
+
+// 01, 10: "Are the three counts right", of a frame that ends in the window. It is taken to end where they say.
+fn formed_window(epsilon: usize, w: &[u8]) -> bool
+    requires { ⌜ (epsilon ≤ 16) × ((39 ≤ length (now w)) × (frameEnd epsilon (now w) ≤ length (now w))) ⌝ }
+    ensures { λ r. ⌜ r ≡ wellFormed epsilon (take (frameEnd epsilon (now (w .entry))) (now (w .entry))) ⌝ }
+{
+    if w[0] != NODE_SIZE {
+        return false;
+    }
+    if w[STAMP_AT] as usize != 1 + 2 * epsilon {
+        return false;
+    }
+    w[COUNTS_AT + 2 * epsilon] as usize <= LONGEST_PAYLOAD
+}
+
+// 01, 11: "Is the station below n and r below B?"
+fn ranged_window(n: usize, modulus: usize, w: &[u8]) -> bool
+    requires { ⌜ 39 ≤ length (now w) ⌝ }
+    ensures { λ r. ⌜ r ≡ (ltb (getD (now (w .entry)) 1 0) n && ltb (twoAt (now (w .entry)) 2) modulus) ⌝ }
+{
+    if n <= w[STATION_AT] as usize {
+        return false;
+    }
+    w[R_AT] as usize + 256 * (w[R_AT + 1] as usize) < modulus
+}
+
+// The number of the first no, or 0. `limits` is what the counts are held to.
+pub fn check_window(setup: Setup, limits: &[u8], w: &[u8]) -> u8
+    requires { ⌜ (inLimits (setupOf setup) ≡ true) × (now limits ≡ limitsOf (setup .n) (setup .epsilon)) ⌝ }
+    requires { ⌜ (39 ≤ length (now w)) × (frameEnd (setup .epsilon) (now w) ≤ length (now w)) ⌝ }
+    ensures { λ r. ⌜ r ≡ firstNo (frameQuestions (setupOf setup) (take (frameEnd (setup .epsilon) (now (w .entry))) (now (w .entry)))) ⌝ }
+{
+    let epsilon = setup.epsilon as usize;
+    if !formed_window(epsilon, w) {
+        return 10;
+    }
+    if !ranged_window(setup.n as usize, setup.modulus as usize, w) {
+        return 11;
+    }
+    let c = w[C_AT] as usize;
+    if !sound_window(&w[COUNTS_AT..WINDOW], c, limits, epsilon) {
+        return 12;
+    }
+    0
+}
