@@ -11,7 +11,7 @@ trap 'rm -rf "$tmp"' EXIT
 symbols=$(nm target/staticlib/libyarngravel.a)
 state=$(grep -E ' [BbCDdGgSs] ' <<< "$symbols") && fail "the archive has state of its own: $state"
 needs=$(awk '$1 == "U" { print $2 }' <<< "$symbols" | sort -u | xargs)
-[ "$needs" = "memcpy memset" ] || fail "the archive needs $needs"
+[ "$needs" = "memcpy memmove memset" ] || fail "the archive needs $needs"
 for name in $(grep -oE 'yarngravel_[a-z_]+\(|YARNGRAVEL_[A-Z_]+[ (]' include/yarngravel.h | tr -d ' (' | sort -u); do
   grep -qw "$name" docs/yarngravel.3 || fail "the manual page has no $name"
   [[ $name = YARNGRAVEL_* ]] || grep -qw "$name" host/*.c host/*.cpp || fail "no host uses $name"

@@ -6,7 +6,7 @@
  * bytes get an answer. A call that fails a check answers that check's number, and then no byte of any buffer or table has changed.
  * Buffers must not overlap.
  * Calls for different stations may be made at the same time, in any threads; those of one station one at a time.
- * The archive, libyarngravel.a, needs memcpy and memset, and about 3 KB of stack.
+ * The archive, libyarngravel.a, needs memcpy, memmove and memset, and about 3 KB of stack.
  */
 #ifndef YARNGRAVEL_H
 #define YARNGRAVEL_H

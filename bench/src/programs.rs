@@ -43,8 +43,11 @@ impl Case for PollCase {
         &self.holdback
     }
 
-    /// A poll changes nothing.
-    fn put_back(&mut self, _: &Self) {}
+    /// A poll changes nothing. The shelf is written anew all the same: each program then finds it where the one before did, and the first
+    /// does not fetch it for the others.
+    fn put_back(&mut self, given: &Self) {
+        self.holdback.copy_from_slice(&given.holdback);
+    }
 }
 
 impl Case for ListenCase {

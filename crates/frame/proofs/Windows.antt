@@ -1,4 +1,4 @@
--- The frame at the front of a window, which ends where its counts say: its places are those of the window. Assumes nothing.
+-- The frame at the front of a window, which is taken to end where its counts say: its places are those of the window. Assumes nothing.
 use mathlib.Core.Path.{_≡_, refl, sym, ap, _∙_}
 use mathlib.Core.Bool.{Bool, true, false, _&&_}
 use mathlib.Core.List.{List, [], _∷_}
@@ -7,7 +7,9 @@ use native.Mathlib.Omega.{arith}
 use lib.Dec.{leb, ltb}
 use lib.ListN.{length, take, drop, getD, length-drop}
 use lib.Seq.{getD-take, length-take-le, take-take}
-use borrow.Author.Tests.{eq-eqb, ne-eqb}
+use borrow.Author.Tests.{eq-eqb, ne-eqb, lt-leb}
+use Rattle.laws.proofs.Numbers.{lt-or-ge}
+use mathlib.Core.Logic.{inl, inr}
 use Rattle.laws.proofs.Lists.{drop-take, length-tab}
 use Rattle.model.specs.Setup.{Setup, width}
 use Rattle.model.specs.Timestamp.{soundTimestamp}
@@ -22,11 +24,11 @@ and-true : (b : Bool) → (b && true) ≡ b
 and-true true = refl
 and-true false = refl
 
-module _ (epsilon : ℕ) (w : List ℕ) (ends : frameEnd epsilon w ≤ length w) where
+module _ (epsilon : ℕ) (w : List ℕ) where
   abbrev pub frameIn : List ℕ
   frameIn = take (frameEnd epsilon w) w
 
-  end-is : frameEnd epsilon w ≡ 7 + 2 * epsilon + getD w (6 + 2 * epsilon) 0
+  pub end-is : frameEnd epsilon w ≡ 7 + 2 * epsilon + getD w (6 + 2 * epsilon) 0
   unfolding frameEnd payloadCountAt width
   end-is = omega arith
 
@@ -34,10 +36,10 @@ module _ (epsilon : ℕ) (w : List ℕ) (ends : frameEnd epsilon w ≤ length w)
   same-place : (i : ℕ) → i < 7 + 2 * epsilon → getD frameIn i 0 ≡ getD w i 0
   same-place i h = getD-take (frameEnd epsilon w) w i 0 (omega (arith, end-is))
 
-  -- nothing is left over
-  ends-there : length frameIn ≡ frameEnd epsilon frameIn
+  -- nothing is left over of a frame that ends in the window
+  ends-there : frameEnd epsilon w ≤ length w → length frameIn ≡ frameEnd epsilon frameIn
   unfolding frameEnd payloadCountAt width
-  ends-there =
+  ends-there ends =
       length-take-le (frameEnd epsilon w) w ends
       ∙ ap (λ (k : ℕ). 6 + 2 * epsilon + 1 + k) (sym (same-place (6 + 2 * epsilon) (omega arith)))
 
@@ -56,18 +58,22 @@ module _ (epsilon : ℕ) (w : List ℕ) (ends : frameEnd epsilon w ≤ length w)
         ne-eqb (getD w 4 0) (1 + 2 * epsilon) k,
       )
 
-  pub third-decides : getD w 0 0 ≡ 3 → getD w 4 0 ≡ 1 + 2 * epsilon → leb (getD w (6 + 2 * epsilon) 0) 32 ≡ wellFormed epsilon frameIn
+  pub third-decides : 39 + 2 * epsilon ≤ length w → getD w 0 0 ≡ 3 → getD w 4 0 ≡ 1 + 2 * epsilon → leb (getD w (6 + 2 * epsilon) 0) 32 ≡ wellFormed epsilon frameIn
   unfolding wellFormed payloadCountAt width
-  third-decides h k =
+  third-decides room h k =
       rw (
-        eq-eqb (length frameIn) (frameEnd epsilon frameIn) ends-there,
         same-place 0 (omega arith),
         eq-eqb (getD w 0 0) 3 h,
         same-place 4 (omega arith),
         eq-eqb (getD w 4 0) (1 + 2 * epsilon) k,
         same-place (6 + 2 * epsilon) (omega arith),
       )
-      (sym (and-true (leb (getD w (6 + 2 * epsilon) 0) 32)))
+      (elim (lt-or-ge 32 (getD w (6 + 2 * epsilon) 0)) [
+        | inl long ↦ rw (lt-leb (getD w (6 + 2 * epsilon) 0) 32 long)
+        | inr short ↦
+            rw (eq-eqb (length frameIn) (frameEnd epsilon frameIn) (ends-there (omega (arith, end-is))))
+            (sym (and-true (leb (getD w (6 + 2 * epsilon) 0) 32)))
+      ])
 
   -- the counts of the stamp
   counts-there : epsilon ≤ 16 → take (2 * epsilon) (take 33 (drop 6 w)) ≡ countsOf epsilon frameIn
@@ -82,12 +88,12 @@ module _ (epsilon : ℕ) (w : List ℕ) (ends : frameEnd epsilon w ≤ length w)
       ∙ ap (take (2 * epsilon)) (sym (drop-take 6 m w))
       ∙ ap (λ (k : ℕ). take (2 * epsilon) (drop 6 (take k w))) (sym split)
 
-module _ (s : Setup) (w : List ℕ) (ends : frameEnd (s .epsilon) w ≤ length w) where
+module _ (s : Setup) (w : List ℕ) where
   abbrev bytes : List ℕ
   bytes = take (frameEnd (s .epsilon) w) w
 
   place : (i : ℕ) → i < 7 → getD bytes i 0 ≡ getD w i 0
-  place i h = same-place (s .epsilon) w ends i (omega arith)
+  place i h = same-place (s .epsilon) w i (omega arith)
 
   -- 11: the station and r
   abbrev pub ranged : Bool
@@ -113,7 +119,7 @@ module _ (s : Setup) (w : List ℕ) (ends : frameEnd (s .epsilon) w ≤ length w
 
       same-stamp : s .epsilon ≤ 16 → stampSound ≡ soundTimestamp (s .n) (s .epsilon) (decode (s .epsilon) bytes .stamp)
       unfolding soundTimestamp decode
-      same-stamp narrow = rw (counts-there (s .epsilon) w ends narrow, place 5 (omega arith))
+      same-stamp narrow = rw (counts-there (s .epsilon) w narrow, place 5 (omega arith))
 
       left : firstNo (frameQuestions s bytes) ≡ firstNo (askStamp s (decode (s .epsilon) bytes) ∷ [])
       left = asked ∙ yes-cons ranged 11 (askStamp s (decode (s .epsilon) bytes) ∷ []) inside

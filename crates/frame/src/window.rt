@@ -1,5 +1,5 @@
-// 01, 10 to 12, of a frame at the front of a window: bytes of which there are enough for all of a frame but its payload, whatever ε is. Each place
-// is read as it stands, with no look at where the bytes end.
+// 01, 10 to 12, of a frame at the front of a window: bytes of which there are enough for the longest frame. Each place is read as it stands,
+// with no look at where the bytes end.
 use crate::form::C_AT;
 use crate::form::COUNTS_AT;
 use crate::form::NODE_SIZE;
@@ -11,7 +11,7 @@ use setup::Setup;
 use timestamp::sound_window;
 ghost use mathlib.Core.Path.{_≡_};
 ghost use mathlib.Core.Bool.{true, _&&_};
-ghost use Prim.Native.Nat.{_≤_};
+ghost use Prim.Native.Nat.{_+_, _*_, _≤_};
 ghost use lib.Dec.{ltb};
 ghost use lib.ListN.{length, take, getD};
 ghost use Rattle.model.specs.Setup.{inLimits};
@@ -21,11 +21,20 @@ ghost use Rattle.setup.specs.Views.{setupOf};
 ghost use Rattle.timestamp.specs.Window.{limitsOf};
 
 // The bytes of a frame beside its payload at ε 16.
-pub const WINDOW: usize = 39;
+const WINDOW: usize = 39;
 
-// 01, 10: "Are the three counts right", of a frame that ends in the window. It is taken to end where they say.
+// Where its counts say that the frame at the front ends.
+pub fn window_end(epsilon: usize, w: &[u8]) -> usize
+    requires { ⌜ (epsilon ≤ 16) × (39 + 2 * epsilon ≤ length (now w)) ⌝ }
+    ensures { λ r. ⌜ r ≡ frameEnd epsilon (now (w .entry)) ⌝ }
+{
+    let at = COUNTS_AT + 2 * epsilon;
+    at + 1 + w[at] as usize
+}
+
+// 01, 10: "Are the three counts right". The frame is taken to end where they say.
 fn formed_window(epsilon: usize, w: &[u8]) -> bool
-    requires { ⌜ (epsilon ≤ 16) × ((39 ≤ length (now w)) × (frameEnd epsilon (now w) ≤ length (now w))) ⌝ }
+    requires { ⌜ (epsilon ≤ 16) × (39 + 2 * epsilon ≤ length (now w)) ⌝ }
     ensures { λ r. ⌜ r ≡ wellFormed epsilon (take (frameEnd epsilon (now (w .entry))) (now (w .entry))) ⌝ }
 {
     if w[0] != NODE_SIZE {
@@ -51,7 +60,7 @@ fn ranged_window(n: usize, modulus: usize, w: &[u8]) -> bool
 // The number of the first no, or 0. `limits` is what the counts are held to.
 pub fn check_window(setup: Setup, limits: &[u8], w: &[u8]) -> u8
     requires { ⌜ (inLimits (setupOf setup) ≡ true) × (now limits ≡ limitsOf (setup .n) (setup .epsilon)) ⌝ }
-    requires { ⌜ (39 ≤ length (now w)) × (frameEnd (setup .epsilon) (now w) ≤ length (now w)) ⌝ }
+    requires { ⌜ 39 + 2 * setup .epsilon ≤ length (now w) ⌝ }
     ensures { λ r. ⌜ r ≡ firstNo (frameQuestions (setupOf setup) (take (frameEnd (setup .epsilon) (now (w .entry))) (now (w .entry)))) ⌝ }
 {
     let epsilon = setup.epsilon as usize;

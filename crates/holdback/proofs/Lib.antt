@@ -9,6 +9,7 @@ pub mod Bits
 pub mod Seen
 pub mod Order
 pub mod Newest
+pub mod Keyed
 -- Changes of the bytes; the tests and walks as the code makes them; what is due.
 pub mod Changes
 pub mod Placed

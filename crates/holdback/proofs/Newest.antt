@@ -1,7 +1,7 @@
 -- The newest counts decide an order: where the sums are the same and the numbers that they make differ, the frame with the smaller one comes before.
 -- Assumes nothing.
-use Prim.Native.Nat.{ℕ, _+_, _*_, _-_, _^_, _≤_, _<_, Ordering, Ordering·lt}
-use native.Mathlib.Nat.{min-le-right}
+use Prim.Native.Nat.{ℕ, zero, suc, _+_, _*_, _-_, _^_, _≤_, _<_, Ordering, Ordering·lt}
+use native.Mathlib.Nat.{min-le-left, min-le-right, pow-suc, pow-le-pow-right}
 use native.Mathlib.Omega.{arith}
 use mathlib.Core.Path.{_≡_, sym, ap, ap₂, _∙_}
 use mathlib.Core.Logic.{inl, inr}
@@ -13,7 +13,7 @@ use Rattle.laws.specs.Lists.{tab, placedAt}
 use Rattle.laws.specs.Lex.{orElse, isLess, lexCompare, numberOf}
 use Rattle.laws.proofs.Numbers.{lt-or-ge}
 use Rattle.laws.proofs.Lists.{length-tab, take-tab}
-use Rattle.laws.proofs.Lex.{flipped, lex-append, lex-flip, lex-head-lt, lex-head-eq, number-ext, number-less, number-split}
+use Rattle.laws.proofs.Lex.{flipped, lex-append, lex-flip, lex-refl, lex-head-lt, lex-head-eq, number-ext, number-same, number-less, number-split}
 use Rattle.model.specs.Timestamp.{sum}
 use Rattle.model.specs.Order.{countsDown, keyBy}
 use Rattle.lemmas.proofs.Counts.{count-zero, down-counts}
@@ -43,6 +43,25 @@ unfolding newestFrom
 older-down epsilon c kn =
     number-ext (taken epsilon 8) (λ j. placedAt 0 kn (epsilon + c - 8 - j)) (λ j. down epsilon c kn (8 + j))
     (λ j _. let e : epsilon + c - 8 - j ≡ epsilon + c - (8 + j) = omega arith in ap (placedAt 0 kn) e)
+
+-- numbers of counts that are not the largest have a next one
+top-below : (n : ℕ) (f : ℕ → ℕ) → ((k : ℕ) → f k ≤ 254) → numberOf (suc n) f + 2 ≤ 256 ^ suc n
+unfolding numberOf
+top-below zero f h = omega (arith, h 0)
+top-below (suc n) f h = let r = top-below n f h in rw (pow-suc 256 (suc n)) (omega (arith, r, h (suc n)))
+
+number-roomy : (n : ℕ) (f : ℕ → ℕ) → ((k : ℕ) → f k ≤ 254) → n ≤ 8 → numberOf n f + 1 < 2 ^ 64
+unfolding numberOf
+number-roomy zero f h few = omega arith
+number-roomy (suc n) f h few =
+    let some : 0 < 256 = omega arith in
+    let most : 256 ^ suc n ≤ 256 ^ 8 = pow-le-pow-right some few in
+    omega (arith, top-below n f h, most)
+
+pub newest-roomy : (epsilon c k : ℕ) (kn : List ℕ) → ((i : ℕ) → placedAt 0 kn i ≤ 16) → newestFrom epsilon c k kn + 1 < 2 ^ 64
+unfolding newestFrom
+newest-roomy epsilon c k kn small =
+    number-roomy (taken epsilon k) (λ j. placedAt 0 kn (epsilon + c - k - j)) (λ j. omega (arith, small (epsilon + c - k - j))) (min-le-left 8 (epsilon - k))
 
 -- where there are none
 pub none-older : (epsilon c : ℕ) (kn : List ℕ) → epsilon ≤ 8 → newestFrom epsilon c 8 kn ≡ 0
@@ -148,3 +167,43 @@ module _ (epsilon : ℕ) (f : Rank) (kf : List ℕ) (g : Rank) (kg : List ℕ) w
                 ∙ counts-say (8 + m) wide (λ t. let s : all + z ≡ all + w = of-f ∙ (t ∙ sym of-g) in n (omega arith)))
             | inr h ↦ absurd (n (ez ∙ (none-older epsilon (f .c) kf h ∙ sym (ew ∙ none-older epsilon (g .c) kg h))))
           ]
+
+    -- where the counts are the same, what follows them decides
+    keys-alike : tab epsilon (down epsilon (f .c) kf) ≡ tab epsilon (down epsilon (g .c) kg)
+        → lexCompare (keyOf epsilon f kf) (keyOf epsilon g kg) ≡ lexCompare (f .station ∷ f .reading ∷ []) (g .station ∷ g .reading ∷ [])
+    unfolding keyBy sum
+    keys-alike e =
+        rw (down-counts epsilon (ofCounts (f .c) kf), down-counts epsilon (ofCounts (g .c) kg))
+        (lex-head-eq (f .reading + f .c) (g .reading + g .c) (tab epsilon (down epsilon (f .c) kf) ++ (f .station ∷ f .reading ∷ [])) (tab epsilon (down epsilon (g .c) kg) ++ (g .station ∷ g .reading ∷ [])) same
+        ∙ (lex-append (tab epsilon (down epsilon (f .c) kf)) (tab epsilon (down epsilon (g .c) kg)) (f .station ∷ f .reading ∷ []) (g .station ∷ g .reading ∷ [])
+        (length-tab epsilon (down epsilon (f .c) kf) ∙ sym (length-tab epsilon (down epsilon (g .c) kg)))
+        ∙ ap (λ (o : Ordering). orElse o (lexCompare (f .station ∷ f .reading ∷ []) (g .station ∷ g .reading ∷ [])))
+        (ap (λ (l : List ℕ). lexCompare l (tab epsilon (down epsilon (g .c) kg))) e ∙ lex-refl (tab epsilon (down epsilon (g .c) kg)))))
+
+    counts-alike : tab epsilon (down epsilon (f .c) kf) ≡ tab epsilon (down epsilon (g .c) kg)
+        → isLess (lexCompare (f .station ∷ f .reading ∷ []) (g .station ∷ g .reading ∷ [])) ≡ rankBefore epsilon f kf g kg
+    unfolding rankBefore
+    counts-alike e = sym (ap isLess (keys-alike e))
+
+    -- so where all the numbers are
+    pub alike-say : epsilon ≤ 16 → newestFrom epsilon (f .c) 0 kf ≡ newestFrom epsilon (g .c) 0 kg → newestFrom epsilon (f .c) 8 kf ≡ newestFrom epsilon (g .c) 8 kg
+        → isLess (lexCompare (f .station ∷ f .reading ∷ []) (g .station ∷ g .reading ∷ [])) ≡ rankBefore epsilon f kf g kg
+    alike-say narrow en eo =
+        counts-alike (elim (lt-or-ge 8 epsilon) [
+          | inl h ↦
+              let m : ℕ = taken epsilon 8 in
+              let whole : 8 + m ≡ epsilon = omega arith in
+              let eight : taken epsilon 0 ≡ 8 = omega arith in
+              let older : numberOf m (λ j. down epsilon (f .c) kf (8 + j)) ≡ numberOf m (λ j. down epsilon (g .c) kg (8 + j)) = sym (older-down epsilon (f .c) kf) ∙ (eo ∙ older-down epsilon (g .c) kg) in
+              let whole-number : numberOf (8 + m) (down epsilon (f .c) kf) ≡ numberOf (8 + m) (down epsilon (g .c) kg) =
+              number-split 8 m (down epsilon (f .c) kf) ∙ (ap₂ (λ (k n : ℕ). k * 256 ^ m + n) (number-of eight en) older ∙ sym (number-split 8 m (down epsilon (g .c) kg))) in
+              number-same epsilon (down epsilon (f .c) kf) (down epsilon (g .c) kg) (down-small epsilon (f .c) kf p) (down-small epsilon (g .c) kg q)
+              (ap (λ (n : ℕ). numberOf n (down epsilon (f .c) kf)) (sym whole) ∙ (whole-number ∙ ap (λ (n : ℕ). numberOf n (down epsilon (g .c) kg)) whole))
+          | inr h ↦
+              let all : taken epsilon 0 ≡ epsilon = omega arith in
+              number-same epsilon (down epsilon (f .c) kf) (down epsilon (g .c) kg) (down-small epsilon (f .c) kf p) (down-small epsilon (g .c) kg q) (number-of all en)
+        ])
+      where
+        number-of : {m : ℕ} → taken epsilon 0 ≡ m → newestFrom epsilon (f .c) 0 kf ≡ newestFrom epsilon (g .c) 0 kg → numberOf m (down epsilon (f .c) kf) ≡ numberOf m (down epsilon (g .c) kg)
+        number-of {m} t e =
+            ap (λ (n : ℕ). numberOf n (down epsilon (f .c) kf)) (sym t) ∙ (sym (newest-down epsilon (f .c) kf) ∙ (e ∙ newest-down epsilon (g .c) kg)) ∙ ap (λ (n : ℕ). numberOf n (down epsilon (g .c) kg)) t

@@ -1,7 +1,7 @@
 -- 02, 2.2: what is due before v is the front of a sound queue, where the entry for the first place of the table of starts ends; once it has left,
 -- its marks are gone, and the entries are each lower by it.
 -- Assumes nothing.
-use Prim.Native.Nat.{ℕ, zero, suc, _+_, _*_, _-_, _/_, _%_, _≤_, _<_, zero-le}
+use Prim.Native.Nat.{ℕ, zero, suc, _+_, _*_, _-_, _≤_, _<_, zero-le}
 use native.Mathlib.Numerals.{add-one}
 use native.Mathlib.Nat.{add-zero, zero-add, not-suc-le-zero, le-of-suc-le-suc}
 use native.Mathlib.Omega.{arith}
@@ -26,10 +26,10 @@ use Rattle.splice.specs.Bytes.{pasted}
 use Rattle.lemmas.proofs.Bounds.{Limits, QueueOk}
 use Rattle.lemmas.proofs.RoundTrip as trips
 use Rattle.lemmas.proofs.Queue.{sound-queue, queue-rest, depth-small, bytes-sound, frames-sound}
-use Rattle.holdback.specs.Queue.{frameStart, bytesAt, frameAt, rankOf, Spans}
+use Rattle.holdback.specs.Queue.{frameStart, bytesAt, frameAt, rankOf, Spans, Stands}
 use Rattle.holdback.specs.Sound.{Recent}
 use Rattle.holdback.specs.Seen.{Placeable, Within, tableLength, rankSlot, slotOf, seenTable, hasMark, withoutMark, isMarked}
-use Rattle.holdback.specs.Starts.{startUnit, startPlaces, framesBelow, startOf, startsOf, loweredStarts}
+use Rattle.holdback.specs.Starts.{startUnit, usedPlaces, framesBelow, startOf, startsOf, loweredStarts}
 use Rattle.holdback.specs.Early.{SoundBy, earlyFrames, otherFrames, EarlyFront, releasedBuffer, Left, Released}
 use Rattle.holdback.proofs.RoundTrip.{Bytes, passing}
 use Rattle.holdback.proofs.Frames.{start-zero, held-tab, lent}
@@ -37,7 +37,7 @@ use Rattle.holdback.proofs.Judging.{fitting, frame-fits, sound-few, sou
 use Rattle.holdback.proofs.Searching.{Led, led-starts, led-frame, led-turns}
 use Rattle.holdback.proofs.Seen.{fitting-placeable, within, rank-slot, same-slot, seen-own, seen-less, length-seen}
 use Rattle.holdback.proofs.Order.{early-prefix, early-rest}
-use Rattle.holdback.proofs.Started.{changed-long, changed-at, starts-at, starts-by, start-parts, spans-small, leading-mono}
+use Rattle.holdback.proofs.Started.{changed-long, changed-at, changed-past, starts-at, starts-past, starts-by, spans-small, leading-mono}
 use Rattle.holdback.proofs.Changes.{Pieces, pieces, written-over, length-held}
 use Rattle.holdback.proofs.Placed.{written-start}
 
@@ -66,11 +66,9 @@ module _ (s : Setup) (v least : ℕ) (queue : List ℕ) (sound : soundHoldback s
   early-others =
       ap (λ (n : ℕ). drop n frames) (sym early-number ∙ early-below) ∙ sym (early-rest s v frames (sound-ordered s v least queue sound))
 
-  -- taken apart, it says how many and where the others start
-  pub early-front : Limits s → (m : ℕ) → m ≡ startOf s v queue 0 → EarlyFront s v queue (m / startUnit) (m % startUnit)
-  early-front limits m e =
-      let parts = start-parts s v least queue limits sound 0 m e in
-      record { number = parts .0 ∙ early-number; starts = parts .1 ∙ ap (frameStart (s .epsilon) queue) (sym (parts .0)) }
+  -- and says where the others start
+  pub early-front : {index at : ℕ} → Stands (s .epsilon) queue (framesBelow s v queue 0) index at → EarlyFront s v queue index at
+  early-front stands = record { number = stands .frames ∙ early-number; starts = stands .starts }
 
 -- ---- the marks
 
@@ -264,11 +262,13 @@ module _ (s : Setup) (v least : ℕ) (b : List ℕ) (sound : soundHoldback s v l
         omega (arith, leading-le p (held (s .epsilon) b′), length-held (s .epsilon) b′, left-count) in
         rw fewer (omega (arith, start-left (framesBelow s v b′ k) most, start-old index index-in))
 
-    pub starts-left : {starts l : List ℕ} → starts ≡ startsOf s v b → l ≡ loweredStarts (index * startUnit + (frameStart (s .epsilon) b index - 2)) starts → l ≡ startsOf s v b′
+    pub starts-left : {starts l : List ℕ} → starts ≡ startsOf s v b → l ≡ loweredStarts (usedPlaces s) (index * startUnit + (frameStart (s .epsilon) b index - 2)) starts → l ≡ startsOf s v b′
     starts-left {starts} old e =
         let step : ℕ = index * startUnit + (frameStart (s .epsilon) b index - 2) in
-        starts-by s v b′ (changed-long (λ m. m - step) 0 starts startPlaces e)
-        (λ k h. changed-at (λ m. m - step) 0 starts startPlaces e k h ∙ rw (starts-at s v b old k h, le-ltb k 0 zero-le, lt-ltb k startPlaces h) (omega (arith, start-lowered k)))
+        let to : ℕ = usedPlaces s in
+        starts-by s v b′ (changed-long (λ m. m - step) 0 starts to e)
+        (λ k a h. changed-at (λ m. m - step) 0 starts to e k h ∙ rw (starts-at s v b limits old k a, le-ltb k 0 zero-le, lt-ltb k to a) (omega (arith, start-lowered k)))
+        (λ k a h. changed-past (λ m. m - step) 0 starts to e k a h ∙ starts-past s v b old k a h)
 
   -- where there are none, nothing changes
   module _ (none : index ≡ 0) where

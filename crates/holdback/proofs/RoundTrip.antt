@@ -8,15 +8,16 @@ use mathlib.Core.List.{List, [], _∷_}
 use lib.Dec.{leb, ltb}
 use lib.ListN.{length, take, getD}
 use borrow.Author.Tests.{ltb-true, eqb-true, leb-true, lt-ltb}
-use Rattle.laws.specs.Lists.{tab}
+use Rattle.laws.specs.Lists.{tab, placedAt}
 use Rattle.laws.proofs.Numbers.{and-left, and-right}
 use Rattle.laws.proofs.Lists.{tab-take, every-of-index}
 use Rattle.model.specs.Setup.{Setup}
-use Rattle.model.specs.Timestamp.{soundTimestamp}
+use Rattle.model.specs.Timestamp.{atMost, soundTimestamp}
 use Rattle.model.specs.Frame.{twoBytes, twoAt, encode, decode, wellFormed}
 use Rattle.model.specs.Question.{firstNo, askForm, askRange, askStamp, frameQuestions}
 use Rattle.model.specs.Holdback.{passes}
 use Rattle.lemmas.proofs.Questions.{first-yes, other-yes}
+use Rattle.lemmas.proofs.Counts.{at-most-from}
 use Rattle.lemmas.proofs.RoundTrip as trips
 
 -- a list of bytes
@@ -43,6 +44,7 @@ pub record Passing (s : Setup) (bytes : List ℕ) : Type 0 where
   pub station-below : decode (s .epsilon) bytes .station < s .n
   pub r-below : decode (s .epsilon) bytes .stamp .r < s .modulus
   pub close : decode (s .epsilon) bytes .stamp .c ≤ s .epsilon - 1
+  pub counts : (i : ℕ) → placedAt 0 (decode (s .epsilon) bytes .stamp .kn) i ≤ s .n
 
 pub passing : (s : Setup) (bytes : List ℕ) → passes s bytes ≡ true → Passing s bytes
 unfolding passes frameQuestions askForm askRange askStamp soundTimestamp
@@ -59,4 +61,5 @@ passing s bytes h =
       station-below = ltb-true (f .station) (s .n) (and-left (ltb (f .station) (s .n)) (ltb (f .stamp .r) (s .modulus)) q11);
       r-below = ltb-true (f .stamp .r) (s .modulus) (and-right (ltb (f .station) (s .n)) (ltb (f .stamp .r) (s .modulus)) q11);
       close = leb-true (f .stamp .c) (s .epsilon - 1) (and-left (leb (f .stamp .c) (s .epsilon - 1)) _ q12);
+      counts = at-most-from (s .n) (f .stamp .kn) (and-left (atMost (s .n) (f .stamp .kn)) _ (and-right (leb (f .stamp .c) (s .epsilon - 1)) _ q12));
     }

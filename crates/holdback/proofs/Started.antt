@@ -1,28 +1,30 @@
 -- The table of starts: changed place by place, filled by the walk, moved as a frame is put at its place; and a search that starts at an entry.
 -- Assumes nothing.
-use Prim.Native.Nat.{ℕ, zero, suc, _+_, _*_, _-_, _/_, _%_, _≤_, _<_, zero-le}
+use Prim.Native.Nat.{ℕ, zero, suc, _+_, _*_, _-_, _/_, _%_, _≤_, _<_, max, zero-le}
 use native.Mathlib.Nat.{not-suc-le-zero, le-of-suc-le-suc, mul-le-mul}
 use native.Mathlib.Omega.{arith}
-use mathlib.Core.Path.{_≡_, sym, ap, ap₂, _∙_}
+use mathlib.Core.Path.{_≡_, refl, sym, ap, ap₂, _∙_}
 use mathlib.Core.Bool.{Bool, true, false, cond}
 use mathlib.Core.Logic.{_⊎_, inl, inr}
 use mathlib.Core.List.{List, [], _∷_}
-use lib.Dec.{ltb, eqb}
-use lib.ListN.{length, take, getD, set}
+use lib.Dec.{ltb, eqb, leb·suc-suc}
+use lib.ListN.{length, take, getD, set, getD-replicate}
+use lib.Seq.{getD-set-same, getD-set-other}
 use borrow.Author.Tests.{lt-ltb, le-ltb, ltb-true, leb-true, eq-eqb, ne-eqb}
 use Rattle.laws.specs.Lists.{tab, every, leading, insertAt}
 use Rattle.laws.proofs.Numbers.{lt-or-ge, eq-or-ne, true-or-false, cond-same}
-use Rattle.laws.proofs.Lists.{length-tab, getD-tab, tab-getD, eq-tab, tab-ext, set-tab, replicate-tab, take-tab, leading-le, every-leading}
+use Rattle.laws.proofs.Lists.{length-tab, getD-tab, tab-getD, eq-tab, tab-ext, set-tab, replicate-tab, take-tab, leading-le, leading-ext, every-leading}
 use Rattle.model.specs.Setup.{Setup, width, longestFrame, depth}
 use Rattle.model.specs.Timestamp.{sum}
 use Rattle.model.specs.Frame.{Frame, twoAt, decode}
 use Rattle.model.specs.Order.{due, dueNear, before}
 use Rattle.model.specs.Holdback.{held, soundHoldback, notEarly, notOverdue}
+use Rattle.model.specs.Poll.{dueWithin}
 use Rattle.lemmas.proofs.Bounds.{Limits}
 use Rattle.setup.proofs.InLimits.{depth-most}
-use Rattle.holdback.specs.Queue.{frameStart, frameAt}
+use Rattle.holdback.specs.Queue.{frameStart, frameAt, Stands}
 use Rattle.holdback.specs.Sound.{fits, follows, frameSound}
-use Rattle.holdback.specs.Starts.{startUnit, startLimit, startPlaces, front, allFront, sumPlace, framesBelow, startOf, startsOf, changed, filled, movedStarts, Moving}
+use Rattle.holdback.specs.Starts.{startUnit, startLimit, startPlaces, usedPlaces, front, allFront, sumPlace, framesBelow, startOf, startsOf, changed, filled, highest, spreadStarts, movedStarts, Moving}
 use Rattle.holdback.proofs.Frames.{start-zero, start-most, held-tab, leading-held, FormedUpTo}
 use Rattle.holdback.proofs.Judging.{every-tab-at, fitting, frame-follows, sound-few, sound-frames, sound-formed}
 use Rattle.holdback.proofs.Searching.{Led}
@@ -38,6 +40,10 @@ module _ (f : ℕ → ℕ) (from : ℕ) (starts : List ℕ) where
   pub changed-at : (to : ℕ) {l : List ℕ} → l ≡ changed f from to starts → (k : ℕ) → k < startPlaces → getD l k 0 ≡ changedAt to k
   unfolding changed
   changed-at to e k h = ap (λ (m : List ℕ). getD m k 0) e ∙ getD-tab startPlaces (changedAt to) k 0 h
+
+  -- the places from `to` on are as they were
+  pub changed-past : (to : ℕ) {l : List ℕ} → l ≡ changed f from to starts → (k : ℕ) → to ≤ k → k < startPlaces → getD l k 0 ≡ getD starts k 0
+  changed-past to e k past h = changed-at to e k h ∙ rw (le-ltb k to past) (cond-same (ltb k from) (getD starts k 0))
 
   pub changed-long : (to : ℕ) {l : List ℕ} → l ≡ changed f from to starts → length l ≡ startPlaces
   unfolding changed
@@ -94,15 +100,92 @@ all-front starts e =
     ∙ tab-ext startPlaces (λ k. cond (ltb k 0) (getD starts k 0) (cond (ltb k startPlaces) front (getD starts k 0))) (λ k. front) (λ k h. rw (le-ltb k 0 (omega arith), lt-ltb k startPlaces h))
     ∙ sym (replicate-tab startPlaces front)
 
+-- ---- a table whose entries are spread
+
+-- what is not there yet does not count
+pub highest-before : (starts : List ℕ) (p x n : ℕ) → n ≤ p → highest (set starts p x) n ≡ highest starts n
+unfolding highest
+highest-before starts p x zero h = refl
+highest-before starts p x (suc n) h =
+    ap₂ max (highest-before starts p x n (omega arith)) (getD-set-other starts p n x 0 (λ e. omega arith))
+
+-- the largest entry counts from its place on
+pub highest-set : (starts : List ℕ) (p x n : ℕ) → p < length starts → p < n → highest starts n ≤ x → highest (set starts p x) n ≡ x
+unfolding highest
+highest-set starts p x zero inside h low = absurd (not-suc-le-zero h)
+highest-set starts p x (suc n) inside h low = go (highest-set starts p x n inside) (lt-or-ge p n)
+  where
+    go : (p < n → highest starts n ≤ x → highest (set starts p x) n ≡ x) → (p < n) ⊎ (n ≤ p) → max (highest (set starts p x) n) (getD (set starts p x) n 0) ≡ x
+    go rest (inl l) = omega (arith, low, rest l (omega (arith, low)), getD-set-other starts p n x 0 (λ e. omega arith))
+    go rest (inr l) =
+        let e : n ≡ p = omega arith in
+        let here : getD (set starts p x) n 0 ≡ x = ap (λ (m : ℕ). getD (set starts p x) m 0) e ∙ getD-set-same starts p x 0 inside in
+        omega (arith, low, here, highest-before starts p x n l)
+
+pub highest-front : (starts : List ℕ) → starts ≡ allFront → (n : ℕ) → n ≤ startPlaces → highest starts n ≡ front
+unfolding highest
+highest-front starts e zero h = refl
+highest-front starts e (suc n) h =
+    ap₂ max (highest-front starts e n (omega arith)) (ap (λ (l : List ℕ). getD l n 0) e ∙ getD-replicate startPlaces n front 0 (omega arith)) ∙ refl
+
+pub highest-none : (starts : List ℕ) → front ≡ highest starts 0
+unfolding highest
+highest-none starts = refl
+
+pub highest-next : (starts : List ℕ) (k : ℕ) {e m x : ℕ} → e ≡ highest starts k → m ≡ getD starts k 0 → x ≡ max e m → x ≡ highest starts (suc k)
+unfolding highest
+highest-next starts k e m x = x ∙ ap₂ max e m
+
+module _ (starts : List ℕ) where
+  abbrev spreadAt : ℕ → ℕ → ℕ
+  spreadAt to k = cond (ltb k to) (highest starts (suc k)) (getD starts k 0)
+
+  spread-at : (to : ℕ) {l : List ℕ} → l ≡ spreadStarts to starts → (k : ℕ) → k < startPlaces → getD l k 0 ≡ spreadAt to k
+  unfolding spreadStarts
+  spread-at to e k h = ap (λ (m : List ℕ). getD m k 0) e ∙ getD-tab startPlaces (spreadAt to) k 0 h
+
+  pub spread-long : (to : ℕ) {l : List ℕ} → l ≡ spreadStarts to starts → length l ≡ startPlaces
+  unfolding spreadStarts
+  spread-long to e = ap length e ∙ length-tab startPlaces (spreadAt to)
+
+  pub spread-below : (to : ℕ) {l : List ℕ} → l ≡ spreadStarts to starts → (k : ℕ) → k < to → k < startPlaces → getD l k 0 ≡ highest starts (suc k)
+  spread-below to e k a h = spread-at to e k h ∙ rw (lt-ltb k to a)
+
+  -- the places from `to` on are as they were
+  pub spread-past : (to : ℕ) {l : List ℕ} → l ≡ spreadStarts to starts → (k : ℕ) → to ≤ k → k < startPlaces → getD l k 0 ≡ getD starts k 0
+  spread-past to e k a h = spread-at to e k h ∙ rw (le-ltb k to a)
+
+  pub spread-starts : length starts ≡ startPlaces → starts ≡ spreadStarts 0 starts
+  unfolding spreadStarts
+  spread-starts long =
+      sym (tab-getD startPlaces starts 0 long)
+      ∙ tab-ext startPlaces (λ k. getD starts k 0) (spreadAt 0) (λ k _. rw (le-ltb k 0 zero-le))
+
+  spread-more : (i k : ℕ) → (k ≡ i) ⊎ (k ≡ i → ⊥) → (k < i) ⊎ (i ≤ k) → cond (eqb k i) (highest starts (suc i)) (spreadAt i k) ≡ spreadAt (i + 1) k
+  spread-more i k (inl e) _ = rw (eq-eqb k i e, lt-ltb k (i + 1) (omega arith), e)
+  spread-more i k (inr n) (inl l) = rw (ne-eqb k i n, lt-ltb k i l, lt-ltb k (i + 1) (omega arith))
+  spread-more i k (inr n) (inr l) = rw (ne-eqb k i n, le-ltb k i l, le-ltb k (i + 1) (omega (arith, n)))
+
+  pub spread-turns : {l : List ℕ} (i x : ℕ) → l ≡ spreadStarts i starts → x ≡ highest starts (suc i) → set l i x ≡ spreadStarts (i + 1) starts
+  unfolding spreadStarts
+  spread-turns i x e same =
+      ap₂ (λ (m : List ℕ) (y : ℕ). set m i y) e same
+      ∙ set-tab startPlaces (spreadAt i) i (highest starts (suc i))
+      ∙ tab-ext startPlaces (λ k. cond (eqb k i) (highest starts (suc i)) (spreadAt i k)) (spreadAt (i + 1)) (λ k _. spread-more i k (eq-or-ne k i) (lt-or-ge k i))
+
 -- ---- places of sums
 
+-- the table has room for them
+pub used-most : (s : Setup) → Limits s → usedPlaces s ≤ startPlaces
+used-most s limits = omega (arith, limits .epsilon-most, limits .delta-most)
+
 module _ (s : Setup) (v least : ℕ) where
-  pub place-inside : Limits s → (bytes : List ℕ) → fits s v least bytes ≡ true → dueNear s v (decode (s .epsilon) bytes) < s .modulus + startPlaces
+  pub place-inside : Limits s → (bytes : List ℕ) → fits s v least bytes ≡ true → dueNear s v (decode (s .epsilon) bytes) + 1 < s .modulus + usedPlaces s
   unfolding notEarly dueNear due sum
   place-inside limits bytes h =
       let f : Frame = decode (s .epsilon) bytes in
       let early = leb-true _ (s .modulus + (s .epsilon - 1)) (fitting s v least bytes h .early) in
-      omega (arith, early, limits .epsilon-pos, limits .epsilon-most, limits .delta-most)
+      omega (arith, early, limits .epsilon-pos)
 
   -- the place of the sum of a frame that is not due before v
   pub place-at : s .modulus ≤ least → (bytes : List ℕ) → fits s v least bytes ≡ true → s .modulus + sumPlace s v (decode (s .epsilon) bytes) ≡ dueNear s v (decode (s .epsilon) bytes)
@@ -128,20 +211,42 @@ module _ (s : Setup) (v least : ℕ) where
 -- ---- the table of starts of a queue
 
 module _ (s : Setup) (v : ℕ) (queue : List ℕ) where
+  abbrev entryAt : ℕ → ℕ
+  entryAt k = cond (ltb k (usedPlaces s)) (startOf s v queue k) front
+
   pub starts-long : {l : List ℕ} → l ≡ startsOf s v queue → length l ≡ startPlaces
   unfolding startsOf
-  starts-long e = ap length e ∙ length-tab startPlaces (startOf s v queue)
+  starts-long e = ap length e ∙ length-tab startPlaces entryAt
 
-  pub starts-at : {l : List ℕ} → l ≡ startsOf s v queue → (k : ℕ) → k < startPlaces → getD l k 0 ≡ startOf s v queue k
+  entry-at : {l : List ℕ} → l ≡ startsOf s v queue → (k : ℕ) → k < startPlaces → getD l k 0 ≡ entryAt k
   unfolding startsOf
-  starts-at e k h = ap (λ (l : List ℕ). getD l k 0) e ∙ getD-tab startPlaces (startOf s v queue) k 0 h
+  entry-at e k h = ap (λ (l : List ℕ). getD l k 0) e ∙ getD-tab startPlaces entryAt k 0 h
 
-  pub starts-by : {l : List ℕ} → length l ≡ startPlaces → ((k : ℕ) → k < startPlaces → getD l k 0 ≡ startOf s v queue k) → l ≡ startsOf s v queue
+  pub starts-at : Limits s → {l : List ℕ} → l ≡ startsOf s v queue → (k : ℕ) → k < usedPlaces s → getD l k 0 ≡ startOf s v queue k
+  starts-at limits e k h = entry-at e k (omega (arith, used-most s limits)) ∙ rw (lt-ltb k (usedPlaces s) h)
+
+  pub starts-past : {l : List ℕ} → l ≡ startsOf s v queue → (k : ℕ) → usedPlaces s ≤ k → k < startPlaces → getD l k 0 ≡ front
+  starts-past e k past h = entry-at e k h ∙ rw (le-ltb k (usedPlaces s) past)
+
+  pub starts-by : {l : List ℕ} → length l ≡ startPlaces → ((k : ℕ) → k < usedPlaces s → k < startPlaces → getD l k 0 ≡ startOf s v queue k)
+      → ((k : ℕ) → usedPlaces s ≤ k → k < startPlaces → getD l k 0 ≡ front) → l ≡ startsOf s v queue
   unfolding startsOf
-  starts-by {l} long each = eq-tab l startPlaces (startOf s v queue) 0 long each
+  starts-by {l} long each past = eq-tab l startPlaces entryAt 0 long (λ k h. go k h (lt-or-ge k (usedPlaces s)))
+    where
+      go : (k : ℕ) → k < startPlaces → (k < usedPlaces s) ⊎ (usedPlaces s ≤ k) → getD l k 0 ≡ entryAt k
+      go k h (inl a) = each k a h ∙ rw (lt-ltb k (usedPlaces s) a)
+      go k h (inr a) = past k a h ∙ rw (le-ltb k (usedPlaces s) a)
 
   below-most : (k : ℕ) → framesBelow s v queue k ≤ twoAt queue 0
   below-most k = omega (arith, leading-le (λ f. ltb (dueNear s v f) (s .modulus + k)) (held (s .epsilon) queue), length-held (s .epsilon) queue)
+
+  -- those due at most d ticks after v are those whose sums have places below d + 1
+  pub below-within : (d : ℕ) → framesBelow s v queue (d + 1) ≡ leading (dueWithin s v d) (held (s .epsilon) queue)
+  unfolding dueWithin
+  below-within d =
+      let next : s .modulus + (d + 1) ≡ suc (s .modulus + d) = omega arith in
+      leading-ext (λ f. ltb (dueNear s v f) (s .modulus + (d + 1))) (dueWithin s v d) (held (s .epsilon) queue)
+      (λ f _. ap (ltb (dueNear s v f)) next ∙ leb·suc-suc (dueNear s v f) (s .modulus + d))
 
   -- the entry of frame i, or of the end
   pub start-at : {i at : ℕ} (k : ℕ) → at ≡ frameStart (s .epsilon) queue i → i ≤ twoAt queue 0
@@ -154,21 +259,12 @@ module _ (s : Setup) (v : ℕ) (queue : List ℕ) where
       leading-held (λ f. ltb (dueNear s v f) (s .modulus + k)) (s .epsilon) queue i most (λ j h. lt-ltb (dueNear s v (frame j)) (s .modulus + k) (smaller j h)) (λ h. le-ltb (dueNear s v (frame i)) (s .modulus + k) (larger h)) in
       rw (e, starts)
 
-  -- some places more
-  pub filled-more : {m from to : ℕ} (starts : List ℕ) {l : List ℕ} → ((k : ℕ) → k < from → k < startPlaces → getD starts k 0 ≡ startOf s v queue k)
-      → ((k : ℕ) → from ≤ k → k < to → m ≡ startOf s v queue k) → l ≡ filled m from to starts → (k : ℕ) → k < to → k < startPlaces → getD l k 0 ≡ startOf s v queue k
-  filled-more {m} {from} {to} starts old new e k h inside = changed-at (λ _. m) from starts to e k inside ∙ go (lt-or-ge k from)
-    where
-      go : (k < from) ⊎ (from ≤ k) → cond (ltb k from) (getD starts k 0) (cond (ltb k to) m (getD starts k 0)) ≡ startOf s v queue k
-      go (inl a) = rw (lt-ltb k from a) (old k a inside)
-      go (inr a) = rw (le-ltb k from a, lt-ltb k to h) (new k a h)
-
   -- the entries of an empty queue
   pub starts-none : held (s .epsilon) queue ≡ [] → allFront ≡ startsOf s v queue
   unfolding startsOf startOf leading
   starts-none none =
       replicate-tab startPlaces front
-      ∙ tab-ext startPlaces (λ _. front) (startOf s v queue) (λ k _. rw (none, start-zero (s .epsilon) queue))
+      ∙ tab-ext startPlaces (λ _. front) entryAt (λ k _. rw (none, start-zero (s .epsilon) queue) (sym (cond-same (ltb k (usedPlaces s)) front)))
 
 -- ---- how large they are
 
@@ -189,13 +285,22 @@ module _ (s : Setup) (v least : ℕ) (queue : List ℕ) (limits : Limits s) (sou
 
   pub moving : {step : ℕ} {starts : List ℕ} → starts ≡ startsOf s v queue → step < startLimit → Moving starts step
   unfolding startOf
-  moving e small =
-      record { long = starts-long s v queue e; each = λ k h. omega (arith, starts-at s v queue e k h, below-small k); small = small }
+  moving {step} {starts} e small =
+      record { long = starts-long s v queue e; each = λ k h. go k h (lt-or-ge k (usedPlaces s)); small = small }
+    where
+      go : (k : ℕ) → k < startPlaces → (k < usedPlaces s) ⊎ (usedPlaces s ≤ k) → getD starts k 0 < startLimit
+      go k h (inl a) = omega (arith, starts-at s v queue limits e k a, below-small k)
+      go k h (inr a) = omega (arith, starts-past s v queue e k a h)
 
   -- an entry taken apart
   pub start-parts : (k m : ℕ) → m ≡ startOf s v queue k → (m / startUnit ≡ framesBelow s v queue k) × (m % startUnit ≡ frameStart (s .epsilon) queue (framesBelow s v queue k))
   unfolding startOf
   start-parts k m e = let low = below-small k .1 in (omega arith, omega arith)
+
+  pub start-stands : (k m : ℕ) → m ≡ startOf s v queue k → Stands (s .epsilon) queue (framesBelow s v queue k) (m / startUnit) (m % startUnit)
+  start-stands k m e =
+      let parts = start-parts k m e in
+      record { frames = parts .0; starts = parts .1 ∙ ap (frameStart (s .epsilon) queue) (sym (parts .0)) }
 
   -- a search that starts at an entry, for a frame that is not due before v
   pub start-leads : {count m : ℕ} (k : ℕ) (f : Frame) → 2 ≤ length queue → count ≡ twoAt queue 0 → m ≡ startOf s v queue k → s .modulus + k ≡ dueNear s v f
@@ -283,10 +388,14 @@ module _ (s : Setup) (v : ℕ) (queue queue′ : List ℕ) (f : Frame) (place si
   unfolding sumPlace
   own-place = omega (arith, late)
 
-  pub moved-table : {starts l : List ℕ} → starts ≡ startsOf s v queue → l ≡ movedStarts (sumPlace s v f + 1) (startUnit + size) starts → l ≡ startsOf s v queue′
-  moved-table {starts} {l} old e =
+  pub moved-table : Limits s → {starts l : List ℕ} → starts ≡ startsOf s v queue → l ≡ movedStarts (sumPlace s v f + 1) (usedPlaces s) (startUnit + size) starts → l ≡ startsOf s v queue′
+  moved-table limits {starts} {l} old e =
       let from : ℕ = sumPlace s v f + 1 in
-      starts-by s v queue′ (changed-long (λ m. m + (startUnit + size)) from starts startPlaces e) (λ k h. changed-at (λ m. m + (startUnit + size)) from starts startPlaces e k h ∙ rw (starts-at s v queue old k h, lt-ltb k startPlaces h) (go k (lt-or-ge k from)))
+      let to : ℕ = usedPlaces s in
+      let move : ℕ → ℕ = λ m. m + (startUnit + size) in
+      starts-by s v queue′ (changed-long move from starts to e)
+      (λ k a h. changed-at move from starts to e k h ∙ rw (starts-at s v queue limits old k a, lt-ltb k to a) (go k (lt-or-ge k from)))
+      (λ k a h. changed-past move from starts to e k a h ∙ starts-past s v queue old k a h)
     where
       go : (k : ℕ) → (k < sumPlace s v f + 1) ⊎ (sumPlace s v f + 1 ≤ k) → cond (ltb k (sumPlace s v f + 1)) (startOf s v queue k) (startOf s v queue k + (startUnit + size)) ≡ startOf s v queue′ k
       go k (inl a) = rw (lt-ltb k (sumPlace s v f + 1) a) (entry-stays k (omega (arith, own-place)))

@@ -1,6 +1,6 @@
 -- The tests of one frame, and of two, as the code makes them.
 -- Assumes nothing.
-use Prim.Native.Nat.{ℕ, _+_, _-_, _≤_, _<_, _^_}
+use Prim.Native.Nat.{ℕ, _+_, _*_, _-_, _%_, _≤_, _<_, _^_}
 use native.Mathlib.Omega.{arith}
 use mathlib.Core.Path.{_≡_, refl, ap, ap₂, _∙_}
 use mathlib.Core.Bool.{Bool, true, false}
@@ -10,7 +10,7 @@ use lib.Dec.{leb, eqb}
 use lib.ListN.{length}
 use borrow.Author.Tests.{le-leb, lt-leb, leb-true}
 use Rattle.laws.specs.Lex.{lexCompare, isLess}
-use Rattle.laws.proofs.Numbers.{and-left, and-right}
+use Rattle.laws.proofs.Numbers.{lt-or-ge, and-left, and-right}
 use Rattle.model.specs.Setup.{Setup, width}
 use Rattle.model.specs.Timestamp.{sum}
 use Rattle.model.specs.Frame.{Frame, decode}
@@ -29,7 +29,7 @@ use Rattle.lemmas.proofs.Comparing.{keys-order, length-key}
 use Rattle.timestamp.proofs.Ordered.{Tags}
 use Rattle.lemmas.proofs.RoundTrip.{formed-from, decode-wide}
 use Rattle.holdback.specs.Queue.{rankAt, rankOf, rankBefore}
-use Rattle.holdback.specs.Sound.{fits, timely, Summed}
+use Rattle.holdback.specs.Sound.{fits, timely, Recent, Summed}
 use Rattle.holdback.specs.Starts.{rankPlace, placesTo, sumPlace}
 use Rattle.holdback.proofs.RoundTrip.{passing}
 
@@ -53,15 +53,22 @@ summed s v bytes reading c limits ok er ec =
     let h = reading-high s v (decode (s .epsilon) bytes) limits in
     record { is-sum = ap₂ _+_ er ec; small = omega arith }
 
--- early or overdue, by the rank
-module _ (s : Setup) (least : ℕ) (rank : Rank) where
-  pub untimely : s .modulus + (s .epsilon - 1) < rank .reading + rank .c → false ≡ timely s least rank
-  unfolding timely sum
-  untimely h = rw (lt-leb (rank .reading + rank .c) (s .modulus + (s .epsilon - 1)) h)
-
-  pub timely-rest : rank .reading + rank .c ≤ s .modulus + (s .epsilon - 1) → leb least (rank .reading + rank .c + s .delta + s .epsilon) ≡ timely s least rank
+-- early or overdue, by the rank: x is how far the due clock lies past the least, in numbers that wrap
+module _ (s : Setup) (least : ℕ) (rank : Rank) (limits : Limits s) (near : Recent s least) (small : (rank .reading ≤ 2 ^ 17) × (rank .c < s .epsilon)) where
+  pub timely-by : (x : ℕ) → x < 2 ^ 64 → (x + least) % 2 ^ 64 ≡ rank .reading + rank .c + s .delta + s .epsilon
+      → leb x (s .modulus + s .delta + 2 * s .epsilon - 1 - least) ≡ timely s least rank
   unfolding timely due sum
-  timely-rest h = rw (le-leb (rank .reading + rank .c) (s .modulus + (s .epsilon - 1)) h)
+  timely-by x wide e =
+      let total : ℕ = rank .reading + rank .c in
+      let after : ℕ = total + s .delta + s .epsilon in
+      elim (lt-or-ge (s .modulus + (s .epsilon - 1)) total) [
+        | inl early ↦ rw (lt-leb total (s .modulus + (s .epsilon - 1)) early, lt-leb x (s .modulus + s .delta + 2 * s .epsilon - 1 - least) (omega arith))
+        | inr inside ↦
+            elim (lt-or-ge after least) [
+              | inl overdue ↦ rw (le-leb total (s .modulus + (s .epsilon - 1)) inside, lt-leb least after overdue, lt-leb x (s .modulus + s .delta + 2 * s .epsilon - 1 - least) (omega arith))
+              | inr later ↦ rw (le-leb total (s .modulus + (s .epsilon - 1)) inside, le-leb least after later, le-leb x (s .modulus + s .delta + 2 * s .epsilon - 1 - least) (omega arith))
+            ]
+      ]
 
 pub fits-passes : (s : Setup) (v least : ℕ) (bytes : List ℕ) → fits s v least bytes ≡ true → passes s bytes ≡ true
 unfolding fits
@@ -86,9 +93,9 @@ unfolding rankPlace sumPlace dueNear
 rank-placed s v f rank e = ap (rankPlace s) e
 
 -- the places up to it
-pub places-placed : (s : Setup) (v : ℕ) (f : Frame) (rank : Rank) → rank ≡ rankOf s v f → placesTo s rank ≡ dueNear s v f + 1 - s .modulus
-unfolding placesTo dueNear
-places-placed s v f rank e = ap (placesTo s) e
+pub places-placed : (s : Setup) (v : ℕ) (f : Frame) {total : ℕ} → total ≡ readingOf s v f + f .stamp .c → placesTo s total ≡ dueNear s v f + 1 - s .modulus
+unfolding placesTo dueNear due sum
+places-placed s v f e = ap (placesTo s) e
 
 -- ---- the order of two
 

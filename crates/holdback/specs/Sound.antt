@@ -4,7 +4,7 @@ use Prim.Native.Nat.{ℕ, zero, suc, _+_, _-_, _≤_, _<_}
 use mathlib.Core.Path.{_≡_}
 use mathlib.Core.Bool.{Bool, true, false, _&&_, not, cond}
 use mathlib.Core.List.{List, []}
-use lib.Dec.{leb, eqb}
+use lib.Dec.{leb}
 use lib.ListN.{length}
 use Rattle.laws.specs.Lists.{tab, any}
 use Rattle.model.specs.Setup.{Setup, depth}
@@ -12,12 +12,13 @@ use Rattle.model.specs.Timestamp.{sum}
 use Rattle.model.specs.Frame.{Frame, twoAt, decode}
 use Rattle.model.specs.Order.{readingOf, before, due}
 use Rattle.model.specs.Holdback.{passes, notEarly, notOverdue, sameOrigin, soundHoldback}
-use Rattle.model.specs.Tick.{openingQueue}
+use Rattle.model.specs.Tick.{openingQueue, holdbackSize}
 use Rattle.timestamp.specs.declared.ordering.Rank.{Rank}
-use Rattle.timestamp.specs.Ranks.{Ranked}
+use Rattle.holdback.specs.declared.keys.Key.{Key}
 use Rattle.holdback.specs.declared.soundness.Judged.{Judged}
 use Rattle.holdback.specs.declared.soundness.Walk.{Walk}
-use Rattle.holdback.specs.Queue.{frameStart, bytesAt, frameAt, rankOf, rankBefore, countsAt}
+use Rattle.holdback.specs.Queue.{frameStart, bytesAt, frameAt}
+use Rattle.holdback.specs.Keys.{keyOf, noKey}
 use Rattle.holdback.specs.Seen.{seenTable}
 use Rattle.holdback.specs.Starts.{startsOf, allFront}
 
@@ -45,51 +46,43 @@ unfoldable pub timely : Setup → ℕ → Rank → Bool
 timely s least rank =
     leb (sum (rank .reading) (rank .c)) (s .modulus + (s .epsilon - 1)) && leb least (due s (rank .reading) (rank .c))
 
--- 02, 2.2: the last clock lies at most ε before v, so the least due clock allowed, as a reading, in which v stands at B, less than ε
-abbrev pub Recent : Setup → ℕ → Type 0
-Recent s least = s .modulus + 1 ≤ least + s .epsilon
-
--- frame i, at `at`, comes after the one before it, at `prev`, by their ranks
-unfoldable pub rankFollows : ℕ → List ℕ → ℕ → ℕ → Rank → ℕ → Rank → Bool
-rankFollows epsilon queue i prev last at rank =
-    cond (eqb i 0) true (rankBefore epsilon last (countsAt epsilon queue prev) rank (countsAt epsilon queue at))
-
--- what is asked of the two for that
-pub record Compared (epsilon : ℕ) (queue : List ℕ) (i prev : ℕ) (last : Rank) (at : ℕ) (rank : Rank) : Type 0 where
-  pub narrow : epsilon ≤ 16
-  pub own : Ranked epsilon rank (countsAt epsilon queue at)
-  pub previous : (i ≡ 0 → ⊥) → Ranked epsilon last (countsAt epsilon queue prev)
-
--- the rank where there is no frame
-abbrev pub noRank : Rank
-noRank = record { reading = 0; c = 0; station = 0 }
+-- 02, 2.2: the last clock lies at most ε before v, so the least due clock allowed, as a reading, in which v stands at B, less than ε; and it
+-- is not past the one after v, which a poll allows
+pub record Recent (s : Setup) (least : ℕ) : Type 0 where
+  pub late : s .modulus + 1 ≤ least + s .epsilon
+  pub close : least ≤ s .modulus + 1
 
 -- of a frame that is not sound
 abbrev pub unsound : Judged
-unsound = record { end = 0; rank = noRank }
+unsound = record { end = 0; key = noKey }
 
--- where frame i ends and its rank, if it is sound
+-- where frame i ends and its key, if it is sound
 unfoldable pub judgedAt : Setup → ℕ → ℕ → List ℕ → ℕ → Judged
 judgedAt s v least queue i =
-    cond (frameSound s v least queue i) (record { end = frameStart (s .epsilon) queue (suc i); rank = rankOf s v (frameAt (s .epsilon) queue i) }) unsound
+    cond (frameSound s v least queue i) (record { end = frameStart (s .epsilon) queue (suc i); key = keyOf s v (frameAt (s .epsilon) queue i) }) unsound
+
+-- the key of the frame before frame i
+unfoldable pub lastKey : Setup → ℕ → List ℕ → ℕ → Key
+lastKey s v queue zero = noKey
+lastKey s v queue (suc k) = keyOf s v (frameAt (s .epsilon) queue k)
 
 -- r + c of a frame, with r read near v
 pub record Summed (s : Setup) (v : ℕ) (f : Frame) (r : ℕ) : Type 0 where
   pub is-sum : r ≡ readingOf s v f + f .stamp .c
   pub small : r < 131072
 
--- a walk over a queue that has found its first i frames sound: frame i starts at `at`, the one before it at `prev` and has the rank `last`, and the table of origins has those of the frames so far
-pub record Walking (s : Setup) (v least : ℕ) (queue table : List ℕ) (i prev : ℕ) (last : Rank) (at : ℕ) : Type 0 where
-  pub two : 2 ≤ length queue
+-- a walk over a queue that has found its first i frames sound: frame i starts at `at`, the one before it has the key `last`, and the table of
+-- origins has those of the frames so far
+pub record Walking (s : Setup) (v least : ℕ) (queue table : List ℕ) (i : ℕ) (last : Key) (at : ℕ) : Type 0 where
+  pub room : holdbackSize s ≤ length queue
   pub starts : at ≡ frameStart (s .epsilon) queue i
-  pub previous : prev ≡ frameStart (s .epsilon) queue (i - 1)
-  pub ranked : (i ≡ 0 → ⊥) → last ≡ rankOf s v (frameAt (s .epsilon) queue (i - 1))
+  pub last-is : last ≡ lastKey s v queue i
   pub each : (k : ℕ) → k < i → frameSound s v least queue k ≡ true
   pub table-is : table ≡ seenTable s v (tab i (frameAt (s .epsilon) queue))
 
 -- where it begins: the count is in its bound, the table of origins is empty, and the table of starts is that of an empty queue
 pub record Starting (s : Setup) (v : ℕ) (queue table starts : List ℕ) (count : ℕ) : Type 0 where
-  pub two : 2 ≤ length queue
+  pub room : holdbackSize s ≤ length queue
   pub count-is : count ≡ twoAt queue 0
   pub few : count ≤ depth (s .n) (s .epsilon) (s .delta)
   pub empty : table ≡ seenTable s v []

@@ -1,6 +1,6 @@
 -- Starts: where a search for the place of a frame starts, by the frame's sum.
 -- Assumes nothing.
-use Prim.Native.Nat.{ℕ, _+_, _*_, _-_, _<_}
+use Prim.Native.Nat.{ℕ, zero, suc, _+_, _*_, _-_, _<_, max}
 use mathlib.Core.Path.{_≡_}
 use mathlib.Core.Bool.{cond}
 use mathlib.Core.List.{List}
@@ -22,9 +22,13 @@ startUnit = 131072
 abbrev pub startLimit : ℕ
 startLimit = 2147483648
 
--- places in the table of starts: a place for each sum of the frames that are not due before v, which are δ + 2ε at most
+-- places in the table of starts
 abbrev pub startPlaces : ℕ
-startPlaces = 96
+startPlaces = 97
+
+-- those that a setup uses: a place for each sum of the frames that are not due before v, which are δ + 2ε at most, and one for the end
+abbrev pub usedPlaces : Setup → ℕ
+usedPlaces s = s .delta + 2 * s .epsilon + 1
 
 -- the entry for the front: no frames, and the first one starts behind the count
 abbrev pub front : ℕ
@@ -39,8 +43,8 @@ unfoldable pub rankPlace : Setup → Rank → ℕ
 rankPlace s rank = due s (rank .reading) (rank .c) - s .modulus
 
 -- the places up to that of a sum: none where it is due before v
-unfoldable pub placesTo : Setup → Rank → ℕ
-placesTo s rank = due s (rank .reading) (rank .c) + 1 - s .modulus
+unfoldable pub placesTo : Setup → ℕ → ℕ
+placesTo s total = total + s .delta + s .epsilon + 1 - s .modulus
 
 -- the place for the sum of a frame
 unfoldable pub sumPlace : Setup → ℕ → Frame → ℕ
@@ -55,9 +59,9 @@ unfoldable pub startOf : Setup → ℕ → List ℕ → ℕ → ℕ
 startOf s v queue k =
     framesBelow s v queue k * startUnit + frameStart (s .epsilon) queue (framesBelow s v queue k)
 
--- the table of starts of a queue
+-- the table of starts of a queue; the places that are not used have the front
 unfoldable pub startsOf : Setup → ℕ → List ℕ → List ℕ
-startsOf s v queue = tab startPlaces (startOf s v queue)
+startsOf s v queue = tab startPlaces (λ k. cond (ltb k (usedPlaces s)) (startOf s v queue k) front)
 
 -- the table with the places from one up to, not including, another changed
 unfoldable pub changed : (ℕ → ℕ) → ℕ → ℕ → List ℕ → List ℕ
@@ -68,13 +72,22 @@ changed f from to starts =
 abbrev pub filled : ℕ → ℕ → ℕ → List ℕ → List ℕ
 filled m from to starts = changed (λ _. m) from to starts
 
--- a step added to each from a place on
-abbrev pub movedStarts : ℕ → ℕ → List ℕ → List ℕ
-movedStarts from step starts = changed (λ m. m + step) from startPlaces starts
+-- a step added to each of them
+abbrev pub movedStarts : ℕ → ℕ → ℕ → List ℕ → List ℕ
+movedStarts from to step starts = changed (λ m. m + step) from to starts
 
--- a step taken from each
-abbrev pub loweredStarts : ℕ → List ℕ → List ℕ
-loweredStarts step starts = changed (λ m. m - step) 0 startPlaces starts
+-- a step taken from each below a place
+abbrev pub loweredStarts : ℕ → ℕ → List ℕ → List ℕ
+loweredStarts to step starts = changed (λ m. m - step) 0 to starts
+
+-- the largest of the front and the entries below a place
+unfoldable pub highest : List ℕ → ℕ → ℕ
+highest starts zero = front
+highest starts (suc k) = max (highest starts k) (getD starts k 0)
+
+-- the table with each place below one raised to the largest entry up to it
+unfoldable pub spreadStarts : ℕ → List ℕ → List ℕ
+spreadStarts to starts = tab startPlaces (λ k. cond (ltb k to) (highest starts (suc k)) (getD starts k 0))
 
 -- numbers with which entries are moved
 pub record Moving (starts : List ℕ) (step : ℕ) : Type 0 where

@@ -50,7 +50,7 @@ pub fn comes_before(epsilon: usize, f: Rank, kf: &[u8], g: Rank, kg: &[u8]) -> b
 }
 
 // The ε counts behind the eight newest, as one number: 0 where there are none.
-fn older_counts(epsilon: usize, c: usize, frame: &[u8]) -> u64
+pub fn older_counts(epsilon: usize, c: usize, frame: &[u8]) -> u64
     requires { ⌜ (epsilon ≤ 16) × (payloadCountAt epsilon ≤ length (now frame)) ⌝ }
     requires { ⌜ c < epsilon ⌝ }
     ensures { λ r. ⌜ r ≡ newestFrom epsilon c 8 (countsOf epsilon (now (frame .entry))) ⌝ }

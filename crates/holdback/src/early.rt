@@ -4,9 +4,11 @@ use crate::change::Place;
 use crate::change::append_prefix;
 use crate::change::cut_front;
 use crate::compare::rank_of;
+use crate::due::front_below;
 use crate::origins::clear_mark;
 use crate::starts::START_UNIT;
 use crate::starts::lower_starts;
+use crate::timing::used_places;
 use setup::Setup;
 ghost use mathlib.Core.Path.{_≡_};
 ghost use mathlib.Core.Bool.{true};
@@ -19,19 +21,6 @@ ghost use Rattle.setup.specs.Views.{setupOf};
 ghost use Rattle.holdback.specs.Queue.{frameStart};
 ghost use Rattle.holdback.specs.Seen.{seenTable};
 ghost use Rattle.holdback.specs.Early.{SoundBy, EarlyFront, Tabled, Left, Released};
-
-// The frames at the front that are due before v: the others start where a search for a sum that is due at v does.
-fn early_front(s: Setup, v: usize, buf: &[u8], starts: &[u32]) -> Place
-    requires { ⌜ inLimits (setupOf s) ≡ true ⌝ }
-    requires { ⌜ SoundBy (setupOf s) v (now buf) × Tabled (setupOf s) v (now buf) (now starts) ⌝ }
-    ensures { λ p. ⌜ EarlyFront (setupOf s) v (now (buf .entry)) (p .index) (p .at) ⌝ }
-{
-    let start = starts[0] as usize;
-    Place {
-        index: start / START_UNIT,
-        at: start % START_UNIT,
-    }
-}
 
 // Takes the marks of the first `index` frames away.
 fn unmark(s: Setup, v: usize, buf: &[u8], index: usize, seen: &mut [u64])
@@ -69,7 +58,9 @@ fn cut_early(
     ensures { λ _. ⌜ Left (setupOf s) v (now (buf .entry)) (early .index) (now (buf .exit)) (now (seen .exit)) (now (starts .exit)) ⌝ }
 {
     unmark(s, v, buf, early.index, seen);
-    lower_starts(starts, (early.index * START_UNIT + (early.at - 2)) as u32);
+    let to = used_places(s);
+    let step = early.index * START_UNIT + (early.at - 2);
+    lower_starts(starts, to, step as u32);
     cut_front(s.epsilon as usize, buf, count, end, early);
 }
 
@@ -91,7 +82,7 @@ pub fn release(
     ensures { λ p. ⌜ Released (setupOf s) v (now (buf .entry)) (now (delivery .entry)) (p .index) (p .at)
         (now (buf .exit)) (now (seen .exit)) (now (starts .exit)) (now (delivery .exit)) ⌝ }
 {
-    let early = early_front(s, v, buf, starts);
+    let early = front_below(s, v, 0, buf, starts);
     splice::put_u16(delivery, 0, 0);
     append_prefix(
         s.epsilon as usize,

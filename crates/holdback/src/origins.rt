@@ -22,7 +22,7 @@ const WORD_LENGTH: usize = 64;
 pub const TABLE_LENGTH: usize = 32;
 
 // The place of a station and a reading.
-fn slot(s: Setup, rank: Rank) -> usize
+pub fn slot(s: Setup, rank: Rank) -> usize
     requires { ⌜ (inLimits (setupOf s) ≡ true) × Within (setupOf s) rank ⌝ }
     ensures { λ r. ⌜ (r ≡ rankSlot (setupOf s) rank) × (r < tableLength * wordLength) ⌝ }
 {
@@ -30,24 +30,38 @@ fn slot(s: Setup, rank: Rank) -> usize
     rank.station * ROW_LENGTH + (rank.reading + back - s.modulus as usize)
 }
 
-// It is marked.
-pub fn is_marked(s: Setup, rank: Rank, seen: &[u64]) -> bool
+// A place is marked.
+pub fn has_mark(i: usize, seen: &[u64]) -> bool
+    requires { ⌜ (length (now seen) ≡ tableLength) × (i < tableLength * wordLength) ⌝ }
+    ensures { λ b. ⌜ b ≡ hasMark (now (seen .entry)) i ⌝ }
+{
+    (seen[i / WORD_LENGTH] >> (i % WORD_LENGTH)) % 2 == 1
+}
+
+// Marks a place, which was not.
+pub fn put_mark(i: usize, seen: &mut [u64])
+    requires { ⌜ (length (now seen) ≡ tableLength) × ((i < tableLength * wordLength) × (hasMark (now seen) i ≡ false)) ⌝ }
+    ensures { λ _. ⌜ now (seen .exit) ≡ withMark (now (seen .entry)) i ⌝ }
+{
+    seen[i / WORD_LENGTH] += 1u64 << (i % WORD_LENGTH);
+}
+
+// The place of a rank is marked.
+fn is_marked(s: Setup, rank: Rank, seen: &[u64]) -> bool
     requires { ⌜ (inLimits (setupOf s) ≡ true) × Within (setupOf s) rank ⌝ }
     requires { ⌜ length (now seen) ≡ tableLength ⌝ }
     ensures { λ b. ⌜ b ≡ hasMark (now (seen .entry)) (rankSlot (setupOf s) rank) ⌝ }
 {
-    let i = slot(s, rank);
-    (seen[i / WORD_LENGTH] >> (i % WORD_LENGTH)) % 2 == 1
+    has_mark(slot(s, rank), seen)
 }
 
 // Marks it, which was not.
-pub fn set_mark(s: Setup, rank: Rank, seen: &mut [u64])
+fn set_mark(s: Setup, rank: Rank, seen: &mut [u64])
     requires { ⌜ (inLimits (setupOf s) ≡ true) × Within (setupOf s) rank ⌝ }
     requires { ⌜ (length (now seen) ≡ tableLength) × (hasMark (now seen) (rankSlot (setupOf s) rank) ≡ false) ⌝ }
     ensures { λ _. ⌜ now (seen .exit) ≡ withMark (now (seen .entry)) (rankSlot (setupOf s) rank) ⌝ }
 {
-    let i = slot(s, rank);
-    seen[i / WORD_LENGTH] += 1u64 << (i % WORD_LENGTH);
+    put_mark(slot(s, rank), seen);
 }
 
 // Takes its mark away, which was there.

@@ -1,31 +1,34 @@
 // 01: "It is sound if": one walk over the frames, each judged once, its origin by one look-up.
-use crate::compare::precedes;
 use crate::compare::rank_of;
+use crate::keys::Key;
+use crate::keys::key_less;
+use crate::keys::key_of;
+use crate::keys::no_key;
 use crate::origins::clear_marks;
-use crate::origins::is_marked;
-use crate::origins::set_mark;
+use crate::origins::has_mark;
+use crate::origins::put_mark;
 use crate::starts::FRONT;
 use crate::starts::START_PLACES;
 use crate::starts::START_UNIT;
 use crate::starts::fill;
+use crate::starts::spread;
 use crate::timing::places_to;
 use crate::timing::timely;
+use crate::timing::used_places;
 use setup::Setup;
 use setup::depth;
-use timestamp::Rank;
 use timestamp::limits_of;
 ghost use mathlib.Core.Path.{_≡_};
 ghost use mathlib.Core.Bool.{true};
-ghost use Prim.Native.Nat.{_+_, _-_, _≤_, _<_};
-ghost use lib.ListN.{length, take, drop, replicate};
-ghost use Rattle.model.specs.Setup.{inLimits};
-ghost use Rattle.model.specs.Frame.{frameEnd};
-ghost use Rattle.model.specs.Holdback.{passes};
+ghost use Prim.Native.Nat.{_≤_, _<_};
+ghost use lib.ListN.{length, replicate};
+ghost use Rattle.model.specs.Setup.{inLimits, depth};
+ghost use Rattle.model.specs.Tick.{holdbackSize};
 ghost use Rattle.setup.specs.Views.{setupOf};
 ghost use Rattle.timestamp.specs.Window.{limitsOf};
 ghost use Rattle.holdback.specs.Seen.{tableLength};
 ghost use Rattle.holdback.specs.Starts.{allFront};
-ghost use Rattle.holdback.specs.Sound.{emptied, noRank, rankFollows, Compared, unsound, judgedAt, Recent, Walking, Starting, Walked};
+ghost use Rattle.holdback.specs.Sound.{emptied, unsound, judgedAt, Recent, Walking, Starting, Walked};
 
 // What the walk answers: sound or not, how many frames, and where they end, of an unsound queue as of an empty one.
 pub struct Walk {
@@ -44,21 +47,10 @@ fn emptied() -> Walk
     }
 }
 
-// The rank where there is no frame.
-fn no_rank() -> Rank
-    ensures { λ r. ⌜ r ≡ noRank ⌝ }
-{
-    Rank {
-        reading: 0,
-        c: 0,
-        station: 0,
-    }
-}
-
-// Where a frame ends, 0 where it is not sound; and its rank.
+// Where a frame ends, 0 where it is not sound; and its key.
 struct Judged {
     end: usize,
-    rank: Rank,
+    key: Key,
 }
 
 fn unsound() -> Judged
@@ -66,44 +58,12 @@ fn unsound() -> Judged
 {
     Judged {
         end: 0,
-        rank: no_rank(),
+        key: no_key(),
     }
 }
 
-// 01: "strictly in order": frame i, which starts at `at`, comes after the one before it, which starts at `prev` and has the rank `last`.
-fn follows(
-    epsilon: usize,
-    buf: &[u8],
-    i: usize,
-    prev: usize,
-    last: Rank,
-    at: usize,
-    rank: Rank,
-) -> bool
-    requires { ⌜ Compared epsilon (now buf) i prev last at rank ⌝ }
-    ensures { λ b. ⌜ b ≡ rankFollows epsilon (now (buf .entry)) i prev last at rank ⌝ }
-{
-    if i == 0 {
-        return true;
-    }
-    precedes(epsilon, last, &buf[prev..], rank, &buf[at..])
-}
-
-// The frame from `at` up to `next` passes 10 to 12. `limits` is what its counts are held to. Where the buffer is too short for a window, the
-// frame is asked by itself.
-fn passes_at(s: Setup, limits: &[u8], buf: &[u8], at: usize, next: usize) -> bool
-    requires { ⌜ (inLimits (setupOf s) ≡ true) × (now limits ≡ limitsOf (s .n) (s .epsilon)) ⌝ }
-    requires { ⌜ (next ≡ at + frameEnd (s .epsilon) (drop at (now buf))) × (next ≤ length (now buf)) ⌝ }
-    ensures { λ b. ⌜ b ≡ passes (setupOf s) (take (next - at) (drop at (now (buf .entry)))) ⌝ }
-{
-    if buf.len() < at + frame::WINDOW {
-        return frame::check(s, &buf[at..next]) == 0;
-    }
-    frame::check_window(s, limits, &buf[at..]) == 0
-}
-
-// Judges frame i, which starts at `at`; the one before it starts at `prev` and has the rank `last`. Once it passes 10 to 12, its rank
-// is read, once for the tests behind that.
+// Judges frame i, which starts at `at`; the one before it has the key `last`. Once it passes 10 to 12, its rank is read, once for the tests
+// behind that. The buffer has room for it, as it has for each frame of a queue.
 fn judge_at(
     s: Setup,
     v: usize,
@@ -112,37 +72,34 @@ fn judge_at(
     buf: &[u8],
     seen: &[u64],
     i: usize,
-    prev: usize,
-    last: Rank,
+    last: Key,
     at: usize,
 ) -> Judged
     requires { ⌜ (inLimits (setupOf s) ≡ true) × ((v < s .modulus) × (now limits ≡ limitsOf (s .n) (s .epsilon))) ⌝ }
-    requires { ⌜ Recent (setupOf s) least × Walking (setupOf s) v least (now buf) (now seen) i prev last at ⌝ }
+    requires { ⌜ Recent (setupOf s) least × (i < depth (s .n) (s .epsilon) (s .delta)) ⌝ }
+    requires { ⌜ Walking (setupOf s) v least (now buf) (now seen) i last at ⌝ }
     ensures { λ r. ⌜ r ≡ judgedAt (setupOf s) v least (now (buf .entry)) i ⌝ }
 {
-    let epsilon = s.epsilon as usize;
-    let next = at + frame::frame_end(epsilon, &buf[at..]);
-    if buf.len() < next {
-        return unsound();
-    }
-    if !passes_at(s, limits, buf, at, next) {
+    let next = at + frame::window_end(s.epsilon as usize, &buf[at..]);
+    if frame::check_window(s, limits, &buf[at..]) != 0 {
         return unsound();
     }
     let rank = rank_of(s, v, &buf[at..next]);
     if !timely(s, least, rank) {
         return unsound();
     }
-    if !follows(epsilon, buf, i, prev, last, at, rank) {
+    let key = key_of(s, rank, &buf[at..]);
+    if !key_less(last, key) {
         return unsound();
     }
-    if is_marked(s, rank, seen) {
+    if has_mark(key.slot, seen) {
         return unsound();
     }
-    Judged { end: next, rank }
+    Judged { end: next, key }
 }
 
-// The walk. The table of origins gets those of the frames so far, and the table of starts where the frames of each sum start: the places
-// up to that of a frame's sum that are not filled yet get the frame, and the last ones the end. (A frame that is due before v fills none.)
+// The walk. The table of origins gets those of the frames so far, and the table of starts, in the place behind that of a frame's sum, where
+// the frame ends; frames that are due before v share the first place. The entries grow, so in the end each place gets the largest up to it.
 // At a frame that is not sound the tables of origins and of starts become what they were.
 fn walk_frames(
     s: Setup,
@@ -159,33 +116,24 @@ fn walk_frames(
     ensures { λ w. ⌜ Walked (setupOf s) v least (now (buf .entry)) (w .sound) (w .count) (w .end) (now (seen .exit)) (now (starts .exit)) ⌝ }
 {
     let mut i = 0;
-    let mut prev = 2;
     let mut at = 2;
-    let mut last = no_rank();
-    let mut filled = 0;
+    let mut last = no_key();
     while i < count {
-        let judged = judge_at(s, v, least, limits, buf, seen, i, prev, last, at);
+        let judged = judge_at(s, v, least, limits, buf, seen, i, last, at);
         let next = judged.end;
         if next == 0 {
             clear_marks(seen);
             fill(starts, 0, START_PLACES, FRONT);
             return emptied();
         }
-        last = judged.rank;
-        set_mark(s, last, seen);
-        let k = places_to(s, last);
-        fill(starts, filled, k, (i * START_UNIT + at) as u32);
-        filled = k;
-        prev = at;
+        last = judged.key;
+        put_mark(last.slot, seen);
+        let k = places_to(s, last.sum);
         at = next;
         i += 1;
+        starts[k] = (i * START_UNIT + at) as u32;
     }
-    fill(
-        starts,
-        filled,
-        START_PLACES,
-        (count * START_UNIT + at) as u32,
-    );
+    spread(starts, used_places(s));
     Walk {
         sound: true,
         count,
@@ -206,7 +154,7 @@ pub fn sound(
     starts: &mut [u32],
 ) -> Walk
     requires { ⌜ (inLimits (setupOf s) ≡ true) × ((v < s .modulus) × Recent (setupOf s) least) ⌝ }
-    requires { ⌜ (2 ≤ length (now buf)) × ((now seen ≡ replicate tableLength 0) × (now starts ≡ allFront)) ⌝ }
+    requires { ⌜ (holdbackSize (setupOf s) ≤ length (now buf)) × ((now seen ≡ replicate tableLength 0) × (now starts ≡ allFront)) ⌝ }
     ensures { λ w. ⌜ Walked (setupOf s) v least (now (buf .entry)) (w .sound) (w .count) (w .end) (now (seen .exit)) (now (starts .exit)) ⌝ }
 {
     let count = splice::two_at(buf, 0);

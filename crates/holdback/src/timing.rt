@@ -2,6 +2,7 @@
 // of a reading.
 use crate::compare::rank_at;
 use setup::Setup;
+use std::num::wrapping_sub_u64;
 use timestamp::Rank;
 use timestamp::near;
 ghost use mathlib.Core.Path.{_≡_};
@@ -11,10 +12,9 @@ ghost use Rattle.model.specs.Setup.{inLimits};
 ghost use Rattle.model.specs.Frame.{decode};
 ghost use Rattle.model.specs.Order.{readingOf, dueNear, clockAt};
 ghost use Rattle.model.specs.Holdback.{passes};
-ghost use Rattle.model.specs.Poll.{dueWithin};
 ghost use Rattle.setup.specs.Views.{setupOf};
-ghost use Rattle.holdback.specs.Sound.{fits, timely, Summed};
-ghost use Rattle.holdback.specs.Starts.{rankPlace, placesTo, sumPlace};
+ghost use Rattle.holdback.specs.Sound.{fits, timely, Recent, Summed};
+ghost use Rattle.holdback.specs.Starts.{usedPlaces, rankPlace, placesTo, sumPlace};
 
 // The reading of a frame's r near v.
 pub fn reading_of(s: Setup, v: usize, frame: &[u8]) -> usize
@@ -39,19 +39,18 @@ fn sum_of(s: Setup, v: usize, frame: &[u8]) -> usize
     reading_of(s, v, frame) + frame::c_of(frame)
 }
 
-// 01: "each sum at most ε − 1 past v", and its due clock, sum + δ + ε, not before the least allowed, of one frame.
+// 01: "each sum at most ε − 1 past v", and its due clock, sum + δ + ε, not before the least allowed, of one frame: one test for both, since a
+// due clock before the least lies far past it in numbers that wrap.
 pub fn timely(s: Setup, least: usize, rank: Rank) -> bool
-    requires { ⌜ inLimits (setupOf s) ≡ true ⌝ }
+    requires { ⌜ (inLimits (setupOf s) ≡ true) × Recent (setupOf s) least ⌝ }
     requires { ⌜ (rank .reading ≤ 2 ^ 17) × (rank .c < s .epsilon) ⌝ }
     ensures { λ b. ⌜ b ≡ timely (setupOf s) least rank ⌝ }
 {
-    let sum = rank.reading + rank.c;
-    let modulus = s.modulus as usize;
+    let delta = s.delta as usize;
     let epsilon = s.epsilon as usize;
-    if modulus + (epsilon - 1) < sum {
-        return false;
-    }
-    least <= sum + s.delta as usize + epsilon
+    let due = rank.reading + rank.c + delta + epsilon;
+    let span = s.modulus as usize + delta + 2 * epsilon - 1 - least;
+    wrapping_sub_u64(due as u64, least as u64) <= span as u64
 }
 
 // Its due clock, sum + δ + ε, with r read near v.
@@ -61,15 +60,6 @@ pub fn due_of(s: Setup, v: usize, frame: &[u8]) -> usize
     ensures { λ r. ⌜ (r ≡ dueNear (setupOf s) v (decode (s .epsilon) (now (frame .entry)))) × (r < 2 ^ 18) ⌝ }
 {
     sum_of(s, v, frame) + s.delta as usize + s.epsilon as usize
-}
-
-// 02, 2.5: "due at most d ticks after v", which reads B.
-pub fn due_within(s: Setup, v: usize, d: usize, frame: &[u8]) -> bool
-    requires { ⌜ (inLimits (setupOf s) ≡ true) × ((v < s .modulus) × (d < 2 ^ 16)) ⌝ }
-    requires { ⌜ passes (setupOf s) (now frame) ≡ true ⌝ }
-    ensures { λ b. ⌜ b ≡ dueWithin (setupOf s) v d (decode (s .epsilon) (now (frame .entry))) ⌝ }
-{
-    due_of(s, v, frame) <= s.modulus as usize + d
 }
 
 // The clock modulo B of a reading near v, which reads B.
@@ -90,17 +80,24 @@ pub fn rank_place(s: Setup, rank: Rank) -> usize
 }
 
 // The places up to that of a sum: none where it is due before v.
-pub fn places_to(s: Setup, rank: Rank) -> usize
-    requires { ⌜ inLimits (setupOf s) ≡ true ⌝ }
-    requires { ⌜ (rank .reading ≤ 2 ^ 17) × (rank .c < s .epsilon) ⌝ }
-    ensures { λ r. ⌜ r ≡ placesTo (setupOf s) rank ⌝ }
+pub fn places_to(s: Setup, sum: usize) -> usize
+    requires { ⌜ (inLimits (setupOf s) ≡ true) × (sum ≤ 2 ^ 18) ⌝ }
+    ensures { λ r. ⌜ r ≡ placesTo (setupOf s) sum ⌝ }
 {
-    let next = rank.reading + rank.c + s.delta as usize + s.epsilon as usize + 1;
+    let next = sum + s.delta as usize + s.epsilon as usize + 1;
     let modulus = s.modulus as usize;
     if next < modulus {
         return 0;
     }
     next - modulus
+}
+
+// The places in the table of starts that a setup uses: one for each sum of the frames that are not due before v, and one for the end.
+pub fn used_places(s: Setup) -> usize
+    requires { ⌜ inLimits (setupOf s) ≡ true ⌝ }
+    ensures { λ r. ⌜ r ≡ usedPlaces (setupOf s) ⌝ }
+{
+    s.delta as usize + 2 * s.epsilon as usize + 1
 }
 
 // The place of a frame's sum, with its r at that reading.

@@ -96,13 +96,17 @@ own-room i {t} p h =
     ap (λ (x : Timestamp). getD (x .kn) (i .setup .epsilon) 0) h ∙ getD-padded widest (longHeardStamp i .kn) (i .setup .epsilon) in
     omega (arith, count-zero (longHeardStamp i .kn) (i .setup .epsilon), long-absorbed i (p .limits) .opened .most (i .setup .epsilon), p .limits .n-most)
 
+-- the stamp that has absorbed what was taken, and its places past the 2ε counts, which are 0
+heard-trimmed : (i : Input) {t : Timestamp} → LongPassed i → t ≡ widened (longHeardStamp i) → trimmed (i .setup .epsilon) t ≡ longHeardStamp i
+heard-trimmed i p h = ap (trimmed (i .setup .epsilon)) h ∙ trimmed-widened (i .setup .epsilon) (longHeardStamp i) (p .limits .epsilon-most) (long-absorbed i (p .limits) .opened .wide)
+
+pub heard-narrow : (i : Input) {t : Timestamp} → LongPassed i → t ≡ widened (longHeardStamp i) → t ≡ widened (trimmed (i .setup .epsilon) t)
+heard-narrow i p h = h ∙ ap widened (sym (heard-trimmed i p h))
+
 -- the new stamp
 pub own-counted : (i : Input) {t t′ : Timestamp} → LongPassed i → t ≡ widened (longHeardStamp i) → t′ ≡ widened (countOwn (i .setup .epsilon) (i .clock) (trimmed (i .setup .epsilon) t)) → t′ ≡ widened (longNewStamp i)
 unfolding longNewStamp
-own-counted i {t} p h e =
-    let kept : trimmed (i .setup .epsilon) t ≡ longHeardStamp i =
-    ap (trimmed (i .setup .epsilon)) h ∙ trimmed-widened (i .setup .epsilon) (longHeardStamp i) (p .limits .epsilon-most) (long-absorbed i (p .limits) .opened .wide) in
-    e ∙ ap (λ (x : Timestamp). widened (countOwn (i .setup .epsilon) (i .clock) x)) kept
+own-counted i p h e = e ∙ ap (λ (x : Timestamp). widened (countOwn (i .setup .epsilon) (i .clock) x)) (heard-trimmed i p h)
 
 -- it can be sent
 pub send-room : (i : Input) (t : Timestamp) → LongPassed i → t ≡ widened (longNewStamp i) → LongRoom (i .setup .epsilon) (i .own) t (i .payload) (i .outgoing)

@@ -157,13 +157,17 @@ own-room i {t} c h =
     ap (λ (x : Timestamp). getD (x .kn) (i .setup .epsilon) 0) h ∙ getD-padded widest (heardStamp i .kn) (i .setup .epsilon) in
     omega (arith, count-zero (heardStamp i .kn) (i .setup .epsilon), absorbing-end i (c .accepted) .opened .most (i .setup .epsilon), c .accepted .limits .n-most)
 
+-- the stamp that has absorbed what was taken, and its places past the 2ε counts, which are 0
+heard-trimmed : (i : Input) {t : Timestamp} → Call i → t ≡ widened (heardStamp i) → trimmed (i .setup .epsilon) t ≡ heardStamp i
+heard-trimmed i c h = ap (trimmed (i .setup .epsilon)) h ∙ trimmed-widened (i .setup .epsilon) (heardStamp i) (c .accepted .limits .epsilon-most) (absorbing-end i (c .accepted) .opened .wide)
+
+pub heard-narrow : (i : Input) {t : Timestamp} → Call i → t ≡ widened (heardStamp i) → t ≡ widened (trimmed (i .setup .epsilon) t)
+heard-narrow i c h = h ∙ ap widened (sym (heard-trimmed i c h))
+
 -- the new stamp
 pub own-count-is : (i : Input) {t t′ : Timestamp} → Call i → t ≡ widened (heardStamp i) → t′ ≡ widened (countOwn (i .setup .epsilon) (i .clock) (trimmed (i .setup .epsilon) t)) → t′ ≡ widened (newStamp i)
 unfolding newStamp
-own-count-is i {t} c h e =
-    let kept : trimmed (i .setup .epsilon) t ≡ heardStamp i =
-    ap (trimmed (i .setup .epsilon)) h ∙ trimmed-widened (i .setup .epsilon) (heardStamp i) (c .accepted .limits .epsilon-most) (absorbing-end i (c .accepted) .opened .wide) in
-    e ∙ ap (λ (x : Timestamp). widened (countOwn (i .setup .epsilon) (i .clock) x)) kept
+own-count-is i c h e = e ∙ ap (λ (x : Timestamp). widened (countOwn (i .setup .epsilon) (i .clock) x)) (heard-trimmed i c h)
 
 -- it can be sent
 pub send-room : (i : Input) (t : Timestamp) → Call i → t ≡ widened (newStamp i) → Room (i .setup .epsilon) (i .own) t (i .payload) (i .outgoing)

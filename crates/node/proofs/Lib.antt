@@ -11,6 +11,8 @@ mod Places
 pub mod HearTurns
 pub mod StampTurns
 mod Turns
+-- `Nothing` has a call that has nothing to do.
+mod Nothing
 -- `Clocks` has the last clock, and `Shared` what a node and an observer share, from its parts.
 mod Clocks
 mod Shared

@@ -27,7 +27,7 @@ use Rattle.holdback.specs.Early.{SoundBy, earlyFrames, releasedBuffer, Released
 use Rattle.holdback.specs.Queue.{frameStart, endOf, Spans}
 use Rattle.holdback.specs.Seen.{Placeable, seenTable, isMarked, marked}
 use Rattle.holdback.specs.Sound as sounds
-use Rattle.holdback.specs.Starts.{startUnit, allFront, sumPlace, startsOf, Moving, movedStarts}
+use Rattle.holdback.specs.Starts.{startUnit, usedPlaces, allFront, sumPlace, startsOf, Moving, movedStarts}
 use Rattle.holdback.proofs.RoundTrip.{Bytes}
 use Rattle.holdback.proofs.Frames.{held-tab, take-start, start-zero, start-within, start-most}
 use Rattle.holdback.proofs.Changes.{formed-frames, length-held}
@@ -223,26 +223,26 @@ module _ {s : Setup} {v : ℕ} {buffer : List ℕ} {place at : ℕ} {bytes : Lis
             ends = ap (λ (n : ℕ). n + length bytes) (old .ends) ∙ sym (end-behind here clean bytes bytes-clean (k .form) wide buffer′ e);
           }
 
-      more-starts : {sum : ℕ} {starts starts′ : List ℕ} → starts ≡ startsOf s v buffer → sum ≡ sumPlace s v (decode (s .epsilon) bytes)
-          → starts′ ≡ movedStarts (sum + 1) (startUnit + length bytes) starts → starts′ ≡ startsOf s v buffer′
+      more-starts : {sum to : ℕ} {starts starts′ : List ℕ} → starts ≡ startsOf s v buffer → sum ≡ sumPlace s v (decode (s .epsilon) bytes) → to ≡ usedPlaces s
+          → starts′ ≡ movedStarts (sum + 1) to (startUnit + length bytes) starts → starts′ ≡ startsOf s v buffer′
       unfolding placeFor dueNear due sum
-      more-starts {starts} old own moved =
+      more-starts {starts} old own used moved =
           let late : s .modulus ≤ dueNear s v (decode (s .epsilon) bytes) = omega (arith, k .passed .late) in
           moved-table s v buffer buffer′ (decode (s .epsilon) bytes) place (length bytes) late (k .place-is) more-held
           (start-before here clean bytes bytes-clean (k .form) wide buffer′ e) (start-behind here clean bytes bytes-clean (k .form) wide buffer′ e)
-          old (moved ∙ ap (λ (n : ℕ). movedStarts (n + 1) (startUnit + length bytes) starts) own)
+          (k .limits) old (moved ∙ ap₂ (λ (n m : ℕ). movedStarts (n + 1) m (startUnit + length bytes) starts) own used)
 
-      pub more-queued : {sum : ℕ} {table table′ starts starts′ : List ℕ} → Queued s v buffer table starts → table′ ≡ marked s v (decode (s .epsilon) bytes) table
-          → sum ≡ sumPlace s v (decode (s .epsilon) bytes) → starts′ ≡ movedStarts (sum + 1) (startUnit + length bytes) starts → Queued s v buffer′ table′ starts′
+      pub more-queued : {sum to : ℕ} {table table′ starts starts′ : List ℕ} → Queued s v buffer table starts → table′ ≡ marked s v (decode (s .epsilon) bytes) table
+          → sum ≡ sumPlace s v (decode (s .epsilon) bytes) → to ≡ usedPlaces s → starts′ ≡ movedStarts (sum + 1) to (startUnit + length bytes) starts → Queued s v buffer′ table′ starts′
       unfolding overlay
-      more-queued old h′ own moved =
+      more-queued old h′ own used moved =
           let long : length (encodeFrames more) ≤ length buffer = omega (arith, frames-long s more (k .limits) (more-ok .frames) (omega (arith, more-room)), t .size) in
           record {
             size = ap length e ∙ (length-overlay (encodeFrames more) buffer long ∙ t .size);
             sound = ap (soundHoldback s v (s .modulus)) e ∙ frames-sound s v (s .modulus) more (drop (length (encodeFrames more)) buffer) (k .limits) (omega (arith, more-room)) more-ok;
             table-is =
                 h′ ∙ (ap (marked s v (decode (s .epsilon) bytes)) (old .table-is) ∙ (seen-insert s v (k .limits) (k .below) (held (s .epsilon) buffer) place (decode (s .epsilon) bytes) (k .placeable) (ap (isMarked s v (decode (s .epsilon) bytes)) (sym (old .table-is)) ∙ unmarked old) ∙ sym (ap (seenTable s v) more-held)));
-            starts-is = more-starts (old .starts-is) own moved;
+            starts-is = more-starts (old .starts-is) own used moved;
           }
 
 -- ---- the queue opened

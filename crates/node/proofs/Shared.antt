@@ -43,7 +43,7 @@ module _ {s : Setup} {v least : ℕ} {buffer delivery : List ℕ} {index at : �
   early-frames f m = opening-queue s v least buffer limits .frames f (mem-of-select (dueBefore s v) (openingQueue s v least buffer) m .0)
 
   early-number : length early ≤ s .n * (2 * s .epsilon - 2)
-  early-number = early-few s v least (openingQueue s v least buffer) limits (t .below) near (opening-queue s v least buffer limits)
+  early-number = early-few s v least (openingQueue s v least buffer) limits (t .below) (near .late) (opening-queue s v least buffer limits)
 
   -- none of them is too long for the delivery
   early-fits : length (encodeFrames early) ≤ length delivery

@@ -4,7 +4,9 @@ use mathlib.Core.List.{List}
 use Prim.Native.Nat.{ℕ}
 use Rattle.model.specs.Tick.{Output}
 use Rattle.model.specs.Tick as ticks
+use Rattle.timestamp.specs.declared.stamp.Timestamp.{Timestamp}
 use Rattle.timestamp.specs.Views.{stampOf}
+use Rattle.node.specs.declared.attending.Attended.{Attended}
 use Rattle.node.specs.declared.ticking.Answer.{Answer}
 
 abbrev pub answerOf : Answer → ticks.Answer
@@ -28,3 +30,7 @@ callOutput a holdback outgoing verdicts delivery =
       verdicts = verdicts;
       delivery = delivery;
     }
+
+-- where there is nothing to do: the stamp as it was, and all else 0
+abbrev pub passedOver : Timestamp → Attended
+passedOver t = record { stamp = t; repair = 0; taken = 0; delivered = 0 }

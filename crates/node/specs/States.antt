@@ -2,8 +2,9 @@
 -- Assumes nothing.
 use Prim.Native.Nat.{ℕ, _+_, _*_, _-_, _^_, _≤_, _<_}
 use mathlib.Core.Path.{_≡_}
-use mathlib.Core.Bool.{Bool, true, not, cond}
+use mathlib.Core.Bool.{Bool, true, _&&_, not, cond}
 use mathlib.Core.List.{List, [], _++_}
+use lib.Dec.{eqb}
 use lib.ListN.{length}
 use Rattle.laws.specs.Lists.{select, overlay, insertAt}
 use Rattle.model.specs.Setup.{Setup, inLimits, verdictLength}
@@ -15,6 +16,7 @@ use Rattle.model.specs.Question.{firstNo, frameQuestions}
 use Rattle.model.specs.Codec.{frameOf}
 use Rattle.model.specs.Judge.{Heard, judge, taken, hear, absorbAll}
 use Rattle.model.specs.Tick.{holdbackSize, tablesSound, leastAfter, leastDue, openingStamp, openingQueue, dueBefore, dueNow, deliveredIn, keptIn, takenCount}
+use Rattle.batch.specs.Walk.{countOf}
 use Rattle.holdback.specs.Queue.{frameStart, endOf, Spans}
 use Rattle.holdback.specs.Seen.{seenTable}
 use Rattle.holdback.specs.Starts.{startsOf}
@@ -199,6 +201,10 @@ pub record Attending (s : Setup) (t : Timestamp) (batch buffer verdicts delivery
   pub size : length buffer ≡ holdbackSize s
   pub hearing : Hearing (s .epsilon) t batch verdicts
   pub delivery-room : holdbackSize s ≤ length delivery
+
+-- there is nothing to do: no frame is on the queue, and the batch has no entry
+abbrev pub isIdle : List ℕ → List ℕ → Bool
+isIdle batch buffer = eqb (twoAt buffer 0) 0 && eqb (countOf batch) 0
 
 -- what it leaves: the batch heard with what is left of the opened queue
 abbrev pub attendedAll : Bool → Setup → ℕ → ℕ → List ℕ → List ℕ → Heard

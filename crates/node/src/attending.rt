@@ -1,5 +1,7 @@
 // What a node and an observer share of a call: the queue opened, the batch heard, and what is due delivered.
 use crate::hearing::hear;
+use crate::idle::is_idle;
+use crate::idle::pass_over;
 use crate::queue::deliver;
 use crate::queue::open_queue;
 use holdback::FRONT;
@@ -21,8 +23,8 @@ pub struct Attended {
     pub delivered: usize,
 }
 
-// 01, tick 1, 3 and 6, of the queue, by the least due clock that it may have. The tables of origins and of starts live here. One that only
-// `listens` is an observer, and its stamp stays.
+// 01, tick 1, 3 and 6, of the queue, by the least due clock that it may have. The tables of origins and of starts live here; a call that has
+// nothing to do needs none. One that only `listens` is an observer, and its stamp stays.
 pub fn attend(
     setup: Setup,
     clock: usize,
@@ -40,6 +42,9 @@ pub fn attend(
         (r .repair) (r .taken) (r .delivered) (now (holdback .exit)) (now (verdicts .exit)) (now (delivery .exit)) ⌝ }
     ensures { λ r. ⌜ AttendedStamp listens (setupOf setup) clock least (stampOf stamp) (now (batch .entry)) (now (holdback .entry)) (stampOf (r .stamp)) ⌝ }
 {
+    if is_idle(holdback, batch) {
+        return pass_over(stamp, holdback, delivery);
+    }
     let mut seen = [0u64; TABLE_LENGTH];
     let mut starts = [FRONT; START_PLACES];
     let opened = open_queue(
@@ -68,7 +73,7 @@ pub fn attend(
     let absorbed = heard.stamp;
     let count = heard.count;
     let end = heard.end;
-    let delivered = deliver(setup, clock, count, end, early, holdback, delivery);
+    let delivered = deliver(setup, clock, count, end, early, holdback, &starts, delivery);
     Attended {
         stamp: absorbed,
         repair: opened.repair,

@@ -13,6 +13,7 @@ use holdback::mark;
 use holdback::put;
 use holdback::shift_starts;
 use holdback::sum_place;
+use holdback::used_places;
 use setup::Setup;
 use timestamp::Timestamp;
 ghost use mathlib.Core.Path.{_≡_};
@@ -48,7 +49,8 @@ fn enqueue(
     let reading = placed.reading;
     put(setup.epsilon as usize, holdback, count, end, place, s);
     let k = sum_place(setup, clock, s, reading);
-    shift_starts(starts, k + 1, (START_UNIT + s.len()) as u32);
+    let to = used_places(setup);
+    shift_starts(starts, k + 1, to, (START_UNIT + s.len()) as u32);
     mark(setup, clock, s, reading, seen);
 }
 

@@ -3,6 +3,7 @@ mod attending;
 mod call;
 mod clock;
 mod hearing;
+mod idle;
 mod questions;
 mod queue;
 mod sending;

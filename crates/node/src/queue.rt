@@ -13,6 +13,7 @@ ghost use Rattle.model.specs.Tick.{holdbackSize};
 ghost use Rattle.holdback.specs.Seen.{tableLength};
 ghost use Rattle.holdback.specs.Sound.{Recent};
 ghost use Rattle.holdback.specs.Starts.{allFront};
+ghost use Rattle.holdback.specs.Early.{Tabled};
 ghost use Rattle.node.specs.States.{Timed, Stored, Closing, QueueJudged, QueueOpened, HandedEarly, Delivered};
 
 // What judging the queue answers beside the buffers.
@@ -105,10 +106,11 @@ pub fn deliver(
     end: usize,
     early: Place,
     holdback: &mut [u8],
+    starts: &[u32],
     delivery: &mut [u8],
 ) -> usize
-    requires { ⌜ Closing (setupOf setup) clock count end (early .index) (early .at) (now holdback) (now delivery) ⌝ }
+    requires { ⌜ Closing (setupOf setup) clock count end (early .index) (early .at) (now holdback) (now delivery) × Tabled (setupOf setup) clock (now holdback) (now starts) ⌝ }
     ensures { λ r. ⌜ Delivered (setupOf setup) clock (early .index) (now (holdback .entry)) (now (delivery .entry)) r (now (holdback .exit)) (now (delivery .exit)) ⌝ }
 {
-    early.index + cut_due(setup, clock, holdback, count, end, delivery, early)
+    early.index + cut_due(setup, clock, holdback, count, end, starts, delivery, early)
 }

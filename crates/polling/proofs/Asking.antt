@@ -26,6 +26,11 @@ use Rattle.holdback.specs.Starts.{startsOf, allFront}
 use Rattle.polling.specs.Answers.{SmallNext}
 use Rattle.polling.proofs.Fronts.{next-none}
 
+-- a shelf of its length has its count
+pub size-two : (s : Setup) (shelf : List ℕ) → length shelf ≡ holdbackSize s → 2 ≤ length shelf
+unfolding holdbackLength
+size-two s shelf e = omega (arith, e)
+
 module _ (s : Setup) (own v : ℕ) (shelf : List ℕ) where
   abbrev valid : Bool
   valid = inLimits s && isMember s own
@@ -56,10 +61,6 @@ module _ (s : Setup) (own v : ℕ) (shelf : List ℕ) where
   all-passed e =
       let rest = shelf-passed s v shelf (other-yes valid 0 (holdbackQuestions s v shelf) e) in
       record { limits = and-left (inLimits s) (isMember s own) (first-yes valid 0 (holdbackQuestions s v shelf) e); below = rest .0; size = rest .1 }
-
-  pub size-two : length shelf ≡ holdbackSize s → 2 ≤ length shelf
-  unfolding holdbackLength
-  size-two e = omega (arith, e)
 
   module _ (d : ℕ) where
     -- a refused poll answers the number alone

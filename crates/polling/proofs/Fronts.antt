@@ -6,12 +6,12 @@ use mathlib.Core.Path.{_≡_, refl, sym, ap, subst, _∙_}
 use mathlib.Core.Bool.{true}
 use mathlib.Core.List.{List, [], _∷_, map}
 use mathlib.Core.Option.{none, some, Option·map}
-use lib.Dec.{leb, ltb, leb·suc-suc}
+use lib.Dec.{leb}
 use lib.ListN.{length}
 use lib.Seq.{length-take-le}
 use borrow.Author.Tests.{le-leb}
 use Rattle.laws.specs.Lists.{tab, leading, chained, smallest}
-use Rattle.laws.proofs.Lists.{every-mem, every-of-mem, every-map, leading-le, leading-ext, smallest-first}
+use Rattle.laws.proofs.Lists.{every-mem, every-of-mem, every-map, leading-le, smallest-first}
 use Rattle.laws.proofs.Sorted.{pairwise-head}
 use Rattle.model.specs.Setup.{Setup}
 use Rattle.model.specs.Frame.{Frame, twoAt}
@@ -20,11 +20,11 @@ use Rattle.model.specs.Holdback.{held, soundHoldback}
 use Rattle.model.specs.Poll.{soonestDue, nextDue, dueWithin, numberWithin}
 use Rattle.lemmas.proofs.Bounds.{Limits}
 use Rattle.holdback.specs.Queue.{bytesAt, frameAt}
-use Rattle.holdback.specs.Starts.{startUnit, startPlaces, framesBelow, startOf}
+use Rattle.holdback.specs.Starts.{startUnit, usedPlaces, startOf}
 use Rattle.holdback.proofs.Frames.{held-tab, leading-held}
 use Rattle.holdback.proofs.Judging.{frame-fits, sound-ordered, sound-frames}
 use Rattle.holdback.proofs.Order.{due-first, in-order, within-prefix}
-use Rattle.holdback.proofs.Started.{place-inside, start-parts}
+use Rattle.holdback.proofs.Started.{place-inside, below-within, start-parts}
 
 -- a queue in order: its first frame is due soonest
 pub next-first : (s : Setup) (v : ℕ) (f : Frame) (queue : List Frame) → chained (before s v) (f ∷ queue) ≡ true → nextDue s v (f ∷ queue) ≡ some (clockAt s v (dueNear s v f))
@@ -79,26 +79,18 @@ module _ (s : Setup) (v least d : ℕ) (b : List ℕ) (limits : Limits s) (sound
   within-leads : leading (dueWithin s v d) frames ≡ numberWithin s v d frames
   within-leads = number-leading s v d frames (sound-ordered s v least b sound)
 
-  -- those due at most d ticks after v are those whose sums have places below d + 1
-  within-below : framesBelow s v b (d + 1) ≡ leading (dueWithin s v d) frames
-  unfolding dueWithin
-  within-below =
-      let next : s .modulus + (d + 1) ≡ suc (s .modulus + d) = omega arith in
-      leading-ext (λ f. ltb (dueNear s v f) (s .modulus + (d + 1))) (dueWithin s v d) frames
-      (λ f _. ap (ltb (dueNear s v f)) next ∙ leb·suc-suc (dueNear s v f) (s .modulus + d))
-
   -- the entry for that place counts them
   pub within-entry : (m : ℕ) → m ≡ startOf s v b (d + 1) → m / startUnit ≡ numberWithin s v d frames
-  within-entry m e = start-parts s v least b limits sound (d + 1) m e .0 ∙ within-below ∙ within-leads
+  within-entry m e = start-parts s v least b limits sound (d + 1) m e .0 ∙ below-within s v b d ∙ within-leads
 
   -- past the last place there is no due clock
-  within-each : startPlaces ≤ d + 1 → (i : ℕ) → i < twoAt b 0 → dueWithin s v d (frameAt (s .epsilon) b i) ≡ true
+  within-each : usedPlaces s ≤ d + 1 → (i : ℕ) → i < twoAt b 0 → dueWithin s v d (frameAt (s .epsilon) b i) ≡ true
   unfolding dueWithin frameAt
   within-each far i h =
       le-leb (dueNear s v (frameAt (s .epsilon) b i)) (s .modulus + d)
       (omega (arith, place-inside s v least limits (bytesAt (s .epsilon) b i) (frame-fits s v least b i (sound-frames s v least b sound i h))))
 
-  pub within-all : {count : ℕ} → startPlaces ≤ d + 1 → count ≡ twoAt b 0 → count ≡ numberWithin s v d frames
+  pub within-all : {count : ℕ} → usedPlaces s ≤ d + 1 → count ≡ twoAt b 0 → count ≡ numberWithin s v d frames
   within-all far e =
       e ∙ sym (leading-held (dueWithin s v d) (s .epsilon) b (twoAt b 0) (omega arith) (within-each far) (λ h. absurd (omega arith)))
       ∙ within-leads

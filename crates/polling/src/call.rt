@@ -18,6 +18,7 @@ ghost use Rattle.model.specs.Setup.{inLimits};
 ghost use Rattle.model.specs.Frame.{twoAt};
 ghost use Rattle.model.specs.Question.{firstNo};
 ghost use Rattle.model.specs.Holdback.{held, soundHoldback};
+ghost use Rattle.model.specs.Tick.{holdbackSize};
 ghost use Rattle.model.specs.Poll.{pollQuestions, polledQueue, pollBy, poll};
 ghost use Rattle.setup.specs.Views.{setupOf};
 ghost use Rattle.holdback.specs.Starts.{startsOf};
@@ -80,7 +81,7 @@ fn tell(
 // the table of origins too, which is not used.
 fn ask_queue(setup: Setup, clock: usize, d: usize, holdback: &[u8]) -> Polled
     requires { ⌜ (inLimits (setupOf setup) ≡ true) × ((clock < setup .modulus) × (d < 65536)) ⌝ }
-    requires { ⌜ 2 ≤ length (now holdback) ⌝ }
+    requires { ⌜ length (now holdback) ≡ holdbackSize (setupOf setup) ⌝ }
     ensures { λ r. ⌜ pollAnswer r ≡ pollBy 0 (setupOf setup) clock d (polledQueue (setupOf setup) clock (now (holdback .entry))) ⌝ }
 {
     let mut seen = [0u64; TABLE_LENGTH];

@@ -1,8 +1,8 @@
 // The front of a sound queue: the frame there is due soonest, and what is due within some ticks is there.
-use holdback::START_PLACES;
 use holdback::START_UNIT;
 use holdback::clock_at;
 use holdback::due_of;
+use holdback::used_places;
 use setup::Setup;
 ghost use mathlib.Core.Path.{_≡_};
 ghost use mathlib.Core.Bool.{true};
@@ -37,7 +37,7 @@ pub fn next_due(s: Setup, v: usize, buf: &[u8], count: usize) -> Next
 }
 
 // 02: the number "due at most d ticks after v". The table of starts has it in place d + 1, as the number of frames whose sums have
-// lower places. Where there is no such place, all frames are due by then.
+// lower places. Where the setup uses no such place, all frames are due by then.
 pub fn number_within(
     s: Setup,
     v: usize,
@@ -52,7 +52,7 @@ pub fn number_within(
     ensures { λ r. ⌜ r ≡ numberWithin (setupOf s) v d (held (s .epsilon) (now (buf .entry))) ⌝ }
 {
     let place = d + 1;
-    if START_PLACES <= place {
+    if used_places(s) <= place {
         return count;
     }
     starts[place] as usize / START_UNIT

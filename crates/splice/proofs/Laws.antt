@@ -1,14 +1,14 @@
 -- The laws of `specs/Bytes.antt`'s definitions. A store is a `pasted` of one byte, and two neighbouring `pasted` are one: every function of the
--- crate is made of those two laws. `Pasting` is the state of a loop that pastes byte by byte, from either end. Assumes nothing.
+-- crate is made of those two laws. `Pasting` is the state of a loop that pastes piece by piece, from either end. Assumes nothing.
 use mathlib.Core.Path.{_≡_, refl, sym, ap, _∙_}
-use mathlib.Core.List.{List, [], _∷_, _++_, append-assoc}
-use mathlib.Core.Logic.{_⊎_, ⊎-elim}
-use Prim.Native.Nat.{ℕ, zero, suc, _+_, _-_, _*_, _/_, _%_, _≤_, _<_}
-use native.Mathlib.Nat.{add-zero}
+use mathlib.Core.List.{List, [], _∷_, _++_, append-assoc, append-nil}
+use mathlib.Core.Logic.{_⊎_, inl, inr, ⊎-elim}
+use Prim.Native.Nat.{ℕ, zero, suc, _+_, _-_, _*_, _/_, _%_, _≤_, _<_, zero-le}
+use native.Mathlib.Nat.{add-zero, zero-add}
 use native.Mathlib.Numerals.{add-one}
 use native.Mathlib.Omega.{arith}
-use lib.ListN.{length, take, drop, getD, set, length-append, length-take, length-drop, length-set, length-replicate, take-append-drop}
-use lib.Seq.{length-take-le, take-append-le, drop-append-le, drop-append-add, take-take, take-at, take-all, take-suc, drop-at, drop-drop, drop-length, set-split, getD-take, getD-drop, slice, slice-empty, slice-cons, length-slice}
+use lib.ListN.{length, take, drop, getD, set, length-append, length-take, length-drop, length-set, length-replicate, take-append-drop, drop-of-length-le}
+use lib.Seq.{length-take-le, take-append-le, drop-append-le, drop-append-add, take-take, take-add, take-at, take-all, drop-at, drop-cons, drop-drop, drop-length, set-split, getD-take, getD-drop, slice, slice-empty, length-slice}
 use Rattle.laws.specs.Lex.{numberOf}
 use Rattle.laws.proofs.Lex.{number-ext}
 use Rattle.model.specs.Long.{lowFirst, numberAt}
@@ -28,10 +28,6 @@ pub length-pasted : (l : List ℕ) (at : ℕ) (s : List ℕ) → at + length s �
 unfolding pasted
 length-pasted l at s h = simp (length-append, length-take, length-drop) (omega arith)
 
--- what stands at a cut is the first byte after it
-getD-cut : (a b : List ℕ) (k : ℕ) → drop k a ≡ drop k b → getD a k 0 ≡ getD b k 0
-getD-cut a b k e = rw (← add-zero k) (sym (getD-drop k a 0 0) ∙ ap (λ (r : List ℕ). getD r 0 0) e ∙ getD-drop k b 0 0)
-
 -- ---- a part of a list
 
 pub length-part : (l : List ℕ) (from n : ℕ) → from + n ≤ length l → length (part l from n) ≡ n
@@ -39,6 +35,10 @@ length-part l from n h = simp (length-take, length-drop) (omega arith)
 
 pub getD-part : (l : List ℕ) (from n i : ℕ) → i < n → getD (part l from n) i 0 ≡ getD l (from + i) 0
 getD-part l from n i h = getD-take n (drop from l) i 0 h ∙ getD-drop from l i 0
+
+-- one byte
+part-one : (l : List ℕ) (from : ℕ) → from < length l → getD l from 0 ∷ [] ≡ part l from 1
+part-one l from h = rw (drop-cons l from 0 h)
 
 pub length-zeros : (n : ℕ) → length (zeros n) ≡ n
 length-zeros n = length-replicate {A = ℕ} n 0
@@ -77,13 +77,10 @@ module _ (l : List ℕ) (at : ℕ) (s : List ℕ) (h : at ≤ length l) where
       ∙ drop-drop (n - (at + length s)) (at + length s) l
       ∙ ap (λ (m : ℕ). drop m l) (sym e)
 
-  -- one byte before the part, one past it
+  -- one byte before the part
   pub getD-pasted-before : (k : ℕ) → k < at → getD (pasted l at s) k 0 ≡ getD l k 0
   getD-pasted-before k i =
       sym (getD-take at (pasted l at s) k 0 i) ∙ ap (λ (r : List ℕ). getD r k 0) (take-pasted at (omega arith)) ∙ getD-take at l k 0 i
-
-  pub getD-pasted-after : (k : ℕ) → at + length s ≤ k → getD (pasted l at s) k 0 ≡ getD l k 0
-  getD-pasted-after k i = getD-cut (pasted l at s) l k (drop-pasted-after k i)
 
 -- ---- neighbouring parts
 
@@ -119,24 +116,37 @@ module _ (l : List ℕ) (at : ℕ) (s : List ℕ) (p : ℕ) (e : p ≡ at + leng
       )
       (pasted-append l at s t (p + length t) (omega arith))
 
+-- a part pasted over all of another one
+pasted-over : (l : List ℕ) (p : ℕ) (u : List ℕ) (q : ℕ) (t : List ℕ) → p ≤ length l → q ≤ p → p + length u ≤ q + length t
+    → pasted (pasted l p u) q t ≡ pasted l q t
+pasted-over l p u q t h a b =
+    rw (pasted-is (pasted l p u) q t, take-pasted l p u h q a, drop-pasted-after l p u h (q + length t) b) (sym (pasted-is l q t))
+
+-- all of a list pasted over
+pasted-whole : (l s : List ℕ) → length l ≤ length s → pasted l 0 s ≡ s
+unfolding pasted
+pasted-whole l s h = rw (zero-add (length s), drop-of-length-le l {i = length s} h) (append-nil s)
+
 -- a part pasted where it stands: nothing changes
 pub pasted-own : (l : List ℕ) (from to n : ℕ) → to ≡ from → from + n ≤ length l → l ≡ pasted l to (part l from n)
 pasted-own l from to n e h =
     rw (e, pasted-is l from (part l from n), length-part l from n h, ← drop-drop n from l, take-append-drop n (drop from l))
     (sym (take-append-drop from l))
 
--- ---- a part of a list, with one byte more at its end or at its start
+-- ---- what stands between two indices of a list
 
-slice-snoc : (i j : ℕ) (s : List ℕ) → i ≤ j → j < length s → slice i j s ++ (getD s j 0 ∷ []) ≡ slice i (j + 1) s
-slice-snoc i j s o h =
-    rw (add-one j, take-suc s j 0 h) (sym (drop-append-le i (take j s) (getD s j 0 ∷ []) (rw (length-take-le j s (omega arith)) o)))
+-- as a part
+slice-part : (l : List ℕ) (from n : ℕ) → from ≤ length l → slice from (from + n) l ≡ part l from n
+slice-part l from n h = ap (drop from) (take-add from n l) ∙ drop-at (take from l) (part l from n) from (length-take-le from l h)
 
-slice-before : (i j : ℕ) (s : List ℕ) → 0 < i → i ≤ j → j ≤ length s → getD s (i - 1) 0 ∷ slice i j s ≡ slice (i - 1) j s
-slice-before i j s z o h =
-    let e : suc (i - 1) ≡ i = omega arith in
-    sym (slice-cons (i - 1) j s 0 (omega arith) h ∙ ap (λ (n : ℕ). getD s (i - 1) 0 ∷ slice n j s) e)
+-- two neighbours
+slice-append : (i j k : ℕ) (s : List ℕ) → i ≤ j → j ≤ k → k ≤ length s → slice i j s ++ slice j k s ≡ slice i k s
+slice-append i j k s o p h =
+    sym
+    (ap (drop i) (sym (take-append-drop j (take k s)) ∙ ap (λ (r : List ℕ). r ++ slice j k s) (take-take j k s p))
+    ∙ drop-append-le i (take j s) (slice j k s) (rw (length-take-le j s (omega arith)) o))
 
--- ---- a loop that pastes s into l from `at` on, byte by byte: so far the bytes of s from index i up to, not including, index j
+-- ---- a loop that pastes s into l from `at` on, piece by piece: so far the bytes of s from index i up to, not including, index j
 
 pub record Pasting (l : List ℕ) (at : ℕ) (s : List ℕ) (i j : ℕ) (cur : List ℕ) : Type 0 where
   pub room : at + length s ≤ length l
@@ -166,49 +176,147 @@ module _ {l : List ℕ} {at : ℕ} {s : List ℕ} {i j : ℕ} {cur : List ℕ} (
   size = length-slice i j s (now .within)
 
   -- what is outside is as it was
-  pub outside : (k : ℕ) → (k < at + i) ⊎ (at + j ≤ k) → getD cur k 0 ≡ getD l k 0
-  outside k w =
-      ap (λ (r : List ℕ). getD r k 0) (now .so-far)
-      ∙ ⊎-elim (λ b. getD-pasted-before l (at + i) (slice i j s) (omega arith) k b)
-      (λ a. getD-pasted-after l (at + i) (slice i j s) (omega arith) k (omega (arith, size)))
-      w
+  pub outside : (k n : ℕ) → k + n ≤ length l → (k + n ≤ at + i) ⊎ (at + j ≤ k) → part cur k n ≡ part l k n
+  outside k n h (inl b) =
+      sym (slice-part cur k n (omega (arith, now .as-long)))
+      ∙ ap (drop k) (ap (take (k + n)) (now .so-far) ∙ take-pasted l (at + i) (slice i j s) (omega arith) (k + n) b)
+      ∙ slice-part l k n (omega arith)
+  outside k n h (inr a) =
+      ap (λ (r : List ℕ). part r k n) (now .so-far)
+      ∙ ap (take n) (drop-pasted-after l (at + i) (slice i j s) (omega arith) k (omega (arith, size)))
 
-  -- a store is a paste of one byte
-  stored : (k x : ℕ) → k < length s → set cur (at + k) x ≡ pasted (pasted l (at + i) (slice i j s)) (at + k) (x ∷ [])
-  stored k x h = set-pasted cur (at + k) x (omega arith) ∙ ap (λ (r : List ℕ). pasted r (at + k) (x ∷ [])) (now .so-far)
-
-  -- one byte more at the end
-  pub grows-right : {x : ℕ} → x ≡ getD s j 0 → j < length s → Pasting l at s i (j + 1) (set cur (at + j) x)
-  grows-right {x} e h =
+  -- a piece more at the end; it may begin in what is pasted
+  pub joins-right : (p n : ℕ) {t next : List ℕ} → t ≡ part s p n → next ≡ pasted cur (at + p) t → i ≤ p → p ≤ j → j ≤ p + n → p + n ≤ length s
+      → Pasting l at s i (p + n) next
+  joins-right p n {t} e f a b c h =
+      let long : length t ≡ n = ap length e ∙ length-part s p n h in
+      let over : length (slice p j s) ≡ j - p = length-slice p j s (now .within) in
+      let left : length (slice i p s) ≡ p - i = length-slice i p s (omega arith) in
+      let meet : at + p ≡ at + i + length (slice i p s) = omega arith in
+      let same : length (pasted l (at + i) (slice i p s)) ≡ length l = length-pasted l (at + i) (slice i p s) (omega arith) in
+      let known : t ≡ slice p (p + n) s = e ∙ sym (slice-part s p n (omega arith)) in
       record {
         room = now .room;
         ordered = omega arith;
-        within = omega arith;
+        within = h;
         so-far =
-            stored j x h
-            ∙ pasted-right l (at + i) (slice i j s) (at + j) (omega (arith, size)) (x ∷ []) (omega arith)
-            ∙ ap (pasted l (at + i)) (rw e (slice-snoc i j s (now .ordered) h));
-        as-long = rw length-set (now .as-long);
+            f
+            ∙ ap (λ (r : List ℕ). pasted r (at + p) t)
+            (now .so-far
+            ∙ ap (pasted l (at + i)) (sym (slice-append i p j s a b (now .within)))
+            ∙ sym (pasted-right l (at + i) (slice i p s) (at + p) meet (slice p j s) (omega arith)))
+            ∙ pasted-over (pasted l (at + i) (slice i p s)) (at + p) (slice p j s) (at + p) t (omega arith) (omega arith) (omega arith)
+            ∙ pasted-right l (at + i) (slice i p s) (at + p) meet t (omega arith)
+            ∙ ap (pasted l (at + i)) (rw known (slice-append i p (p + n) s a (omega arith) h));
+        as-long = ap length f ∙ length-pasted cur (at + p) t (omega (arith, now .as-long)) ∙ now .as-long;
       }
 
-  -- one byte more at the start
-  pub grows-left : {x : ℕ} → x ≡ getD s (i - 1) 0 → 0 < i → Pasting l at s (i - 1) j (set cur (at + (i - 1)) x)
-  grows-left {x} e h =
+  -- a piece more at the start; it may end in what is pasted
+  pub joins-left : (p n : ℕ) {t next : List ℕ} → t ≡ part s p n → next ≡ pasted cur (at + p) t → p ≤ i → i ≤ p + n → p + n ≤ j
+      → Pasting l at s p j next
+  joins-left p n {t} e f a b c =
+      let long : length t ≡ n = ap length e ∙ length-part s p n (omega arith) in
+      let over : length (slice i (p + n) s) ≡ p + n - i = length-slice i (p + n) s (omega arith) in
+      let right : length (slice (p + n) j s) ≡ j - (p + n) = length-slice (p + n) j s (now .within) in
+      let same : length (pasted l (at + (p + n)) (slice (p + n) j s)) ≡ length l = length-pasted l (at + (p + n)) (slice (p + n) j s) (omega arith) in
+      let known : t ≡ slice p (p + n) s = e ∙ sym (slice-part s p n (omega arith)) in
       record {
         room = now .room;
         ordered = omega arith;
         within = now .within;
         so-far =
-            stored (i - 1) x (omega arith)
-            ∙ pasted-left l (at + (i - 1)) (x ∷ []) (at + i) (omega arith) (slice i j s) (omega arith)
-            ∙ ap (pasted l (at + (i - 1))) (rw e (slice-before i j s h (now .ordered) (now .within)));
-        as-long = rw length-set (now .as-long);
+            f
+            ∙ ap (λ (r : List ℕ). pasted r (at + p) t)
+            (now .so-far
+            ∙ ap (pasted l (at + i)) (sym (slice-append i (p + n) j s b c (now .within)))
+            ∙ sym (pasted-left l (at + i) (slice i (p + n) s) (at + (p + n)) (omega arith) (slice (p + n) j s) (omega arith)))
+            ∙ pasted-over (pasted l (at + (p + n)) (slice (p + n) j s)) (at + i) (slice i (p + n) s) (at + p) t (omega arith) (omega arith) (omega arith)
+            ∙ pasted-left l (at + p) t (at + (p + n)) (omega arith) (slice (p + n) j s) (omega arith)
+            ∙ ap (pasted l (at + p)) (rw known (slice-append p (p + n) j s (omega arith) c (now .within)));
+        as-long = ap length f ∙ length-pasted cur (at + p) t (omega (arith, now .as-long)) ∙ now .as-long;
       }
 
--- a move reads a byte of the part where that byte still stands, outside what is pasted
-pub unmoved : (l : List ℕ) (from to n : ℕ) {i j : ℕ} {cur : List ℕ} → Pasting l to (part l from n) i j cur
-    → (k : ℕ) → k < n → (from + k < to + i) ⊎ (to + j ≤ from + k) → getD cur (from + k) 0 ≡ getD (part l from n) k 0
-unmoved l from to n now k h w = outside now (from + k) w ∙ sym (getD-part l from n k h)
+  -- one byte more at the end
+  pub grows-right : {x : ℕ} → x ≡ getD s j 0 → j < length s → Pasting l at s i (j + 1) (set cur (at + j) x)
+  grows-right {x} e h =
+      joins-right j 1 (rw e (part-one s j h)) (set-pasted cur (at + j) x (omega arith)) (now .ordered) (omega arith) (omega arith) (omega arith)
+
+  -- one byte more at the start
+  pub grows-left : {x : ℕ} → x ≡ getD s (i - 1) 0 → 0 < i → Pasting l at s (i - 1) j (set cur (at + (i - 1)) x)
+  grows-left {x} e h =
+      joins-left (i - 1) 1 (rw e (part-one s (i - 1) (omega arith))) (set-pasted cur (at + (i - 1)) x (omega arith)) (omega arith) (omega arith) (omega arith)
+
+-- ---- a list of zeros filled by a part of s
+
+module _ (w : ℕ) (s : List ℕ) (at : ℕ) (fits : at + w ≤ length s) where
+  pub filling-starts : Pasting (zeros w) 0 (part s at w) 0 0 (zeros w)
+  filling-starts = starts (zeros w) 0 (part s at w) 0 (omega (arith, length-part s at w fits, length-zeros w)) zero-le
+
+  pub fills : {i : ℕ} {cur : List ℕ} → Pasting (zeros w) 0 (part s at w) 0 i cur → i < w
+      → Pasting (zeros w) 0 (part s at w) 0 (i + 1) (set cur i (getD s (at + i) 0))
+  fills {i} {cur} now h =
+      rw (zero-add i) at (grows-right now (sym (getD-part s at w i h)) (omega (arith, length-part s at w fits)))
+
+  pub filled : {i : ℕ} {cur : List ℕ} → Pasting (zeros w) 0 (part s at w) 0 i cur → w ≤ i → cur ≡ part s at w
+  filled now h =
+      let size : length (part s at w) ≡ w = length-part s at w fits in
+      ends now zero-le (omega arith) ∙ pasted-whole (zeros w) (part s at w) (omega (arith, length-zeros w))
+
+-- ---- a move of n bytes: a loop that pastes a part of the list itself
+
+-- a piece of the part
+part-part : (l : List ℕ) (from n k m : ℕ) → from + n ≤ length l → k + m ≤ n → part l (from + k) m ≡ part (part l from n) k m
+part-part l from n k m fits h =
+    let after : length (drop from l) ≡ length l - from = length-drop from l in
+    let whole : length (part l from n) ≡ n = length-part l from n fits in
+    sym
+    (sym (slice-part (part l from n) k m (omega arith))
+    ∙ ap (drop k) (take-take (k + m) n (drop from l) h)
+    ∙ slice-part (drop from l) k m (omega arith)
+    ∙ ap (take m) (drop-drop k from l))
+
+module _ (l : List ℕ) (from to n : ℕ) (fits : from + n ≤ length l) where
+  whole : length (part l from n) ≡ n
+  whole = length-part l from n fits
+
+  pub moving-starts : (i : ℕ) → to + n ≤ length l → i ≤ n → Pasting l to (part l from n) i i l
+  moving-starts i room h = starts l to (part l from n) i (omega (arith, whole)) (omega (arith, whole))
+
+  module _ {i j : ℕ} {cur : List ℕ} (now : Pasting l to (part l from n) i j cur) where
+    -- a piece more at the end, and at the start
+    pub moves-right : (k m : ℕ) {t next : List ℕ} → t ≡ part l (from + k) m → next ≡ pasted cur (to + k) t → i ≤ k → k ≤ j → j ≤ k + m → k + m ≤ n
+        → Pasting l to (part l from n) i (k + m) next
+    moves-right k m e f a b c h = joins-right now k m (e ∙ part-part l from n k m fits h) f a b c (omega (arith, whole))
+
+    pub moves-left : (k m : ℕ) {t next : List ℕ} → t ≡ part l (from + k) m → next ≡ pasted cur (to + k) t → k ≤ i → i ≤ k + m → k + m ≤ j
+        → Pasting l to (part l from n) k j next
+    moves-left k m e f a b c = joins-left now k m (e ∙ part-part l from n k m fits (omega (arith, whole, now .within))) f a b c
+
+    -- a byte that still stands where it was, outside what is pasted
+    pub unmoved : (k : ℕ) → k < n → (from + k < to + i) ⊎ (to + j ≤ from + k) → getD cur (from + k) 0 ≡ getD (part l from n) k 0
+    unmoved k h w =
+        let here : getD (part cur (from + k) 1) 0 0 ≡ getD cur (from + k) 0 = rw (add-zero (from + k)) at (getD-part cur (from + k) 1 0 (omega arith)) in
+        sym here
+        ∙ ap (λ (r : List ℕ). getD r 0 0)
+        (outside now (from + k) 1 (omega arith) (⊎-elim (λ b. inl (omega arith)) (λ a. inr a) w)
+        ∙ part-part l from n k 1 fits (omega arith)
+        ∙ sym (part-one (part l from n) k (omega (arith, whole))))
+
+    pub moving-ends : i ≤ 0 → n ≤ j → cur ≡ pasted l to (part l from n)
+    moving-ends a b = ends now a (omega (arith, whole))
+
+    -- by a last piece at the end, and at the start
+    pub moving-ends-right : (k m : ℕ) {t next : List ℕ} → t ≡ part l (from + k) m → next ≡ pasted cur (to + k) t → i ≤ 0 → k ≤ j → k + m ≡ n
+        → next ≡ pasted l to (part l from n)
+    moving-ends-right k m e f a b c =
+        ends (moves-right k m e f (omega arith) b (omega (arith, whole, now .within)) (omega arith)) a (omega (arith, whole))
+
+    pub moving-ends-left : (m : ℕ) {t next : List ℕ} → t ≡ part l from m → next ≡ pasted cur to t → i ≤ m → m ≤ j → n ≤ j
+        → next ≡ pasted l to (part l from n)
+    moving-ends-left m {t} {next} e f a b c =
+        let read : t ≡ part l (from + 0) m = rw (add-zero from) e in
+        let put : next ≡ pasted cur (to + 0) t = rw (add-zero to) f in
+        ends (moves-left 0 m read put (omega arith) (omega arith) (omega arith)) (omega arith) (omega (arith, whole))
 
 -- ---- s inserted into the used bytes of l: a paste of s and of the used bytes after it
 

@@ -13,8 +13,36 @@ ghost use Rattle.model.specs.Frame.{twoAt, twoBytes};
 ghost use Rattle.model.specs.Long.{lowFirst};
 ghost use Rattle.splice.specs.Bytes.{pasted, part, cleared, inserted, cutOut};
 
-// Copies all of `src` into `dst`, from index `at` on.
+// The bytes that the processor takes at once. Copies and moves go by such blocks, and byte by byte only where there is less than one.
+const BLOCK: usize = 16;
+
+// The bytes that the C library moves at once: the compiler makes a call of it of the loops over a local array, which cannot overlap a
+// buffer.
+const CHUNK: usize = 1024;
+
+// Copies all of `src` into `dst`, from index `at` on, block by block. The last block ends where `src` ends, and may write again what
+// the one before it wrote.
 pub fn copy_into(dst: &mut [u8], at: usize, src: &[u8])
+    requires { ⌜ at + length (now src) ≤ length (now dst) ⌝ }
+    ensures { λ _. ⌜ now (dst .exit) ≡ pasted (now (dst .entry)) at (now (src .entry)) ⌝ }
+{
+    let n = src.len();
+    if n < BLOCK {
+        copy_bytes(dst, at, src);
+        return;
+    }
+    let last = block_at(src, n - BLOCK);
+    let mut done = 0;
+    while done + BLOCK < n {
+        let block = block_at(src, done);
+        copy_bytes(dst, at + done, &block);
+        done += BLOCK;
+    }
+    copy_bytes(dst, at + (n - BLOCK), &last);
+}
+
+// The same, byte by byte.
+fn copy_bytes(dst: &mut [u8], at: usize, src: &[u8])
     requires { ⌜ at + length (now src) ≤ length (now dst) ⌝ }
     ensures { λ _. ⌜ now (dst .exit) ≡ pasted (now (dst .entry)) at (now (src .entry)) ⌝ }
 {
@@ -26,9 +54,36 @@ pub fn copy_into(dst: &mut [u8], at: usize, src: &[u8])
     }
 }
 
-// Moves the `len` bytes at index `from` down to index `to`; the two places may overlap. Where they are
-// one place there is nothing to do: the loop would write each byte over itself, and the compiler cannot
-// take many bytes at a time there.
+// The block at a position, by value.
+fn block_at(s: &[u8], at: usize) -> [u8; BLOCK]
+    requires { ⌜ at + 16 ≤ length (now s) ⌝ }
+    ensures { λ r. ⌜ r ≡ part (now (s .entry)) at 16 ⌝ }
+{
+    let mut block = [0u8; BLOCK];
+    let mut i = 0;
+    while i < BLOCK {
+        block[i] = s[at + i];
+        i += 1;
+    }
+    block
+}
+
+// The chunk at a position, by value.
+fn chunk_at(s: &[u8], at: usize) -> [u8; CHUNK]
+    requires { ⌜ at + 1024 ≤ length (now s) ⌝ }
+    ensures { λ r. ⌜ r ≡ part (now (s .entry)) at 1024 ⌝ }
+{
+    let mut chunk = [0u8; CHUNK];
+    let mut i = 0;
+    while i < CHUNK {
+        chunk[i] = s[at + i];
+        i += 1;
+    }
+    chunk
+}
+
+// Moves the `len` bytes at index `from` down to index `to`, chunk by chunk; the two places may overlap. Where they are one place there
+// is nothing to do.
 pub fn move_left(buf: &mut [u8], from: usize, to: usize, len: usize)
     requires { ⌜ (to ≤ from) × (from + len ≤ length (now buf)) ⌝ }
     ensures { λ _. ⌜ now (buf .exit) ≡ pasted (now (buf .entry)) to (part (now (buf .entry)) from len) ⌝ }
@@ -37,15 +92,67 @@ pub fn move_left(buf: &mut [u8], from: usize, to: usize, len: usize)
         return;
     }
     let mut done = 0;
+    while done + CHUNK <= len {
+        let chunk = chunk_at(buf, from + done);
+        copy_bytes(buf, to + done, &chunk);
+        done += CHUNK;
+    }
+    move_rest(buf, from + done, to + done, len - done);
+}
+
+// The same, block by block. The last block is read before anything is written, and may write again what the one before it wrote.
+fn move_rest(buf: &mut [u8], from: usize, to: usize, len: usize)
+    requires { ⌜ (to ≤ from) × (from + len ≤ length (now buf)) ⌝ }
+    ensures { λ _. ⌜ now (buf .exit) ≡ pasted (now (buf .entry)) to (part (now (buf .entry)) from len) ⌝ }
+{
+    if len < BLOCK {
+        move_bytes(buf, from, to, len);
+        return;
+    }
+    let last = block_at(buf, from + (len - BLOCK));
+    let mut done = 0;
+    while done + BLOCK < len {
+        let block = block_at(buf, from + done);
+        copy_bytes(buf, to + done, &block);
+        done += BLOCK;
+    }
+    copy_bytes(buf, to + (len - BLOCK), &last);
+}
+
+// The same, byte by byte.
+fn move_bytes(buf: &mut [u8], from: usize, to: usize, len: usize)
+    requires { ⌜ (to ≤ from) × (from + len ≤ length (now buf)) ⌝ }
+    ensures { λ _. ⌜ now (buf .exit) ≡ pasted (now (buf .entry)) to (part (now (buf .entry)) from len) ⌝ }
+{
+    let mut done = 0;
     while done < len {
         buf[to + done] = buf[from + done];
         done += 1;
     }
 }
 
-// Moves the `len` bytes at index `from` up to index `to`, the last one first; the two places may
-// overlap.
+// Moves the `len` bytes at index `from` up to index `to`, block by block, the last one first; the two places may overlap. The first
+// block is read before anything is written, and may write again what the one after it wrote.
 fn move_right(buf: &mut [u8], from: usize, to: usize, len: usize)
+    requires { ⌜ (from ≤ to) × (to + len ≤ length (now buf)) ⌝ }
+    ensures { λ _. ⌜ now (buf .exit) ≡ pasted (now (buf .entry)) to (part (now (buf .entry)) from len) ⌝ }
+{
+    if len < BLOCK {
+        move_bytes_right(buf, from, to, len);
+        return;
+    }
+    let first = block_at(buf, from);
+    let mut rest = len;
+    while BLOCK < rest {
+        rest -= BLOCK;
+        let block = block_at(buf, from + rest);
+        copy_bytes(buf, to + rest, &block);
+    }
+    copy_bytes(buf, to, &first);
+}
+
+// The same, byte by byte.
+fn move_bytes_right(buf: &mut [u8], from: usize, to: usize, len: usize)
     requires { ⌜ (from ≤ to) × (to + len ≤ length (now buf)) ⌝ }
     ensures { λ _. ⌜ now (buf .exit) ≡ pasted (now (buf .entry)) to (part (now (buf .entry)) from len) ⌝ }
 {

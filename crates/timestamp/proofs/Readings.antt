@@ -1,6 +1,6 @@
 -- A clock read near v, and a count found by the clock that it is for.
 -- Assumes nothing.
-use Prim.Native.Nat.{ℕ, _+_, _-_, _%_, _≤_, _<_, max}
+use Prim.Native.Nat.{ℕ, _+_, _*_, _-_, _%_, _≤_, _<_, max}
 use native.Mathlib.Nat.{mod-eq-of-lt, add-mod-right}
 use native.Mathlib.Omega.{arith}
 use mathlib.Core.Path.{_≡_, sym, ap, _∙_}
@@ -29,19 +29,69 @@ pub ahead-round : (modulus v r : ℕ) → r < v → v < modulus → r + (modulus
 unfolding ahead
 ahead-round modulus v r h below = let small : r + (modulus - v) < modulus = omega arith in sym (mod-eq-of-lt small)
 
--- the reading by u
-pub near-of-ahead : (epsilon modulus v r u : ℕ) → 1 ≤ epsilon → u ≡ ahead modulus v r → u ≤ epsilon - 1
-    → modulus + u ≡ near epsilon modulus v r
-near-of-ahead epsilon modulus v r u some-offset e h =
-    let small : ahead modulus v r < epsilon = omega arith in
-    rw (near-ahead epsilon modulus v r some-offset small, e)
+-- a number below 2B modulo B
+pub turned-below : (x modulus : ℕ) → x < modulus → x ≡ x % modulus
+turned-below x modulus h = sym (mod-eq-of-lt h)
 
-pub near-of-behind : (epsilon modulus v r u : ℕ) → 1 ≤ epsilon → v < modulus → u ≡ ahead modulus v r → epsilon - 1 < u
-    → u ≡ near epsilon modulus v r
-near-of-behind epsilon modulus v r u some-offset below e h =
-    let some-clock : 0 < modulus = omega arith in
-    let large : epsilon ≤ ahead modulus v r = omega arith in
-    rw (near-behind epsilon modulus v r some-offset some-clock large, e)
+pub turned-past : (x modulus : ℕ) → modulus ≤ x → x < 2 * modulus → x - modulus ≡ x % modulus
+turned-past x modulus h k =
+    let back : x ≡ x - modulus + modulus = omega arith in
+    let small : x - modulus < modulus = omega arith in
+    sym (ap (λ (n : ℕ). n % modulus) back ∙ (add-mod-right (x - modulus) modulus ∙ mod-eq-of-lt small))
+
+-- u, as a number
+ahead-is : (modulus v r : ℕ) → v < modulus → r < modulus → ((v ≤ r) × (ahead modulus v r + v ≡ r)) ⊎ ((r < v) × (ahead modulus v r + v ≡ r + modulus))
+ahead-is modulus v r below inside =
+    elim (lt-or-ge r v) [
+      | inl h ↦ let e = ahead-round modulus v r h below in inr (h, omega arith)
+      | inr h ↦ let e = ahead-from modulus v r h inside in inl (h, omega arith)
+    ]
+
+-- the reading, as a number
+near-is : (epsilon modulus v r : ℕ) → 1 ≤ epsilon → v < modulus
+    → ((ahead modulus v r < epsilon) × (near epsilon modulus v r ≡ modulus + ahead modulus v r)) ⊎ ((epsilon ≤ ahead modulus v r) × (near epsilon modulus v r ≡ ahead modulus v r))
+near-is epsilon modulus v r some-offset below =
+    elim (lt-or-ge (ahead modulus v r) epsilon) [
+      | inl h ↦ inl (h, near-ahead epsilon modulus v r some-offset h)
+      | inr h ↦ let some-clock : 0 < modulus = omega arith in inr (h, near-behind epsilon modulus v r some-offset some-clock h)
+    ]
+
+-- the reading by the clock that reads ε
+pub near-from : (epsilon modulus v r least : ℕ) → 1 ≤ epsilon → epsilon < modulus → v < modulus → r < modulus → least ≡ (v + epsilon) % modulus
+    → ahead modulus least r + epsilon ≡ near epsilon modulus v r
+near-from epsilon modulus v r least some-offset few below inside e =
+    go (elim (lt-or-ge (v + epsilon) modulus) [
+      | inl h ↦ inl (h, e ∙ mod-eq-of-lt h)
+      | inr h ↦ inr (h, e ∙ sym (turned-past (v + epsilon) modulus h (omega arith)))
+    ])
+  where
+    by : least < modulus → (v + epsilon ≡ least) ⊎ (v + epsilon ≡ least + modulus) → ahead modulus least r + epsilon ≡ near epsilon modulus v r
+    by low (inl t) =
+        elim (ahead-is modulus least r low inside) [
+          | inl a ↦ elim (ahead-is modulus v r below inside) [
+            | inl b ↦ elim (near-is epsilon modulus v r some-offset below) [ inl n ↦ omega arith | inr n ↦ omega arith ]
+            | inr b ↦ elim (near-is epsilon modulus v r some-offset below) [ inl n ↦ omega arith | inr n ↦ omega arith ]
+          ]
+          | inr a ↦ elim (ahead-is modulus v r below inside) [
+            | inl b ↦ elim (near-is epsilon modulus v r some-offset below) [ inl n ↦ omega arith | inr n ↦ omega arith ]
+            | inr b ↦ elim (near-is epsilon modulus v r some-offset below) [ inl n ↦ omega arith | inr n ↦ omega arith ]
+          ]
+        ]
+    by low (inr t) =
+        elim (ahead-is modulus least r low inside) [
+          | inl a ↦ elim (ahead-is modulus v r below inside) [
+            | inl b ↦ elim (near-is epsilon modulus v r some-offset below) [ inl n ↦ omega arith | inr n ↦ omega arith ]
+            | inr b ↦ elim (near-is epsilon modulus v r some-offset below) [ inl n ↦ omega arith | inr n ↦ omega arith ]
+          ]
+          | inr a ↦ elim (ahead-is modulus v r below inside) [
+            | inl b ↦ elim (near-is epsilon modulus v r some-offset below) [ inl n ↦ omega arith | inr n ↦ omega arith ]
+            | inr b ↦ elim (near-is epsilon modulus v r some-offset below) [ inl n ↦ omega arith | inr n ↦ omega arith ]
+          ]
+        ]
+
+    go : ((v + epsilon < modulus) × (least ≡ v + epsilon)) ⊎ ((modulus ≤ v + epsilon) × (least ≡ v + epsilon - modulus)) → ahead modulus least r + epsilon ≡ near epsilon modulus v r
+    go (inl t) = by (omega arith) (inl (omega arith))
+    go (inr t) = by (omega arith) (inr (omega arith))
 
 -- 01: "Outside those offsets a count reads as 0"
 pub count-before : (reading w : ℕ) (kn : List ℕ) → w < reading → 0 ≡ placedAt reading kn w

@@ -5,7 +5,7 @@ use native.Mathlib.Omega.{arith}
 use mathlib.Core.Path.{_≡_, sym, ap, _∙_}
 use mathlib.Core.List.{List}
 use lib.ListN.{length, take, drop, getD, set, replicate, length-replicate, length-take}
-use lib.Seq.{getD-take, take-all}
+use lib.Seq.{take-all}
 use Rattle.laws.specs.Lists.{tab, padded, placedAt}
 use Rattle.laws.proofs.Lists.{getD-padded, tab-ext}
 use Rattle.model.specs.Setup.{width}
@@ -47,28 +47,22 @@ module _ (epsilon : ℕ) (t : Timestamp) (small : epsilon ≤ 16) (long : length
       omega (arith, length-take (2 * epsilon - k) (drop k (t .kn))) in
       rw (trimmed-all, moved, padded-more 32 (take (2 * epsilon - k) (drop k (t .kn))) k fits, ec, e)
 
-  -- the own count, before it rises
-  pub own-count : (kn : List ℕ) → 1 ≤ epsilon → kn ≡ padded 32 (take (2 * epsilon) (t .kn)) → getD kn epsilon 0 ≡ getD (t .kn) epsilon 0
-  own-count kn h e =
-      let inside : epsilon < 2 * epsilon = omega arith in
-      rw (e, getD-padded 32 (take (2 * epsilon) (t .kn)) epsilon, getD-take (2 * epsilon) (t .kn) epsilon 0 inside)
-
-  pub count-own-widened : (v : ℕ) (kn : List ℕ) → 1 ≤ epsilon → kn ≡ padded 32 (take (2 * epsilon) (t .kn))
-      → stamp v (t .c) (set kn epsilon (getD kn epsilon 0 + 1)) ≡ widened (countOwn epsilon v (trimmed epsilon t))
-  unfolding widened countOwn
-  count-own-widened v kn h e =
-      let inside : epsilon < length (take (2 * epsilon) (t .kn)) = omega (arith, length-take (2 * epsilon) (t .kn)) in
-      rw (
-        trimmed-all,
-        e,
-        getD-padded 32 (take (2 * epsilon) (t .kn)) epsilon,
-        set-padded 32 (take (2 * epsilon) (t .kn)) epsilon (getD (take (2 * epsilon) (t .kn)) epsilon 0 + 1) inside,
-      )
-
   -- places past the 2ε counts are 0
   narrow-counts : t ≡ widened (trimmed epsilon t) → t .kn ≡ padded 32 (take (2 * epsilon) (t .kn))
   unfolding widened
   narrow-counts narrow = ap (λ (u : Timestamp). u .kn) (narrow ∙ ap widened trimmed-all)
+
+  pub count-own-widened : (v : ℕ) → 1 ≤ epsilon → t ≡ widened (trimmed epsilon t)
+      → stamp v (t .c) (set (t .kn) epsilon (getD (t .kn) epsilon 0 + 1)) ≡ widened (countOwn epsilon v (trimmed epsilon t))
+  unfolding widened countOwn
+  count-own-widened v h narrow =
+      let inside : epsilon < length (take (2 * epsilon) (t .kn)) = omega (arith, length-take (2 * epsilon) (t .kn)) in
+      ap (λ (l : List ℕ). stamp v (t .c) (set l epsilon (getD l epsilon 0 + 1))) (narrow-counts narrow)
+      ∙ rw (
+        trimmed-all,
+        getD-padded 32 (take (2 * epsilon) (t .kn)) epsilon,
+        set-padded 32 (take (2 * epsilon) (t .kn)) epsilon (getD (take (2 * epsilon) (t .kn)) epsilon 0 + 1) inside,
+      )
 
   -- of a frame with that c and those counts, the own ones raised where they stand
   pub absorb-widened : (modulus reading up down count c d : ℕ) (counts kn : List ℕ) → t ≡ widened (trimmed epsilon t) → length counts ≡ 2 * epsilon

@@ -87,10 +87,10 @@ impl Timestamp {
     // 01, tick 4: "The count at offset 0 rises by one; r is v".
     pub fn count_own(self, epsilon: usize, v: usize) -> Self
         requires { ⌜ (1 ≤ epsilon) × ((epsilon ≤ 16) × (getD (self .kn) epsilon 0 ≤ 254)) ⌝ }
+        requires { ⌜ stampOf self ≡ widened (trimmed epsilon (stampOf self)) ⌝ }
         ensures { λ s. ⌜ stampOf s ≡ widened (model.countOwn epsilon v (trimmed epsilon (stampOf self))) ⌝ }
     {
-        let own = self.kn;
-        let mut kn = counts_of(&own, 0, 2 * epsilon);
+        let mut kn = self.kn;
         kn[epsilon] = kn[epsilon] + 1;
         Timestamp {
             r: v,
@@ -291,11 +291,21 @@ pub fn clock_sound(epsilon: usize, modulus: usize, v: usize, r: usize) -> bool
     k <= epsilon
 }
 
-// 01: "If u ≤ ε − 1, r is u ahead. Otherwise it is B − u behind." v itself reads B.
+// A number below 2B modulo B.
+fn turned(x: usize, modulus: usize) -> usize
+    requires { ⌜ x < 2 * modulus ⌝ }
+    ensures { λ y. ⌜ y ≡ x % modulus ⌝ }
+{
+    if x < modulus { x } else { x - modulus }
+}
+
+// 01: "If u ≤ ε − 1, r is u ahead. Otherwise it is B − u behind." v itself reads B. So a reading lies ε and so much more as r lies past the
+// clock that reads ε, which is the same for all r.
 pub fn near(epsilon: usize, modulus: usize, v: usize, r: usize) -> usize
-    requires { ⌜ (1 ≤ epsilon) × ((modulus ≤ 65535) × ((v < modulus) × (r < modulus))) ⌝ }
+    requires { ⌜ (1 ≤ epsilon) × (epsilon < modulus) ⌝ }
+    requires { ⌜ (modulus ≤ 65535) × ((v < modulus) × (r < modulus)) ⌝ }
     ensures { λ x. ⌜ x ≡ model.near epsilon modulus v r ⌝ }
 {
-    let u = ahead(modulus, v, r);
-    if u <= epsilon - 1 { modulus + u } else { u }
+    let least = turned(v + epsilon, modulus);
+    ahead(modulus, least, r) + epsilon
 }

@@ -21,7 +21,7 @@ limits c = limits-from (setupOf (c .args .setup)) (c .pre .0 .0)
 form : (c : tie.Else1) → let a = c .before .before .before .before .before .args in wellFormed (a .setup .epsilon) (take (frameEnd (a .setup .epsilon) (a .w .now)) (a .w .now)) ≡ true
 form c = sym (c .before .formed-window .ensures) ∙ not-false (c .before .formed-window .result) (c .if1 .left)
 
-range : (c : tie.Else2) → let start = c .before .before .before .before .before .before .before .before .before in ranged (setupOf (start .args .setup)) (start .args .w .now) (start .pre .1 .1) ≡ true
+range : (c : tie.Else2) → let start = c .before .before .before .before .before .before .before .before .before in ranged (setupOf (start .args .setup)) (start .args .w .now) ≡ true
 range c = sym (c .before .ranged-window .ensures) ∙ not-false (c .before .ranged-window .result) (c .if2 .left)
 
 cast-epsilon : tie.Need-cast-epsilon
@@ -47,7 +47,7 @@ ranged-window-requires c κs = search needs
 returns-2 : tie.Need-returns-2
 returns-2 c =
     let start = c .before .before .before .before .before .before .before .before .before in
-    sym (range-no (setupOf (start .args .setup)) (start .args .w .now) (start .pre .1 .1) (form (c .before .before .before .before))
+    sym (range-no (setupOf (start .args .setup)) (start .args .w .now) (form (c .before .before .before .before))
     (sym (c .before .ranged-window .ensures) ∙ not-true (c .before .ranged-window .result) (c .if2 .taken)))
 
 shared-slice-read-c : tie.Need-shared-slice-read-c
@@ -68,18 +68,18 @@ part-sound-window-end c = search needs
 sound-window-requires : tie.Need-sound-window-requires
 sound-window-requires c κs =
     let start = c .before .before .before .before .before .before .before .before .before .before .before in
-    (limits start .epsilon-pos, (limits start .epsilon-most, (window-long (start .args .w .now) (start .pre .1 .0), limits-long (start .args .setup .n) (start .args .setup .epsilon) (start .args .limits .now) (start .pre .0 .1))))
+    (limits start .epsilon-pos, (limits start .epsilon-most, (window-long (start .args .w .now) (omega arith), limits-long (start .args .setup .n) (start .args .setup .epsilon) (start .args .limits .now) (start .pre .0 .1))))
 
 returns-3 : tie.Need-returns-3
 returns-3 c =
     let start = c .before .before .before .before .before .before .before .before .before .before .before .before .before in
-    sym (window-no (setupOf (start .args .setup)) (start .args .w .now) (start .pre .1 .1) (form (c .before .before .before .before .before .before .before .before)) (range (c .before .before .before .before)) (limits start .epsilon-most)
+    sym (window-no (setupOf (start .args .setup)) (start .args .w .now) (form (c .before .before .before .before .before .before .before .before)) (range (c .before .before .before .before)) (limits start .epsilon-most)
     (sym (c .before .sound-window .ensures (start .args .setup .n) (start .pre .0 .1)) ∙ not-true (c .before .sound-window .result) (c .if3 .taken)))
 
 returns-4 : tie.Need-returns-4
 returns-4 c =
     let start = c .before .before .before .before .before .before .before .before .before .before .before .before .before in
-    sym (window-right (setupOf (start .args .setup)) (start .args .w .now) (start .pre .1 .1) (form (c .before .before .before .before .before .before .before .before)) (range (c .before .before .before .before)) (limits start .epsilon-most)
+    sym (window-right (setupOf (start .args .setup)) (start .args .w .now) (form (c .before .before .before .before .before .before .before .before)) (range (c .before .before .before .before)) (limits start .epsilon-most)
     (sym (c .before .sound-window .ensures (start .args .setup .n) (start .pre .0 .1)) ∙ not-false (c .before .sound-window .result) (c .if3 .left)))
 
 pub check-window-spec : {M : Type 1} → statement M

@@ -12,7 +12,7 @@ shared-slice-read-if1 c = search needs
 returns : tie.Need-returns
 returns c =
     let start = c .before .before in
-    first-no (start .args .epsilon) (start .args .w .now) (start .pre .1 .1) (omega arith)
+    first-no (start .args .epsilon) (start .args .w .now) (omega arith)
 
 shared-slice-read-if2 : tie.Need-shared-slice-read-if2
 shared-slice-read-if2 c = search needs
@@ -29,7 +29,7 @@ add-if2 c = search needs
 returns-2 : tie.Need-returns-2
 returns-2 c =
     let start = c .before .before .before .before in
-    second-no (start .args .epsilon) (start .args .w .now) (start .pre .1 .1) (omega arith) (omega arith)
+    second-no (start .args .epsilon) (start .args .w .now) (omega arith) (omega arith)
 
 mul-result : tie.Need-mul-result
 mul-result c = search needs
@@ -46,7 +46,7 @@ cast-result c = omega (arith, c .shared-slice-known3 .given (6 + 2 * c .before .
 returns-3 : tie.Need-returns-3
 returns-3 c =
     let start = c .before .before .before .before .before in
-    third-decides (start .args .epsilon) (start .args .w .now) (start .pre .1 .1) (omega arith) (omega arith)
+    third-decides (start .args .epsilon) (start .args .w .now) (start .pre .1) (omega arith) (omega arith)
 
 pub formed-window-spec : {M : Type 1} → statement M
 formed-window-spec =

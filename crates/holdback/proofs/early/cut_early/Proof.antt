@@ -3,7 +3,7 @@ use Prim.Native.Nat.{ℕ, _+_, _*_, _-_, _≤_, _<_}
 use native.Mathlib.Omega.{arith}
 use mathlib.Core.Path.{_≡_, refl, sym, ap, ap₂, _∙_}
 use mathlib.Core.List.{List}
-use lib.ListN.{length, drop, getD}
+use lib.ListN.{length, drop}
 use Rattle.laws.specs.Lists.{overlay}
 use Rattle.model.specs.Setup.{Setup}
 use Rattle.model.specs.Frame.{Frame, twoAt}
@@ -13,12 +13,12 @@ use Rattle.lemmas.proofs.Bounds.{Limits}
 use Rattle.lemmas.proofs.Questions.{limits-from}
 use Rattle.holdback.specs.Queue.{frameStart, Spans}
 use Rattle.holdback.specs.Seen.{seenTable}
-use Rattle.holdback.specs.Starts.{startUnit, startPlaces, startOf, loweredStarts}
+use Rattle.holdback.specs.Starts.{startUnit, loweredStarts}
 use Rattle.holdback.specs.Early.{SoundBy, EarlyFront, earlyFrames, otherFrames, releasedBuffer}
 use Rattle.holdback.proofs.RoundTrip.{Bytes}
 use Rattle.holdback.proofs.Changes.{located}
 use Rattle.holdback.proofs.Cut.{count-small}
-use Rattle.holdback.proofs.Started.{starts-long, starts-at}
+use Rattle.holdback.proofs.Started.{used-most, starts-long, starts-at}
 use Rattle.holdback.proofs.Releasing.{index-in, early-others, early-small, early-spans, start-lowered, starts-left}
 use borrow.Author.Needs.{needs}
 use Rattle.holdback.proofs.early.cut_early.Statement.{statement}
@@ -74,28 +74,32 @@ unmark-requires c κs =
     let at = c .before .before .before .before in
     (start at .pre .0, ((sound at, (start at .pre .1 .0 .1 .0, inside at)), start at .pre .1 .1 .1 .0))
 
-mul-lower-starts : tie.Need-mul-lower-starts
-mul-lower-starts c = omega (arith, small (c .before .before .before .before .before .before .before .before .before))
+used-places-requires : tie.Need-used-places-requires
+used-places-requires c κs = start (c .before .before .before .before .before .before .before) .pre .0 .0
 
-sub-lower-starts : tie.Need-sub-lower-starts
-sub-lower-starts c = omega (arith, small (c .before .before .before .before .before .before .before .before .before .before))
+mul-step : tie.Need-mul-step
+mul-step c = omega (arith, small (c .before .before .before .before .before .before .before .before .before))
 
-add-lower-starts : tie.Need-add-lower-starts
-add-lower-starts c = omega (arith, small (c .before .before .before .before .before .before .before .before .before .before))
+sub-step : tie.Need-sub-step
+sub-step c = omega (arith, small (c .before .before .before .before .before .before .before .before .before .before))
+
+add-step : tie.Need-add-step
+add-step c = omega (arith, small (c .before .before .before .before .before .before .before .before .before .before))
 
 cast-lower-starts : tie.Need-cast-lower-starts
-cast-lower-starts c = omega (arith, small (c .before .before .before .before .before .before .before .before .before .before))
+cast-lower-starts c = omega (arith, small (c .before .before .before .before .before .before .before .before .before .before .before))
 
 lower-starts-requires : tie.Need-lower-starts-requires
 lower-starts-requires c κs =
-    let at = c .before .before .before .before .before .before .before .before .before .before in
-    let tabled = start at .pre .1 .1 .1 .1 in (
-      starts-long (s at) (v at) (b at) tabled,
+    let at = c .before .before .before .before .before .before .before .before .before .before .before in
+    let tabled = start at .pre .1 .1 .1 .1 in
+    let used = c .before .before .before .used-places .ensures in (
+      (starts-long (s at) (v at) (b at) tabled, omega (arith, used, used-most (s at) (limits at))),
       λ k h.
           omega (
             arith,
             step-is at,
-            starts-at (s at) (v at) (b at) tabled k h,
+            starts-at (s at) (v at) (b at) (limits at) tabled k (omega (arith, used)),
             start-lowered (s at) (v at) (sound at .least) (b at) (sound at .sound) (limits at) (clean at) (start at .pre .1 .0 .1 .0) (releasedBuffer (s at) (v at) (b at)) refl k,
           ),
     )
@@ -105,7 +109,7 @@ cast-cut-front c = search needs
 
 cut-front-requires : tie.Need-cut-front-requires
 cut-front-requires c κs =
-    let at = c .before .before .before .before .before .before .before .before .before .before .before .before .before .before .before in
+    let at = c .before .before .before .before .before .before .before .before .before .before .before .before .before .before .before .before in
     (spans at, omega (arith, count-small (s at) (v at) (sound at .least) (b at) (sound at .sound) (start at .args .count) (limits at) (start at .pre .1 .0 .1 .1)))
 
 same-length : tie.Need-same-length
@@ -119,16 +123,16 @@ same-length-3 c = search needs
 
 returns : tie.Need-returns
 returns c =
-    let at = c .before .before .before .before .before .before .before .before .before .before .before .before .before .before .before .before .before .before in
+    let at = c .before .before .before .before .before .before .before .before .before .before .before .before .before .before .before .before .before .before .before in
     let rest : drop (start at .args .early .index) (held (s at .epsilon) (b at)) ≡ otherFrames (s at) (v at) (b at) =
     ap (λ (n : ℕ). drop n (held (s at .epsilon) (b at))) (front at .number) ∙ early-others (s at) (v at) (sound at .least) (b at) (sound at .sound) in
     let cut = c .before .before .cut-front .ensures ∙ ap (λ (l : List Frame). overlay (encodeFrames l) (b at)) rest in
     record {
       queue-is = cut;
-      table-is = c .before .before .before .before .before .before .before .before .before .before .before .before .before .unmark .ensures ∙ ap (seenTable (s at) (v at)) rest;
+      table-is = c .before .before .before .before .before .before .before .before .before .before .before .before .before .before .unmark .ensures ∙ ap (seenTable (s at) (v at)) rest;
       starts-is =
           starts-left (s at) (v at) (sound at .least) (b at) (sound at .sound) (limits at) (clean at) (start at .pre .1 .0 .1 .0) _ cut (start at .pre .1 .1 .1 .1)
-          (c .before .before .before .before .before .before .before .lower-starts .ensures ∙ ap (λ (n : ℕ). loweredStarts n (start at .args .starts .now)) (step-is at));
+          (c .before .before .before .before .before .before .before .lower-starts .ensures ∙ ap₂ (λ (to n : ℕ). loweredStarts to n (start at .args .starts .now)) (c .before .before .before .before .before .before .before .before .before .before .before .used-places .ensures) (step-is at));
     }
 
 pub cut-early-spec : {M : Type 1} → statement M
@@ -136,9 +140,10 @@ cut-early-spec =
     tie.close
     (tie.spec
     unmark-requires
-    mul-lower-starts
-    sub-lower-starts
-    add-lower-starts
+    used-places-requires
+    mul-step
+    sub-step
+    add-step
     cast-lower-starts
     lower-starts-requires
     cast-cut-front

@@ -15,18 +15,18 @@ use Rattle.holdback.specs.Queue.{frameStart, Spans}
 use Rattle.holdback.specs.Early.{SoundBy, EarlyFront, earlyFrames, Released}
 use Rattle.holdback.proofs.RoundTrip.{Bytes}
 use Rattle.holdback.proofs.Changes.{located}
-use Rattle.holdback.proofs.Releasing.{early-first, early-small, early-spans, early-ends, released-none, released-some, begun-spans, begun-given}
+use Rattle.holdback.proofs.Releasing.{early-front, early-first, early-small, early-spans, early-ends, released-none, released-some, begun-spans, begun-given}
 use borrow.Author.Needs.{needs}
 use Rattle.holdback.proofs.early.release.Statement.{statement}
 use Rattle.holdback.proofs.early.release.Tie as tie
 
-early-front-requires : tie.Need-early-front-requires
-early-front-requires c κs =
+front-below-requires : tie.Need-front-below-requires
+front-below-requires c κs =
     let start = c .before .before .before .before .before .before in
-    (start .pre .0 .0, (start .pre .1 .0 .0, start .pre .1 .1 .1 .1))
+    ((start .pre .0 .0, omega arith), (start .pre .1 .0 .0, start .pre .1 .1 .1 .1))
 
 -- the queue as it comes, and its front
-module _ (c : tie.After-early-front) where
+module _ (c : tie.After-front-below) where
   abbrev start : tie.Start
   start = c .before .before .before .before .before .before .before
 
@@ -42,8 +42,8 @@ module _ (c : tie.After-early-front) where
   abbrev sound : SoundBy s v b
   sound = start .pre .1 .0 .0
 
-  abbrev front : EarlyFront s v b (c .early-front .result .index) (c .early-front .result .at)
-  front = c .early-front .ensures
+  front : EarlyFront s v b (c .front-below .result .index) (c .front-below .result .at)
+  front = early-front s v (sound .least) b (sound .sound) (c .front-below .ensures)
 
   limits : Limits s
   limits = limits-from s (start .pre .0 .0)
@@ -51,14 +51,14 @@ module _ (c : tie.After-early-front) where
   clean : Bytes b
   clean i = omega (arith, c .before .before .before .before .before .before .slice-known .given i)
 
-  spans : Spans (s .epsilon) b (start .args .count) (start .args .end) (c .early-front .result .index) (c .early-front .result .at)
+  spans : Spans (s .epsilon) b (start .args .count) (start .args .end) (c .front-below .result .index) (c .front-below .result .at)
   spans =
       early-spans s v (sound .least) b (sound .sound) limits clean (start .pre .1 .0 .1 .0) (start .pre .1 .0 .1 .1) (start .pre .1 .1 .0 .0) front
 
   long : 2 ≤ length (start .args .delivery .now)
   long = omega (arith, start .pre .1 .0 .1 .0, start .pre .1 .1 .0 .1)
 
-  first : take (c .early-front .result .index) (held (s .epsilon) b) ≡ earlyFrames s v b
+  first : take (c .front-below .result .index) (held (s .epsilon) b) ≡ earlyFrames s v b
   first = ap (λ (n : ℕ). take n (held (s .epsilon) b)) (front .number) ∙ early-first s v (sound .least) b (sound .sound)
 
 put-u16-requires : tie.Need-put-u16-requires
@@ -121,7 +121,7 @@ pub release-spec : {M : Type 1} → statement M
 release-spec =
     tie.close
     (tie.spec
-    early-front-requires
+    front-below-requires
     put-u16-requires
     cast-append-prefix
     append-prefix-requires

@@ -1,5 +1,5 @@
--- `holdback::origins::is_marked` meets its contract: one look-up. Assumes nothing.
-use mathlib.Core.Path.{ap}
+-- `holdback::origins::is_marked` meets its contract: the place of the rank is looked up. Assumes nothing.
+use mathlib.Core.Path.{ap, _∙_}
 use borrow.Author.Needs.{needs}
 use Rattle.holdback.specs.Seen.{hasMark}
 use Rattle.holdback.proofs.origins.is_marked.Statement.{statement}
@@ -8,19 +8,11 @@ use Rattle.holdback.proofs.origins.is_marked.Tie as tie
 slot-requires : tie.Need-slot-requires
 slot-requires c κs = search needs
 
-mul-result : tie.Need-mul-result
-mul-result c = search needs
-
-shared-slice-read-result : tie.Need-shared-slice-read-result
-shared-slice-read-result c = search needs
-
-shr-result : tie.Need-shr-result
-shr-result c = search needs
+has-mark-requires : tie.Need-has-mark-requires
+has-mark-requires c κs = (c .before .before .pre .1, c .slot .ensures .1)
 
 returns : tie.Need-returns
-unfolding hasMark
-returns c = ap (hasMark (c .before .before .before .args .seen .now)) (c .before .slot .ensures .0)
+returns c = c .has-mark .ensures ∙ ap (hasMark (c .before .before .before .args .seen .now)) (c .before .slot .ensures .0)
 
 pub is-marked-spec : {M : Type 1} → statement M
-is-marked-spec =
-    tie.close (tie.spec slot-requires mul-result shared-slice-read-result shr-result returns)
+is-marked-spec = tie.close (tie.spec slot-requires has-mark-requires returns)

@@ -7,7 +7,7 @@ use Rattle.model.specs.Order.{before, dueNear}
 use Rattle.model.specs.Judge.{placeFor}
 use Rattle.setup.specs.Views.{setupOf}
 use Rattle.lemmas.proofs.Questions.{limits-from}
-use Rattle.holdback.specs.Starts.{startPlaces, sumPlace}
+use Rattle.holdback.specs.Starts.{usedPlaces, sumPlace}
 use Rattle.model.specs.Holdback.{passes}
 use mathlib.Core.Path.{_≡_, refl, _∙_}
 use mathlib.Core.Bool.{true}
@@ -15,7 +15,7 @@ use Rattle.lemmas.proofs.Bounds.{Limits}
 use Rattle.holdback.proofs.Frames.{counts-decoded}
 use Rattle.holdback.specs.Queue.{rankOf}
 use Rattle.holdback.proofs.Testing.{rank-read, fits-passes, ranked, rank-fits, rank-placed, before-rank}
-use Rattle.holdback.proofs.Started.{place-inside, place-at, starts-long, starts-at, start-leads}
+use Rattle.holdback.proofs.Started.{used-most, place-inside, place-at, starts-long, starts-at, start-leads}
 use Rattle.holdback.proofs.Searching.{Led, led-inside, led-next, led-passes, led-stops, led-turns, led-ends}
 use Rattle.holdback.proofs.search.place_for.Statement.{statement}
 use Rattle.holdback.proofs.search.place_for.Tie as tie
@@ -61,18 +61,18 @@ place c =
 due-is : (c : tie.Start Inv-loop μ-loop) → c .args .s .modulus + sumPlace (setupOf (c .args .s)) (c .args .v) (decode (c .args .s .epsilon) (c .args .frame .now)) ≡ dueNear (setupOf (c .args .s)) (c .args .v) (decode (c .args .s .epsilon) (c .args .frame .now))
 due-is c = place-at (setupOf (c .args .s)) (c .args .v) (c .args .s .modulus) (omega arith) (c .args .frame .now) (c .pre .1 .1 .1 .0)
 
-inside : (c : tie.After-rank-place Inv-loop μ-loop) → c .rank-place .result < startPlaces
+inside : (c : tie.After-rank-place Inv-loop μ-loop) → c .rank-place .result < usedPlaces (setupOf (c .before .before .before .before .before .before .args .s))
 inside c =
     let start = c .before .before .before .before .before .before in
     omega (arith, place c, due-is start, place-inside (setupOf (start .args .s)) (start .args .v) (start .args .s .modulus) (limits start) (start .args .frame .now) (start .pre .1 .1 .1 .0))
 
 mul-start : tie.Need-mul-start Inv-loop μ-loop
-mul-start c = omega (arith, inside c)
+mul-start c = omega (arith, inside c, used-most (setupOf (c .before .before .before .before .before .before .args .s)) (limits (c .before .before .before .before .before .before)))
 
 shared-slice-read-start : tie.Need-shared-slice-read-start Inv-loop μ-loop
 shared-slice-read-start c =
     let start = c .before .before .before .before .before .before .before in
-    omega (arith, inside (c .before), starts-long (setupOf (start .args .s)) (start .args .v) (start .args .buf .now) (start .pre .1 .1 .0))
+    omega (arith, inside (c .before), used-most (setupOf (start .args .s)) (limits start), starts-long (setupOf (start .args .s)) (start .args .v) (start .args .buf .now) (start .pre .1 .1 .0))
 
 cast-start : tie.Need-cast-start Inv-loop μ-loop
 cast-start c = omega (arith, c .shared-slice-known4 .given (c .before .rank-place .result))
@@ -81,7 +81,7 @@ loop-holds : tie.Need-loop-holds Inv-loop μ-loop
 loop-holds c =
     let start = c .before .before .before .before .before .before .before in
     let s = setupOf (start .args .s) in
-    start-leads s (start .args .v) (start .args .s .modulus) (start .args .buf .now) (limits start) (start .pre .1 .0 .0) (c .before .rank-place .result) (decode (start .args .s .epsilon) (start .args .frame .now)) (start .pre .1 .0 .1 .0) (start .pre .1 .0 .1 .1) (starts-at s (start .args .v) (start .args .buf .now) (start .pre .1 .1 .0) (c .before .rank-place .result) (inside (c .before))) (omega (arith, place (c .before), due-is start))
+    start-leads s (start .args .v) (start .args .s .modulus) (start .args .buf .now) (limits start) (start .pre .1 .0 .0) (c .before .rank-place .result) (decode (start .args .s .epsilon) (start .args .frame .now)) (start .pre .1 .0 .1 .0) (start .pre .1 .0 .1 .1) (starts-at s (start .args .v) (start .args .buf .now) (limits start) (start .pre .1 .1 .0) (c .before .rank-place .result) (inside (c .before))) (omega (arith, place (c .before), due-is start))
 
 sub-frame-end : tie.Need-sub-frame-end Inv-loop μ-loop
 sub-frame-end c = led-inside (c .before .loop .inv) (c .loop-test .taken)

@@ -44,7 +44,7 @@ returns-2 c =
     let left = c .before in
     let start = left .before .before .before .before .before .before .before .before .before in
     walked-none (record {
-      two = start .pre .1 .0;
+      room = start .pre .1 .0;
       count-is = left .before .before .before .before .before .two-at .ensures;
       few = omega (arith, left .before .depth .ensures, left .if1 .left);
       empty = start .pre .1 .1 .0 ∙ seen-none (setupOf (start .args .s)) (start .args .v);
@@ -74,7 +74,7 @@ walk-frames-requires c κs =
       (
         start .pre .0 .1 .1,
         record {
-          two = start .pre .1 .0;
+          room = start .pre .1 .0;
           count-is = left .before .before .before .before .before .two-at .ensures;
           few = omega (arith, left .before .depth .ensures, left .if1 .left);
           empty = start .pre .1 .1 .0 ∙ seen-none (setupOf (start .args .s)) (start .args .v);

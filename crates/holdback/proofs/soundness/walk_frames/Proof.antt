@@ -1,38 +1,41 @@
--- `holdback::soundness::walk_frames` meets its contract. The invariant of the loop: the frames so far are sound, the table of origins has theirs, and the table of starts, for sums up to theirs, where those start. The measure is what is left of the count. Assumes nothing.
+-- `holdback::soundness::walk_frames` meets its contract. The invariant of the loop: the frames so far are sound, the table of origins has theirs, and the largest entry up to a place of the table of starts is that of the frames so far. The measure is what is left of the count. Assumes nothing.
 use native.Mathlib.Omega.{arith}
 use borrow.Author.Needs.{needs}
 use Rattle.setup.specs.Views.{setupOf}
-use mathlib.Core.Path.{_≡_, ap, sym, _∙_}
-use Prim.Native.Nat.{ℕ, _-_, _≤_, _<_}
+use mathlib.Core.Path.{_≡_, refl, ap, sym, _∙_}
+use Prim.Native.Nat.{ℕ, _+_, _-_, _≤_, _<_}
 use mathlib.Core.List.{List}
 use lib.ListN.{length, length-replicate}
-use Rattle.model.specs.Setup.{Setup}
+use Rattle.model.specs.Setup.{Setup, depth}
+use Rattle.lemmas.proofs.Bounds.{Limits}
 use Rattle.model.specs.Frame.{twoAt}
 use Rattle.lemmas.proofs.Questions.{limits-from}
 use Rattle.holdback.specs.declared.soundness.Judged.{Judged}
 use Rattle.holdback.specs.Sound.{Walking}
 use Rattle.holdback.specs.Starts.{startUnit, startPlaces, front}
 use Rattle.holdback.proofs.Seen.{seen-none}
-use Rattle.holdback.proofs.Started.{all-front}
-use Rattle.holdback.proofs.Walks.{walk-starts, starting-long, table-long, at-low-enough, Right, judged-bad, judged-good, walk-fails, walked-no, walked-yes, judged-within, judged-new, judged-small, judged-place, walk-turns, Filling, filling-starts, filling-turns, filling-ends}
+use Rattle.holdback.proofs.Started.{used-most, all-front}
+use Rattle.holdback.proofs.Walks.{walk-starts, starting-long, table-long, Right, judged-bad, judged-good, walk-fails, walked-no, walked-yes, judged-slot, judged-new, judged-small, judged-place, walk-turns, next-low, Ending, ending-starts, ending-turns, ending-ends}
 use Rattle.holdback.proofs.soundness.walk_frames.Statement.{statement}
 use Rattle.holdback.proofs.soundness.walk_frames.Tie as tie
 
 abbrev Inv-loop : tie.InvT-loop
-Inv-loop s v least limits buf count seen₀ starts₀ i₀ prev₀ at₀ last₀ filled₀ seen starts i prev at last filled =
-    Walking (setupOf s) v least buf seen i prev last at × (Filling (setupOf s) v buf i filled starts × (i ≤ count))
+Inv-loop s v least limits buf count seen₀ starts₀ i₀ at₀ last₀ seen starts i at last =
+    Walking (setupOf s) v least buf seen i last at × (Ending (setupOf s) v buf i starts × (i ≤ count))
 
 abbrev μ-loop : tie.MeasureT-loop
-μ-loop s v least limits buf count seen₀ starts₀ i₀ prev₀ at₀ last₀ filled₀ seen starts i prev at last filled = count - i
+μ-loop s v least limits buf count seen₀ starts₀ i₀ at₀ last₀ seen starts i at last = count - i
 
-no-rank-requires : tie.Need-no-rank-requires Inv-loop μ-loop
-no-rank-requires c κs = search needs
+no-key-requires : tie.Need-no-key-requires Inv-loop μ-loop
+no-key-requires c κs = search needs
 
 loop-holds : tie.Need-loop-holds Inv-loop μ-loop
-loop-holds c = let start = c .before .before .before .before .before in (walk-starts _ (start .pre .1 .1), (filling-starts (start .pre .1 .1 .all-front), omega arith))
+loop-holds c = let start = c .before .before .before .before .before in (walk-starts (c .no-key .ensures) (start .pre .1 .1), (ending-starts (limits-from (setupOf (start .args .s)) (start .pre .0 .0)) (start .pre .1 .1 .all-front), omega arith))
 
 judge-at-requires : tie.Need-judge-at-requires Inv-loop μ-loop
-judge-at-requires c κs = (c .before .before .before .before .before .before .before .before .pre .0, (c .before .before .before .before .before .before .before .before .pre .1 .0, c .before .before .loop .inv .0))
+judge-at-requires c κs =
+    let start = c .before .before .before .before .before .before .before .before in
+    (start .pre .0, ((start .pre .1 .0, omega (arith, c .before .loop-test .taken, start .pre .1 .1 .few)), c .before .before .loop .inv .0))
 
 -- the tables of origins and of starts keep their length
 module _ (c : tie.At-loop Inv-loop μ-loop) where
@@ -41,10 +44,6 @@ module _ (c : tie.At-loop Inv-loop μ-loop) where
 
   starts-same : length (c .loop .starts) ≡ length (c .before .before .before .before .before .before .args .starts .now)
   starts-same = c .loop .inv .1 .0 .long ∙ sym (ap length (c .before .before .before .before .before .before .pre .1 .1 .all-front) ∙ length-replicate startPlaces front)
-
-  -- an entry has room for where the next frame starts
-  low : (c .loop .i ≤ 1792) × (c .loop .at < startUnit)
-  low = at-low-enough (c .loop .inv .0) (limits-from (setupOf (c .before .before .before .before .before .before .args .s)) (c .before .before .before .before .before .before .pre .0 .0)) (omega (arith, c .loop .inv .1 .1, c .before .before .before .before .before .before .pre .1 .1 .few))
 
 clear-marks-requires : tie.Need-clear-marks-requires Inv-loop μ-loop
 clear-marks-requires c κs = table-long (c .before .before .before .before .before .loop .inv .0)
@@ -85,21 +84,24 @@ module _ (c : tie.Else1 Inv-loop μ-loop) where
   abbrev setup : Setup
   setup = setupOf (start .args .s)
 
-  abbrev walk : Walking setup (start .args .v) (start .args .least) buffer (c .before .before .before .before .loop .seen) (c .before .before .before .before .loop .i) (c .before .before .before .before .loop .prev) (c .before .before .before .before .loop .last) (c .before .before .before .before .loop .at)
+  abbrev walk : Walking setup (start .args .v) (start .args .least) buffer (c .before .before .before .before .loop .seen) (c .before .before .before .before .loop .i) (c .before .before .before .before .loop .last) (c .before .before .before .before .loop .at)
   walk = c .before .before .before .before .loop .inv .0
 
   abbrev judged : Judged
   judged = c .before .judge-at .result
 
-  right : Right setup (start .args .v) (start .args .least) buffer (c .before .before .before .before .loop .i) (judged .end) (judged .rank)
+  right : Right setup (start .args .v) (start .args .least) buffer (c .before .before .before .before .loop .i) (judged .end) (judged .key)
   right = judged-good setup (start .args .v) (start .args .least) buffer (c .before .before .before .before .loop .i) judged (c .before .judge-at .ensures) (c .if1 .left)
 
-set-mark-requires : tie.Need-set-mark-requires Inv-loop μ-loop
-set-mark-requires c κs =
+put-mark-requires : tie.Need-put-mark-requires Inv-loop μ-loop
+put-mark-requires c κs =
     let at = c .before .before in
     let limits = limits-from (setup at) (start at .pre .0 .0) in (
-      (start at .pre .0 .0, judged-within (walk at) (right at) limits (start at .pre .0 .1 .0) (start at .pre .1 .0)),
-      (table-long (walk at), judged-new (walk at) (right at) limits (start at .pre .0 .1 .0) (start at .pre .1 .0)),
+      table-long (walk at),
+      (
+        judged-slot (walk at) (right at) limits (start at .pre .0 .1 .0) (start at .pre .1 .0),
+        judged-new (walk at) (right at) limits (start at .pre .0 .1 .0) (start at .pre .1 .0),
+      ),
     )
 
 places-to-requires : tie.Need-places-to-requires Inv-loop μ-loop
@@ -107,66 +109,73 @@ places-to-requires c κs =
     let at = c .before .before .before .before .before in
     (start at .pre .0 .0, judged-small (walk at) (right at) (limits-from (setup at) (start at .pre .0 .0)))
 
--- its sum has a place
-placed : (c : tie.After-places-to Inv-loop μ-loop) → c .places-to .result ≤ startPlaces
-placed c =
-    let at = c .before .before .before .before .before .before in
-    omega (arith, c .places-to .ensures, judged-place (walk at) (right at) (limits-from (setup at) (start at .pre .0 .0)))
+-- its sum has a place, and its entry room for where it ends
+module _ (c : tie.After-places-to Inv-loop μ-loop) where
+  abbrev judging : tie.Else1 Inv-loop μ-loop
+  judging = c .before .before .before .before .before .before
 
-mul-fill : tie.Need-mul-fill Inv-loop μ-loop
-mul-fill c = omega (arith, low (c .before .before .before .before .before .before .before .before .before .before .before))
+  limits : Limits (setup judging)
+  limits = limits-from (setup judging) (start judging .pre .0 .0)
 
-add-fill : tie.Need-add-fill Inv-loop μ-loop
-add-fill c = omega (arith, low (c .before .before .before .before .before .before .before .before .before .before .before))
+  few : c .before .before .before .before .before .before .before .before .before .before .loop .i < depth (setup judging .n) (setup judging .epsilon) (setup judging .delta)
+  few = omega (arith, c .before .before .before .before .before .before .before .before .before .loop-test .taken, start judging .pre .1 .1 .few)
 
-cast-fill : tie.Need-cast-fill Inv-loop μ-loop
-cast-fill c = omega (arith, low (c .before .before .before .before .before .before .before .before .before .before .before))
+  placed : c .places-to .result < startPlaces
+  placed = omega (arith, c .places-to .ensures, judged-place (walk judging) (right judging) limits, used-most (setup judging) limits)
 
-fill-requires-2 : tie.Need-fill-requires-2 Inv-loop μ-loop
-fill-requires-2 c κs = (c .before .before .before .before .before .before .before .before .before .before .before .loop .inv .1 .0 .long, omega (arith, placed (c .before)))
+  low : (c .before .before .before .before .before .before .before .before .before .before .loop .i + 1 ≤ 1792) × (judged judging .end < startUnit)
+  low = next-low (walk judging) (right judging) limits (start judging .pre .0 .1 .0) (start judging .pre .1 .0) few
 
 add-i : tie.Need-add-i Inv-loop μ-loop
-add-i c = omega (arith, low (c .before .before .before .before .before .before .before .before .before .before .before .before .before .before))
+add-i c = omega (arith, low c)
+
+mul-starts : tie.Need-mul-starts Inv-loop μ-loop
+mul-starts c = omega (arith, low c)
+
+add-starts : tie.Need-add-starts Inv-loop μ-loop
+add-starts c = omega (arith, low c)
+
+cast-starts : tie.Need-cast-starts Inv-loop μ-loop
+cast-starts c = omega (arith, low c)
+
+mul-starts-2 : tie.Need-mul-starts-2 Inv-loop μ-loop
+mul-starts-2 c = omega (arith, placed c)
+
+slice-write-starts : tie.Need-slice-write-starts Inv-loop μ-loop
+slice-write-starts c = omega (arith, placed c, c .before .before .before .before .before .before .before .before .before .before .loop .inv .1 .0 .long)
 
 loop-less : tie.Need-loop-less Inv-loop μ-loop
-loop-less c = omega (arith, c .before .before .before .before .before .before .before .before .before .before .before .before .before .loop-test .taken)
+loop-less c = omega (arith, c .before .before .before .before .before .before .before .before .before .loop-test .taken)
 
 loop-again : tie.Need-loop-again Inv-loop μ-loop
 loop-again c =
-    let at = c .before .before .before .before .before .before .before .before .before .before in
-    let loop = c .before .before .before .before .before .before .before .before .before .before .before .before .before .before .loop in
-    let more = c .before .before .before .before .before .before .before .before .before .before .before .before .before .loop-test .taken in (
-      walk-turns (walk at) (right at) (limits-from (setup at) (start at .pre .0 .0)) (start at .pre .0 .1 .0) (start at .pre .1 .0) _ (c .before .before .before .before .before .before .before .set-mark .ensures),
-      (
-        filling-turns (walk at) (right at) (loop .inv .1 .0) (omega (arith, more, start at .pre .1 .1 .count-is)) (c .before .before .before .before .places-to .ensures) (c .before .before .fill2 .ensures),
-        omega (arith, more),
-      ),
+    let at = judging c in (
+      walk-turns (walk at) (right at) (limits c) (start at .pre .0 .1 .0) (start at .pre .1 .0) _ (c .before .before .before .put-mark .ensures),
+      (ending-turns (walk at) (right at) (limits c) (few c) (c .before .before .before .before .before .before .before .before .before .before .loop .inv .1 .0) (c .places-to .ensures) refl, omega (arith, c .before .before .before .before .before .before .before .before .before .loop-test .taken)),
     )
 
-mul-fill-2 : tie.Need-mul-fill-2 Inv-loop μ-loop
-mul-fill-2 c = omega (arith, low (c .before .before), c .before .loop-test .left, c .before .before .loop .inv .1 .1)
+used-places-requires : tie.Need-used-places-requires Inv-loop μ-loop
+used-places-requires c κs = c .before .before .before .before .before .before .before .before .pre .0 .0
 
-add-fill-2 : tie.Need-add-fill-2 Inv-loop μ-loop
-add-fill-2 c = omega (arith, low (c .before .before), c .before .loop-test .left, c .before .before .loop .inv .1 .1)
-
-cast-fill-2 : tie.Need-cast-fill-2 Inv-loop μ-loop
-cast-fill-2 c = omega (arith, low (c .before .before), c .before .loop-test .left, c .before .before .loop .inv .1 .1)
-
-fill-requires-3 : tie.Need-fill-requires-3 Inv-loop μ-loop
-fill-requires-3 c κs = (c .before .before .loop .inv .1 .0 .long, omega arith)
+spread-requires : tie.Need-spread-requires Inv-loop μ-loop
+spread-requires c κs =
+    let s = setupOf (c .before .before .before .before .before .before .before .before .before .args .s) in
+    (c .before .before .before .loop .inv .1 .0 .long, omega (arith, c .used-places .ensures, used-most s (limits-from s (c .before .before .before .before .before .before .before .before .before .pre .0 .0))))
 
 same-length-3 : tie.Need-same-length-3 Inv-loop μ-loop
-same-length-3 c = seen-same (c .before .before .before .before .before)
+same-length-3 c = seen-same (c .before .before .before .before .before .before)
 
 same-length-4 : tie.Need-same-length-4 Inv-loop μ-loop
-same-length-4 c = omega (arith, starts-same (c .before .before .before .before .before), c .before .before .fill3 .kept .0)
+same-length-4 c = omega (arith, starts-same (c .before .before .before .before .before .before), c .before .before .spread .kept .0)
 
 returns-2 : tie.Need-returns-2 Inv-loop μ-loop
 returns-2 c =
-    let loop = c .before .before .before .before .before .loop in
-    let start = c .before .before .before .before .before .before .before .before .before .before .before in
-    let left = c .before .before .before .before .loop-test .left in
-    walked-yes (start .pre .1 .1) (loop .inv .0) (filling-ends (loop .inv .0) (loop .inv .1 .0) (start .pre .1 .1 .count-is) (loop .inv .1 .1) left (c .before .before .fill3 .ensures)) (loop .inv .1 .1) left
+    let loop = c .before .before .before .before .before .before .loop in
+    let start = c .before .before .before .before .before .before .before .before .before .before .before .before in
+    let left = c .before .before .before .before .before .loop-test .left in
+    walked-yes (start .pre .1 .1) (loop .inv .0)
+    (ending-ends (loop .inv .1 .0) (start .pre .1 .1 .count-is) (loop .inv .1 .1) left (c .before .before .before .used-places .ensures) (c .before .before .spread .ensures))
+    (loop .inv .1 .1) left
 
 pub walk-frames-spec : {M : Type 1} → statement M
 walk-frames-spec =
@@ -174,7 +183,7 @@ walk-frames-spec =
     (tie.spec
     Inv-loop
     μ-loop
-    no-rank-requires
+    no-key-requires
     loop-holds
     judge-at-requires
     clear-marks-requires
@@ -183,19 +192,18 @@ walk-frames-spec =
     same-length
     same-length-2
     returns
-    set-mark-requires
+    put-mark-requires
     places-to-requires
-    mul-fill
-    add-fill
-    cast-fill
-    fill-requires-2
     add-i
+    mul-starts
+    add-starts
+    cast-starts
+    mul-starts-2
+    slice-write-starts
     loop-less
     loop-again
-    mul-fill-2
-    add-fill-2
-    cast-fill-2
-    fill-requires-3
+    used-places-requires
+    spread-requires
     same-length-3
     same-length-4
     returns-2)

@@ -1,5 +1,5 @@
 -- `holdback::starts::lower_starts` meets its contract. The invariant of the loop: the entries so far are lowered, and the others as they were. Assumes nothing.
-use Prim.Native.Nat.{ℕ, _-_, _≤_}
+use Prim.Native.Nat.{ℕ, _-_, _≤_, _<_}
 use native.Mathlib.Omega.{arith}
 use mathlib.Core.Path.{_≡_, sym, ap, _∙_}
 use lib.ListN.{length, getD}
@@ -9,13 +9,13 @@ use Rattle.holdback.proofs.starts.lower_starts.Statement.{statement}
 use Rattle.holdback.proofs.starts.lower_starts.Tie as tie
 
 abbrev Inv-loop : tie.InvT-loop
-Inv-loop starts₀ step k₀ starts k = (starts ≡ changed (λ m. m - step) 0 k starts₀) × (k ≤ startPlaces)
+Inv-loop starts₀ to step k₀ starts k = (starts ≡ changed (λ m. m - step) 0 k starts₀) × (k ≤ to)
 
 abbrev μ-loop : tie.MeasureT-loop
-μ-loop starts₀ step k₀ starts k = startPlaces - k
+μ-loop starts₀ to step k₀ starts k = to - k
 
 loop-holds : tie.Need-loop-holds Inv-loop μ-loop
-loop-holds c = (changed-starts (λ m. m - c .args .step) 0 (c .args .starts .now) (c .pre .0), omega arith)
+loop-holds c = (changed-starts (λ m. m - c .args .step) 0 (c .args .starts .now) (c .pre .0 .0), omega arith)
 
 -- a place is there, and as it was
 module _ (c : tie.At-loop Inv-loop μ-loop) where
@@ -25,20 +25,23 @@ module _ (c : tie.At-loop Inv-loop μ-loop) where
   long : length (c .loop .starts) ≡ startPlaces
   long = changed-long move 0 (c .before .args .starts .now) (c .loop .k) (c .loop .inv .0)
 
+inside : (c : tie.In-loop Inv-loop μ-loop) → c .before .loop .k < startPlaces
+inside c = omega (arith, c .loop-test .taken, c .before .before .pre .0 .1)
+
 next : (c : tie.In-loop Inv-loop μ-loop) → getD (c .before .loop .starts) (c .before .loop .k) 0 ≡ getD (c .before .before .args .starts .now) (c .before .loop .k) 0
-next c = changed-next (move (c .before)) 0 (c .before .before .args .starts .now) (c .before .loop .k) (c .loop-test .taken) (c .before .loop .inv .0)
+next c = changed-next (move (c .before)) 0 (c .before .before .args .starts .now) (c .before .loop .k) (inside c) (c .before .loop .inv .0)
 
 mul-starts : tie.Need-mul-starts Inv-loop μ-loop
 mul-starts c = omega arith
 
 slice-read-starts : tie.Need-slice-read-starts Inv-loop μ-loop
-slice-read-starts c = omega (arith, long (c .before .before))
+slice-read-starts c = omega (arith, long (c .before .before), inside (c .before))
 
 sub-starts : tie.Need-sub-starts Inv-loop μ-loop
 sub-starts c = omega (arith, next (c .before), c .before .before .before .pre .1 (c .before .before .loop .k) (c .before .loop-test .taken))
 
 slice-write-starts : tie.Need-slice-write-starts Inv-loop μ-loop
-slice-write-starts c = omega (arith, long (c .before .before))
+slice-write-starts c = omega (arith, long (c .before .before), inside (c .before))
 
 add-k : tie.Need-add-k Inv-loop μ-loop
 add-k c = omega arith
@@ -53,10 +56,10 @@ loop-again c =
     (changed-turns (move (c .before .before)) 0 (start .args .starts .now) (loop .k) _ (omega arith) (loop .inv .0) (ap (move (c .before .before)) (next (c .before))), omega arith)
 
 same-length : tie.Need-same-length Inv-loop μ-loop
-same-length c = long (c .before) ∙ sym (c .before .before .pre .0)
+same-length c = long (c .before) ∙ sym (c .before .before .pre .0 .0)
 
 returns : tie.Need-returns Inv-loop μ-loop
-returns c = changed-ends (move (c .before)) 0 (c .before .before .args .starts .now) (c .before .loop .k) startPlaces (c .loop-test .left) (omega (arith, c .before .loop .inv .1)) (c .before .loop .inv .0)
+returns c = changed-ends (move (c .before)) 0 (c .before .before .args .starts .now) (c .before .loop .k) (c .before .before .args .to) (c .loop-test .left) (omega (arith, c .before .loop .inv .1)) (c .before .loop .inv .0)
 
 pub lower-starts-spec : {M : Type 1} → statement M
 lower-starts-spec =

@@ -1,5 +1,5 @@
 -- `holdback::starts::shift_starts` meets its contract. The invariant of the loop: the entries so far are moved, and the others as they were. Assumes nothing.
-use Prim.Native.Nat.{ℕ, _+_, _-_, _≤_}
+use Prim.Native.Nat.{ℕ, _+_, _-_, _≤_, _<_}
 use native.Mathlib.Omega.{arith}
 use mathlib.Core.Path.{_≡_, sym, ap, _∙_}
 use lib.ListN.{length, getD}
@@ -9,13 +9,13 @@ use Rattle.holdback.proofs.starts.shift_starts.Statement.{statement}
 use Rattle.holdback.proofs.starts.shift_starts.Tie as tie
 
 abbrev Inv-loop : tie.InvT-loop
-Inv-loop starts₀ from step k₀ starts k = (starts ≡ changed (λ m. m + step) from k starts₀) × ((from ≤ k) × (k ≤ from + (startPlaces - from)))
+Inv-loop starts₀ from to step k₀ starts k = (starts ≡ changed (λ m. m + step) from k starts₀) × ((from ≤ k) × (k ≤ from + (to - from)))
 
 abbrev μ-loop : tie.MeasureT-loop
-μ-loop starts₀ from step k₀ starts k = startPlaces - k
+μ-loop starts₀ from to step k₀ starts k = to - k
 
 loop-holds : tie.Need-loop-holds Inv-loop μ-loop
-loop-holds c = (changed-starts (λ m. m + c .args .step) (c .args .from) (c .args .starts .now) (c .pre .long), (omega arith, omega arith))
+loop-holds c = (changed-starts (λ m. m + c .args .step) (c .args .from) (c .args .starts .now) (c .pre .0 .long), (omega arith, omega arith))
 
 -- a place is there, and as it was
 module _ (c : tie.At-loop Inv-loop μ-loop) where
@@ -25,20 +25,23 @@ module _ (c : tie.At-loop Inv-loop μ-loop) where
   long : length (c .loop .starts) ≡ startPlaces
   long = changed-long move (c .before .args .from) (c .before .args .starts .now) (c .loop .k) (c .loop .inv .0)
 
+inside : (c : tie.In-loop Inv-loop μ-loop) → c .before .loop .k < startPlaces
+inside c = omega (arith, c .loop-test .taken, c .before .before .pre .1)
+
 next : (c : tie.In-loop Inv-loop μ-loop) → getD (c .before .loop .starts) (c .before .loop .k) 0 ≡ getD (c .before .before .args .starts .now) (c .before .loop .k) 0
-next c = changed-next (move (c .before)) (c .before .before .args .from) (c .before .before .args .starts .now) (c .before .loop .k) (c .loop-test .taken) (c .before .loop .inv .0)
+next c = changed-next (move (c .before)) (c .before .before .args .from) (c .before .before .args .starts .now) (c .before .loop .k) (inside c) (c .before .loop .inv .0)
 
 mul-starts : tie.Need-mul-starts Inv-loop μ-loop
 mul-starts c = omega arith
 
 slice-read-starts : tie.Need-slice-read-starts Inv-loop μ-loop
-slice-read-starts c = omega (arith, long (c .before .before))
+slice-read-starts c = omega (arith, long (c .before .before), inside (c .before))
 
 add-starts : tie.Need-add-starts Inv-loop μ-loop
-add-starts c = omega (arith, next (c .before), c .before .before .before .pre .each (c .before .before .loop .k) (c .before .loop-test .taken), c .before .before .before .pre .small)
+add-starts c = omega (arith, next (c .before), c .before .before .before .pre .0 .each (c .before .before .loop .k) (inside (c .before)), c .before .before .before .pre .0 .small)
 
 slice-write-starts : tie.Need-slice-write-starts Inv-loop μ-loop
-slice-write-starts c = omega (arith, long (c .before .before))
+slice-write-starts c = omega (arith, long (c .before .before), inside (c .before))
 
 add-k : tie.Need-add-k Inv-loop μ-loop
 add-k c = omega arith
@@ -53,10 +56,10 @@ loop-again c =
     (changed-turns (move (c .before .before)) (start .args .from) (start .args .starts .now) (loop .k) _ (loop .inv .1 .0) (loop .inv .0) (ap (move (c .before .before)) (next (c .before))), (omega arith, omega arith))
 
 same-length : tie.Need-same-length Inv-loop μ-loop
-same-length c = long (c .before) ∙ sym (c .before .before .pre .long)
+same-length c = long (c .before) ∙ sym (c .before .before .pre .0 .long)
 
 returns : tie.Need-returns Inv-loop μ-loop
-returns c = changed-ends (move (c .before)) (c .before .before .args .from) (c .before .before .args .starts .now) (c .before .loop .k) startPlaces (c .loop-test .left) (c .before .loop .inv .1 .1) (c .before .loop .inv .0)
+returns c = changed-ends (move (c .before)) (c .before .before .args .from) (c .before .before .args .starts .now) (c .before .loop .k) (c .before .before .args .to) (c .loop-test .left) (c .before .loop .inv .1 .1) (c .before .loop .inv .0)
 
 pub shift-starts-spec : {M : Type 1} → statement M
 shift-starts-spec =

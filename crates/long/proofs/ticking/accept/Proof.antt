@@ -9,7 +9,7 @@ use Rattle.lemmas.proofs.LongTick.{LongPassed, long-passed, longHeardStamp}
 use Rattle.timestamp.specs.Views.{stampOf}
 use Rattle.node.specs.Views.{callInput}
 use Rattle.node.proofs.Finish.{repair-small}
-use Rattle.long.proofs.Finish.{call-timed, call-attending, call-stamp, own-room, own-counted, send-room, accepted-output}
+use Rattle.long.proofs.Finish.{call-timed, call-attending, call-stamp, own-room, heard-narrow, own-counted, send-room, accepted-output}
 use Rattle.long.proofs.ticking.accept.Statement.{statement}
 use Rattle.long.proofs.ticking.accept.Tie as tie
 
@@ -40,7 +40,8 @@ count-own-requires : tie.Need-count-own-requires
 count-own-requires c κs =
     let start = c .before .before .before .before .before .before .before .before .before .before .before .before .before .before .before .before .before .before .before .before in
     let limits = passed start .limits in
-    (limits .epsilon-pos, (limits .epsilon-most, own-room (input start) (passed start) (absorbed (c .before .before .before .before .before .before .before .before))))
+    let heard = absorbed (c .before .before .before .before .before .before .before .before) in
+    ((limits .epsilon-pos, (limits .epsilon-most, own-room (input start) (passed start) heard)), heard-narrow (input start) (passed start) heard)
 
 stamped : (c : tie.After-count-own) → stampOf (c .count-own .result) ≡ widened (longNewStamp (input (c .before .before .before .before .before .before .before .before .before .before .before .before .before .before .before .before .before .before .before .before .before)))
 stamped c = let start = c .before .before .before .before .before .before .before .before .before .before .before .before .before .before .before .before .before .before .before .before .before in own-counted (input start) (passed start) (absorbed (c .before .before .before .before .before .before .before .before .before)) (c .count-own .ensures)

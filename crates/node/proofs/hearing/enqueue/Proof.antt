@@ -1,14 +1,14 @@
 -- `node::hearing::enqueue` meets its contract. Assumes nothing.
-use Prim.Native.Nat.{_<_}
+use Prim.Native.Nat.{_+_, _≤_, _<_}
 use native.Mathlib.Omega.{arith}
 use mathlib.Core.Path.{_∙_, ap}
 use lib.ListN.{length}
 use borrow.Author.Needs.{needs}
 use Rattle.model.specs.Holdback.{held}
-use Rattle.holdback.specs.Starts.{startPlaces}
+use Rattle.holdback.specs.Starts.{startPlaces, usedPlaces}
 use Rattle.holdback.proofs.RoundTrip.{Bytes}
 use Rattle.holdback.proofs.Seen.{length-seen}
-use Rattle.holdback.proofs.Started.{place-inside, place-at}
+use Rattle.holdback.proofs.Started.{used-most, place-inside, place-at}
 use Rattle.setup.specs.Views.{setupOf}
 use Rattle.node.proofs.Places.{Known, known, fits, short, movable, unmarked, spans, more-held, more-extent, more-queued}
 use Rattle.node.proofs.hearing.enqueue.Statement.{statement}
@@ -34,7 +34,7 @@ sum-place-requires : tie.Need-sum-place-requires
 sum-place-requires c κs = let start = begin c in ((start .pre .0 .timed .limits, start .pre .0 .timed .below), (here start .fit, start .pre .1 .1 .1))
 
 -- the sum has a place
-placed : (c : tie.After-sum-place) → c .sum-place .result < startPlaces
+placed : (c : tie.After-sum-place) → c .sum-place .result + 1 < usedPlaces (setupOf (begin (c .before) .args .setup))
 placed c =
     let start = begin (c .before) in
     omega (
@@ -44,21 +44,28 @@ placed c =
       place-inside (setupOf (start .args .setup)) (start .args .clock) (start .args .setup .modulus) (here start .limits) (start .args .s .now) (here start .fit),
     )
 
+-- a place of the table
+used : (c : tie.Start) → usedPlaces (setupOf (c .args .setup)) ≤ startPlaces
+used c = used-most (setupOf (c .args .setup)) (here c .limits)
+
+used-places-requires : tie.Need-used-places-requires
+used-places-requires c κs = c .before .before .before .before .before .before .before .before .before .before .before .pre .0 .timed .limits
+
 add-shift-starts : tie.Need-add-shift-starts
-add-shift-starts c = omega (arith, placed (c .before))
+add-shift-starts c = omega (arith, placed (c .before .before), used (c .before .before .before .before .before .before .before .before .before .before .before .before .before))
 
 add-shift-starts-2 : tie.Need-add-shift-starts-2
-add-shift-starts-2 c = omega (arith, short (begin (c .before .before) .pre .0))
+add-shift-starts-2 c = omega (arith, short (c .before .before .before .before .before .before .before .before .before .before .before .before .before .pre .0))
 
 cast-shift-starts : tie.Need-cast-shift-starts
-cast-shift-starts c = omega (arith, short (begin (c .before .before) .pre .0))
+cast-shift-starts c = omega (arith, short (c .before .before .before .before .before .before .before .before .before .before .before .before .before .pre .0))
 
 shift-starts-requires : tie.Need-shift-starts-requires
-shift-starts-requires c κs = let start = begin (c .before .before) in movable (start .pre .0) (start .pre .1 .0 .starts-is)
+shift-starts-requires c κs = let start = c .before .before .before .before .before .before .before .before .before .before .before .before .before in (movable (start .pre .0) (start .pre .1 .0 .starts-is), omega (arith, c .before .used-places .ensures, used start))
 
 mark-requires : tie.Need-mark-requires
 mark-requires c κs =
-    let start = c .before .before .before .before .before .before .before .before .before .before .before .before .before .before .before .before in (
+    let start = c .before .before .before .before .before .before .before .before .before .before .before .before .before .before .before .before .before in (
       (start .pre .0 .timed .limits, start .pre .0 .timed .below),
       (
         here start .placeable,
@@ -80,12 +87,12 @@ same-length-3 c = search needs
 
 returns : tie.Need-returns
 returns c =
-    let start = c .before .before .before .before .before .before .before .before .before .before .before .before .before .before .before .before .before .before .before in
-    let put = c .before .before .before .before .before .before .before .before .before .before .before .put .ensures in
-    let clean : Bytes (start .args .holdback .now) = λ i. omega (arith, c .before .before .before .before .before .before .before .before .before .before .before .before .before .before .before .before .before .slice-known .given i) in
-    let bytes-clean : Bytes (start .args .s .now) = λ i. omega (arith, c .before .before .before .before .before .before .before .before .before .before .before .before .before .before .before .before .before .before .shared-slice-known .given i) in
+    let start = c .before .before .before .before .before .before .before .before .before .before .before .before .before .before .before .before .before .before .before .before in
+    let put = c .before .before .before .before .before .before .before .before .before .before .before .before .put .ensures in
+    let clean : Bytes (start .args .holdback .now) = λ i. omega (arith, c .before .before .before .before .before .before .before .before .before .before .before .before .before .before .before .before .before .before .slice-known .given i) in
+    let bytes-clean : Bytes (start .args .s .now) = λ i. omega (arith, c .before .before .before .before .before .before .before .before .before .before .before .before .before .before .before .before .before .before .before .shared-slice-known .given i) in
     record {
-      queued = more-queued (start .pre .0) put clean bytes-clean (start .pre .1 .0) (c .before .before .mark .ensures) (c .before .before .before .before .before .before .before .before .sum-place .ensures) (c .before .before .before .before .before .before .shift-starts .ensures);
+      queued = more-queued (start .pre .0) put clean bytes-clean (start .pre .1 .0) (c .before .before .mark .ensures) (c .before .before .before .before .before .before .before .before .before .sum-place .ensures) (c .before .before .before .before .before .before .before .before .used-places .ensures) (c .before .before .before .before .before .before .shift-starts .ensures);
       extent = more-extent (start .pre .0) put clean bytes-clean (start .pre .1 .1 .0);
       buffer-is = put;
       queue = more-held (start .pre .0) put;
@@ -98,6 +105,7 @@ enqueue-spec =
     cast-put
     put-requires
     sum-place-requires
+    used-places-requires
     add-shift-starts
     add-shift-starts-2
     cast-shift-starts

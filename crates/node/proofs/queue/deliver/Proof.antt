@@ -16,29 +16,32 @@ use Rattle.node.proofs.queue.deliver.Statement.{statement}
 use Rattle.node.proofs.queue.deliver.Tie as tie
 
 two : (c : tie.Start) → 2 ≤ length (c .args .holdback .now)
-two c = size-two (setupOf (c .args .setup)) (length (c .args .holdback .now)) (c .pre .size)
+two c = size-two (setupOf (c .args .setup)) (length (c .args .holdback .now)) (c .pre .0 .size)
 
 cut-due-requires : tie.Need-cut-due-requires
 cut-due-requires c κs =
-    let start = c .before .before .before .before in
-    let extent = start .pre .extent in (
-      (start .pre .timed .limits, start .pre .timed .below),
+    let start = c .before .before .before .before .before in
+    let extent = start .pre .0 .extent in (
+      (start .pre .0 .timed .limits, start .pre .0 .timed .below),
       (
-        (start .pre .sound, (two start, extent .count-is)),
+        (start .pre .0 .sound, (two start, extent .count-is)),
         (
-          (extent .ends ∙ ap (frameStart (start .args .setup .epsilon) (start .args .holdback .now)) (sym (extent .count-is)), start .pre .room),
-          (start .pre .before, start .pre .few),
+          start .pre .1,
+          (
+            (extent .ends ∙ ap (frameStart (start .args .setup .epsilon) (start .args .holdback .now)) (sym (extent .count-is)), start .pre .0 .room),
+            (start .pre .0 .before, start .pre .0 .few),
+          ),
         ),
       ),
     )
 
 add-result : tie.Need-add-result
 add-result c =
-    let start = c .before .before .before .before .before .before .before .before .before .before in
+    let start = c .before .before .before .before .before .before .before .before .before .before .before in
     let s = setupOf (start .args .setup) in
     omega (
       arith,
-      both-small s (start .args .clock) (start .args .holdback .now) (dueNow s (start .args .clock)) (start .args .early .index) (c .before .before .before .before .before .cut-due .result) (limits-from s (start .pre .timed .limits)) (start .pre .sound) (start .pre .few) (c .before .before .before .before .before .cut-due .ensures .0),
+      both-small s (start .args .clock) (start .args .holdback .now) (dueNow s (start .args .clock)) (start .args .early .index) (c .before .before .before .before .before .cut-due .result) (limits-from s (start .pre .0 .timed .limits)) (start .pre .0 .sound) (start .pre .0 .few) (c .before .before .before .before .before .cut-due .ensures .0),
     )
 
 same-length : tie.Need-same-length
@@ -49,13 +52,13 @@ same-length-2 c = search needs
 
 returns : tie.Need-returns
 returns c =
-    let start = c .before .before .before .before .before .before .before .before .before .before in
+    let start = c .before .before .before .before .before .before .before .before .before .before .before in
     let done = c .before .before .before .before .before .cut-due .ensures in
     record {
       count-is = ap (λ (n : ℕ). start .args .early .index + n) (done .0);
       kept =
           done .1 .0
-          ∙ ap (λ (n : ℕ). encodeHoldback n (select (λ f. not (dueNow (setupOf (start .args .setup)) (start .args .clock) f)) (held (start .args .setup .epsilon) (start .args .holdback .now)))) (start .pre .size);
+          ∙ ap (λ (n : ℕ). encodeHoldback n (select (λ f. not (dueNow (setupOf (start .args .setup)) (start .args .clock) f)) (held (start .args .setup .epsilon) (start .args .holdback .now)))) (start .pre .0 .size);
       given = done .1 .1;
     }
 

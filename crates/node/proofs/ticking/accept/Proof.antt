@@ -7,7 +7,7 @@ use Rattle.model.specs.Holdback.{soundHoldback}
 use Rattle.model.specs.Tick.{Input, tablesSound, heardStamp, newStamp}
 use Rattle.timestamp.specs.Views.{stampOf}
 use Rattle.node.specs.Views.{callInput}
-use Rattle.node.proofs.Finish.{Call, call-passed, call-timed, call-attending, call-queue, call-stamp, call-repair, repair-small, own-room, own-count-is, send-room, accepted-output}
+use Rattle.node.proofs.Finish.{Call, call-passed, call-timed, call-attending, call-queue, call-stamp, call-repair, repair-small, own-room, heard-narrow, own-count-is, send-room, accepted-output}
 use Rattle.node.proofs.ticking.accept.Statement.{statement}
 use Rattle.node.proofs.ticking.accept.Tie as tie
 
@@ -38,7 +38,8 @@ count-own-requires : tie.Need-count-own-requires
 count-own-requires c κs =
     let start = c .before .before .before .before .before .before .before .before .before .before .before .before .before .before .before .before .before .before .before .before in
     let limits = call start .accepted .limits in
-    (limits .epsilon-pos, (limits .epsilon-most, own-room (input start) (call start) (absorbed (c .before .before .before .before .before .before .before .before))))
+    let heard = absorbed (c .before .before .before .before .before .before .before .before) in
+    ((limits .epsilon-pos, (limits .epsilon-most, own-room (input start) (call start) heard)), heard-narrow (input start) (call start) heard)
 
 stamped : (c : tie.After-count-own) → stampOf (c .count-own .result) ≡ widened (newStamp (input (c .before .before .before .before .before .before .before .before .before .before .before .before .before .before .before .before .before .before .before .before .before)))
 stamped c = let start = c .before .before .before .before .before .before .before .before .before .before .before .before .before .before .before .before .before .before .before .before .before in own-count-is (input start) (call start) (absorbed (c .before .before .before .before .before .before .before .before .before)) (c .count-own .ensures)

@@ -9,7 +9,8 @@ use Rattle.model.specs.Holdback.{soundHoldback}
 use Rattle.model.specs.Poll.{pollBy}
 use Rattle.setup.specs.Views.{setupOf}
 use Rattle.holdback.proofs.Judging.{sound-lower}
-use Rattle.polling.proofs.Asking.{polled-unsound, polled-sound, polled-count, polled-starts}
+use Rattle.polling.proofs.Asking.{size-two, polled-unsound, polled-sound, polled-count, polled-starts}
+use Rattle.lemmas.proofs.Questions.{limits-from}
 use Rattle.polling.proofs.call.ask_queue.Statement.{statement}
 use Rattle.polling.proofs.call.ask_queue.Tie as tie
 
@@ -28,7 +29,7 @@ slice-aggregate-sound-2 c = search needs
 sound-requires : tie.Need-sound-requires
 sound-requires c κs =
     let start = c .before .before .before .before in
-    ((start .pre .0 .0, (start .pre .0 .1 .0, omega arith)), (start .pre .1, (search needs, search needs)))
+    ((start .pre .0 .0, (start .pre .0 .1 .0, record { late = omega (arith, limits-from (setupOf (start .args .setup)) (start .pre .0 .0) .epsilon-pos); close = omega arith })), (omega (arith, start .pre .1), (search needs, search needs)))
 
 nothing-requires : tie.Need-nothing-requires
 nothing-requires c κs = search needs
@@ -58,7 +59,7 @@ tell-requires c κs =
       (
         (
           sound-lower s (start .args .clock) (s .modulus + 1) (start .args .holdback .now) sound (s .modulus) (omega arith),
-          (start .pre .1, polled-count s (start .args .clock) (start .args .holdback .now) sound (walk .count-is)),
+          (size-two s (start .args .holdback .now) (start .pre .1), polled-count s (start .args .clock) (start .args .holdback .now) sound (walk .count-is)),
         ),
         polled-starts s (start .args .clock) (start .args .holdback .now) sound (walk .starts-is),
       ),

@@ -2,7 +2,7 @@
 use mathlib.Core.Path.{_≡_, _∙_, sym}
 use borrow.Author.Needs.{needs}
 use Rattle.setup.specs.Views.{setupOf}
-use Rattle.polling.proofs.Asking.{all-passed, size-two, poll-refused, poll-accepted}
+use Rattle.polling.proofs.Asking.{all-passed, poll-refused, poll-accepted}
 use Rattle.polling.proofs.call.poll.Statement.{statement}
 use Rattle.polling.proofs.call.poll.Tie as tie
 
@@ -22,7 +22,7 @@ ask-queue-requires : tie.Need-ask-queue-requires
 ask-queue-requires c κs =
     let a = c .before .before .before .args in
     let p = all-passed (setupOf (a .setup)) (a .own) (a .clock) (a .holdback .now) (sym (c .before .check-poll .ensures) ∙ c .if1 .left) in
-    ((p .limits, (p .below, search needs)), size-two (setupOf (a .setup)) (a .own) (a .clock) (a .holdback .now) (p .size))
+    ((p .limits, (p .below, search needs)), p .size)
 
 returns-2 : tie.Need-returns-2
 returns-2 c =
