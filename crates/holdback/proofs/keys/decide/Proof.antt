@@ -10,10 +10,10 @@ add-if1 : tie.Need-add-if1
 add-if1 c = search needs
 
 returns : tie.Need-returns
-returns c = let a = c .before .args in (decided-yes (a .a) (a .b + a .tie) (c .if1 .taken), omega arith)
+returns c = let a = c .before .args in (decided-yes (a .a) (a .b + a .tie) (omega (arith, c .if1 .taken)), omega arith)
 
 returns-2 : tie.Need-returns-2
-returns-2 c = let a = c .before .args in (decided-no (a .a) (a .b + a .tie) (c .if1 .left), omega arith)
+returns-2 c = let a = c .before .args in (decided-no (a .a) (a .b + a .tie) (omega (arith, c .if1 .left)), omega arith)
 
 pub decide-spec : {M : Type 1} → statement M
 decide-spec = tie.close (tie.spec add-if1 returns returns-2)
