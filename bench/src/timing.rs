@@ -22,23 +22,26 @@ impl<'w, C: Case> Part<'w, C> {
         Part { cases, work: cases.to_vec(), best: vec![f64::MAX; C::PROGRAMS.len()] }
     }
 
-    /// Times each program once.
-    fn round(&mut self) {
-        for (program, best) in C::PROGRAMS.iter().zip(&mut self.best) {
-            *best = best.min(time(*program, self.cases, &mut self.work));
+    /// Times each program once. The first one is another in each round: it fetches what is not put back, the batch above all, and the
+    /// others find it.
+    fn round(&mut self, number: usize) {
+        let programs = C::PROGRAMS.len();
+        for i in (number..number + programs).map(|i| i % programs) {
+            let taken = time(C::PROGRAMS[i], self.cases, &mut self.work);
+            self.best[i] = self.best[i].min(taken);
         }
     }
 }
 
 /// For each workload and program the time of a call: the mean of the calls' best rounds. The
-/// programs take turns, and so do the workloads.
+/// programs take turns, in who is first too, and so do the workloads.
 pub fn measure<C: Case, const W: usize>(workloads: [&Workload<C>; W]) -> [Each; W] {
     let small = workloads[0].cases[0].shelf().len() <= SMALL;
     let size = if small { workloads[0].cases.len() } else { 1 };
     let mut parts = workloads
         .map(|workload| -> Vec<_> { workload.cases.chunks(size).map(Part::new).collect() });
-    for _ in 0..ROUNDS[usize::from(!small)] {
-        parts.iter_mut().flatten().for_each(Part::round);
+    for number in 0..ROUNDS[usize::from(!small)] {
+        parts.iter_mut().flatten().for_each(|part| part.round(number));
     }
     let timer = (0..1_000).map(|_| time::<C>(|_| 0, &[], &mut [])).fold(f64::MAX, f64::min);
     parts.map(|parts| {

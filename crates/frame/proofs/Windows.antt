@@ -4,11 +4,11 @@ use mathlib.Core.Bool.{Bool, true, false, _&&_}
 use mathlib.Core.List.{List, [], _∷_}
 use Prim.Native.Nat.{ℕ, _+_, _*_, _-_, _≤_, _<_}
 use native.Mathlib.Omega.{arith}
-use lib.Dec.{leb, ltb}
+use lib.Dec.{eqb, ltb}
 use lib.ListN.{length, take, drop, getD, length-drop}
 use lib.Seq.{getD-take, length-take-le, take-take}
-use borrow.Author.Tests.{eq-eqb, ne-eqb, lt-leb}
-use Rattle.laws.proofs.Numbers.{lt-or-ge}
+use borrow.Author.Tests.{eq-eqb, ne-eqb, lt-leb, le-leb}
+use Rattle.laws.proofs.Numbers.{lt-or-ge, and-true, and-false}
 use mathlib.Core.Logic.{inl, inr}
 use Rattle.laws.proofs.Lists.{drop-take, length-tab}
 use Rattle.model.specs.Setup.{Setup, width}
@@ -19,10 +19,6 @@ use Rattle.lemmas.proofs.Questions.{yes-cons, no-cons}
 use Rattle.timestamp.specs.Views.{ofCounts}
 use Rattle.timestamp.specs.Window.{limitAt, limitsOf}
 use Rattle.frame.proofs.Asking.{form-right, stamp-no, stamp-sound}
-
-and-true : (b : Bool) → (b && true) ≡ b
-and-true true = refl
-and-true false = refl
 
 module _ (epsilon : ℕ) (w : List ℕ) where
   abbrev pub frameIn : List ℕ
@@ -43,37 +39,41 @@ module _ (epsilon : ℕ) (w : List ℕ) where
       length-take-le (frameEnd epsilon w) w ends
       ∙ ap (λ (k : ℕ). 6 + 2 * epsilon + 1 + k) (sym (same-place (6 + 2 * epsilon) (omega arith)))
 
-  -- the three counts
-  pub first-no : (getD w 0 0 ≡ 3 → ⊥) → false ≡ wellFormed epsilon frameIn
-  unfolding wellFormed
-  first-no h = rw (same-place 0 (omega arith), ne-eqb (getD w 0 0) 3 h)
-
-  pub second-no : getD w 0 0 ≡ 3 → (getD w 4 0 ≡ 1 + 2 * epsilon → ⊥) → false ≡ wellFormed epsilon frameIn
-  unfolding wellFormed width
-  second-no h k =
+  -- the three counts, the last one first
+  pub long-no : 32 < getD w (6 + 2 * epsilon) 0 → false ≡ wellFormed epsilon frameIn
+  unfolding wellFormed payloadCountAt width
+  long-no h =
       rw (
         same-place 0 (omega arith),
-        eq-eqb (getD w 0 0) 3 h,
         same-place 4 (omega arith),
-        ne-eqb (getD w 4 0) (1 + 2 * epsilon) k,
+        same-place (6 + 2 * epsilon) (omega arith),
+        lt-leb (getD w (6 + 2 * epsilon) 0) 32 h,
+        and-false (eqb (getD w 4 0) (1 + 2 * epsilon)),
+        and-false (eqb (getD w 0 0) 3),
       )
 
-  pub third-decides : 39 + 2 * epsilon ≤ length w → getD w 0 0 ≡ 3 → getD w 4 0 ≡ 1 + 2 * epsilon → leb (getD w (6 + 2 * epsilon) 0) 32 ≡ wellFormed epsilon frameIn
-  unfolding wellFormed payloadCountAt width
-  third-decides room h k =
+  pub second-no : (getD w 4 0 ≡ 1 + 2 * epsilon → ⊥) → false ≡ wellFormed epsilon frameIn
+  unfolding wellFormed width
+  second-no h =
       rw (
         same-place 0 (omega arith),
-        eq-eqb (getD w 0 0) 3 h,
+        same-place 4 (omega arith),
+        ne-eqb (getD w 4 0) (1 + 2 * epsilon) h,
+        and-false (eqb (getD w 0 0) 3),
+      )
+
+  pub first-decides : 39 + 2 * epsilon ≤ length w → getD w (6 + 2 * epsilon) 0 ≤ 32 → getD w 4 0 ≡ 1 + 2 * epsilon → eqb (getD w 0 0) 3 ≡ wellFormed epsilon frameIn
+  unfolding wellFormed payloadCountAt width
+  first-decides room h k =
+      rw (
+        same-place 0 (omega arith),
         same-place 4 (omega arith),
         eq-eqb (getD w 4 0) (1 + 2 * epsilon) k,
         same-place (6 + 2 * epsilon) (omega arith),
+        le-leb (getD w (6 + 2 * epsilon) 0) 32 h,
+        eq-eqb (length frameIn) (frameEnd epsilon frameIn) (ends-there (omega (arith, end-is))),
       )
-      (elim (lt-or-ge 32 (getD w (6 + 2 * epsilon) 0)) [
-        | inl long ↦ rw (lt-leb (getD w (6 + 2 * epsilon) 0) 32 long)
-        | inr short ↦
-            rw (eq-eqb (length frameIn) (frameEnd epsilon frameIn) (ends-there (omega (arith, end-is))))
-            (sym (and-true (leb (getD w (6 + 2 * epsilon) 0) 32)))
-      ])
+      (sym (and-true (eqb (getD w 0 0) 3)))
 
   -- the counts of the stamp
   counts-there : epsilon ≤ 16 → take (2 * epsilon) (take 33 (drop 6 w)) ≡ countsOf epsilon frameIn

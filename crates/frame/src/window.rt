@@ -32,18 +32,18 @@ pub fn window_end(epsilon: usize, w: &[u8]) -> usize
     at + 1 + w[at] as usize
 }
 
-// 01, 10: "Are the three counts right". The frame is taken to end where they say.
+// 01, 10: "Are the three counts right". The frame is taken to end where they say. The last count, by which it is walked on, is asked first.
 fn formed_window(epsilon: usize, w: &[u8]) -> bool
     requires { ⌜ (epsilon ≤ 16) × (39 + 2 * epsilon ≤ length (now w)) ⌝ }
     ensures { λ r. ⌜ r ≡ wellFormed epsilon (take (frameEnd epsilon (now (w .entry))) (now (w .entry))) ⌝ }
 {
-    if w[0] != NODE_SIZE {
+    if LONGEST_PAYLOAD < w[COUNTS_AT + 2 * epsilon] as usize {
         return false;
     }
     if w[STAMP_AT] as usize != 1 + 2 * epsilon {
         return false;
     }
-    w[COUNTS_AT + 2 * epsilon] as usize <= LONGEST_PAYLOAD
+    w[0] == NODE_SIZE
 }
 
 // 01, 11: "Is the station below n and r below B?"

@@ -6,6 +6,7 @@ use mathlib.Core.Bool.{Bool, true, false, _&&_}
 use lib.Dec.{leb, ltb}
 use borrow.Author.Tests.{lt-ltb, le-ltb, le-leb}
 use Rattle.laws.specs.Lists.{within}
+use Rattle.laws.proofs.Numbers.{and-false}
 use Rattle.model.specs.Setup.{Setup}
 use Rattle.model.specs.Timestamp.{Timestamp, trimmed, widened, replaced, step}
 use Rattle.model.specs.Long.{longBound, longClockSound, longTablesSound, longLeastDue}
@@ -19,10 +20,6 @@ module _ (epsilon v r : ℕ) where
   pub clock-past : longBound ≤ r → false ≡ longClockSound epsilon v r
   unfolding longClockSound
   clock-past h = sym (rw (le-ltb r longBound h))
-
-  and-false : (b : Bool) → (b && false) ≡ false
-  and-false true = refl
-  and-false false = refl
 
   pub clock-ahead : v ≤ r → false ≡ longClockSound epsilon v r
   unfolding longClockSound within

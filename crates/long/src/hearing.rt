@@ -25,7 +25,9 @@ fn absorb_frame(setup: Setup, clock: usize, stamp: Timestamp, s: &[u8]) -> Times
 {
     let later = six_on(s);
     let r = r_of(s);
-    absorb_counts(setup, clock, stamp, later, r)
+    let mut kn = stamp.kn;
+    let c = absorb_counts(setup, clock, &mut kn, stamp.c, later, r);
+    Timestamp { r: stamp.r, c, kn }
 }
 
 // What hearing answers beside the buffers.

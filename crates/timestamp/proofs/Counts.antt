@@ -12,7 +12,7 @@ use borrow.Author.Tests.{le-leb, lt-leb}
 use lib.Dec.{leb}
 use lib.Seq.{set-append-seam, set-append-left, drop-append-le, length-take-le, take-nil, take-suc, getD-drop, slice, slice-cons}
 use Rattle.laws.specs.Lists.{every, padded}
-use Rattle.laws.proofs.Numbers.{lt-or-ge}
+use Rattle.laws.proofs.Numbers.{lt-or-ge, and-true, and-false}
 use Rattle.laws.proofs.Lists.{tab-take, every-append}
 use Rattle.model.specs.Setup.{width}
 use Rattle.model.specs.Timestamp.{Timestamp, atMost, trimmed}
@@ -96,10 +96,6 @@ at-most-both bound a b o = go (lt-or-ge bound a) (lt-or-ge bound b)
         let m : max a b ≤ bound = omega arith in
         rw (le-leb a bound h, le-leb b bound k, le-leb (max a b) bound m)
 
-and-true : (b : Bool) → (b && true) ≡ b
-and-true true = refl
-and-true false = refl
-
 -- what a loop that finds the largest count knows at its start, after one turn more, and at its end
 pub at-most-start : (bound : ℕ) (b : Bool) → b ≡ (leb 0 bound && b)
 at-most-start bound b = let h : 0 ≤ bound = omega arith in rw (le-leb 0 bound h)
@@ -115,10 +111,6 @@ unfolding atMost every
 at-most-end bound i to most l h k =
     let e : length (take to l) ≤ i = omega (arith, length-take-le to l k) in
     rw (drop-of-length-le (take to l) e, and-true (leb most bound))
-
-pub and-false : (b : Bool) → (b && false) ≡ false
-and-false true = refl
-and-false false = refl
 
 -- the last of a conjunction's answers asked first
 and-last : (a b : Bool) → (a && (b && true)) ≡ (b && a)

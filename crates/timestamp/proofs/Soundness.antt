@@ -10,10 +10,10 @@ use lib.Dec.{leb}
 use lib.Seq.{slice, take-all}
 use borrow.Author.Tests.{le-leb, lt-leb, lt-ltb, le-ltb}
 use Rattle.laws.specs.Lists.{within}
+use Rattle.laws.proofs.Numbers.{and-false}
 use Rattle.model.specs.Timestamp.{Timestamp, countAt, atMost, trimmed, soundTimestamp, clockStep, soundClock, soundBeside}
 use Rattle.lemmas.proofs.Counts.{count-zero, counts-from-drop}
 use Rattle.timestamp.specs.Views.{ofCounts, withinLimits}
-use Rattle.timestamp.proofs.Counts.{and-false}
 use Rattle.timestamp.proofs.Steps.{trimmed-all}
 
 module _ (n epsilon c : ℕ) (kn : List ℕ) where

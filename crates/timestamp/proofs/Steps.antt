@@ -11,35 +11,31 @@ use Rattle.laws.proofs.Lists.{getD-padded, tab-ext}
 use Rattle.model.specs.Setup.{width}
 use Rattle.model.specs.Timestamp.{Timestamp, countAt, sum, trimmed, widened, fresh, replaced, shift, step, absorb, countOwn}
 use Rattle.lemmas.proofs.Counts.{count-moved, count-zero}
-use Rattle.timestamp.specs.Views.{largerAt, raisedAt}
+use Rattle.timestamp.specs.Views.{stampBy, largerAt, raisedAt}
 use Rattle.timestamp.proofs.Readings.{larger-raised}
 use Rattle.timestamp.proofs.Counts.{set-padded, padded-zeros, padded-more, drop-of-take, trimmed-take}
 
--- a list of counts with its timestamp's other fields
-abbrev pub stamp : ℕ → ℕ → List ℕ → Timestamp
-stamp r c kn = record { r = r; c = c; kn = kn }
-
 pub fresh-widened : (epsilon clock : ℕ) → 1 ≤ epsilon → epsilon ≤ 16
-    → stamp clock 0 (set (replicate 32 0) epsilon 1) ≡ widened (fresh epsilon clock)
+    → stampBy clock 0 (set (replicate 32 0) epsilon 1) ≡ widened (fresh epsilon clock)
 unfolding widened fresh width
 fresh-widened epsilon clock h k =
     let fits : 2 * epsilon ≤ 32 = omega arith in
     let inside : epsilon < length {A = ℕ} (replicate (2 * epsilon) 0) = omega (arith, length-replicate {A = ℕ} (2 * epsilon) 0) in
-    ap (stamp clock 0)
+    ap (stampBy clock 0)
     (ap (λ (l : List ℕ). set l epsilon 1) (padded-zeros 32 (2 * epsilon) fits)
     ∙ set-padded 32 (replicate (2 * epsilon) 0) epsilon 1 inside)
 
-pub replaced-widened : (epsilon clock : ℕ) → epsilon ≤ 16 → stamp clock 0 (replicate 32 0) ≡ widened (replaced epsilon clock)
+pub replaced-widened : (epsilon clock : ℕ) → epsilon ≤ 16 → stampBy clock 0 (replicate 32 0) ≡ widened (replaced epsilon clock)
 unfolding widened replaced width
 replaced-widened epsilon clock k = let fits : 2 * epsilon ≤ 32 = omega arith in rw (padded-zeros 32 (2 * epsilon) fits)
 
 module _ (epsilon : ℕ) (t : Timestamp) (small : epsilon ≤ 16) (long : length (t .kn) ≡ 32) where
-  pub trimmed-all : trimmed epsilon t ≡ stamp (t .r) (t .c) (take (2 * epsilon) (t .kn))
+  pub trimmed-all : trimmed epsilon t ≡ stampBy (t .r) (t .c) (take (2 * epsilon) (t .kn))
   unfolding width
   trimmed-all = trimmed-take epsilon t (omega arith)
 
   pub step-widened : (k v c : ℕ) (kn : List ℕ) → k ≤ epsilon → c ≡ t .c - k → kn ≡ padded 32 (take (2 * epsilon - k) (drop k (t .kn)))
-      → stamp v c kn ≡ widened (step k v (trimmed epsilon t))
+      → stampBy v c kn ≡ widened (step k v (trimmed epsilon t))
   unfolding widened step shift
   step-widened k v c kn h ec e =
       let moved : drop k (take (2 * epsilon) (t .kn)) ≡ take (2 * epsilon - k) (drop k (t .kn)) = drop-of-take k (2 * epsilon) (t .kn) in
@@ -48,16 +44,16 @@ module _ (epsilon : ℕ) (t : Timestamp) (small : epsilon ≤ 16) (long : length
       rw (trimmed-all, moved, padded-more 32 (take (2 * epsilon - k) (drop k (t .kn))) k fits, ec, e)
 
   -- places past the 2ε counts are 0
-  narrow-counts : t ≡ widened (trimmed epsilon t) → t .kn ≡ padded 32 (take (2 * epsilon) (t .kn))
+  pub narrow-counts : t ≡ widened (trimmed epsilon t) → t .kn ≡ padded 32 (take (2 * epsilon) (t .kn))
   unfolding widened
   narrow-counts narrow = ap (λ (u : Timestamp). u .kn) (narrow ∙ ap widened trimmed-all)
 
   pub count-own-widened : (v : ℕ) → 1 ≤ epsilon → t ≡ widened (trimmed epsilon t)
-      → stamp v (t .c) (set (t .kn) epsilon (getD (t .kn) epsilon 0 + 1)) ≡ widened (countOwn epsilon v (trimmed epsilon t))
+      → stampBy v (t .c) (set (t .kn) epsilon (getD (t .kn) epsilon 0 + 1)) ≡ widened (countOwn epsilon v (trimmed epsilon t))
   unfolding widened countOwn
   count-own-widened v h narrow =
       let inside : epsilon < length (take (2 * epsilon) (t .kn)) = omega (arith, length-take (2 * epsilon) (t .kn)) in
-      ap (λ (l : List ℕ). stamp v (t .c) (set l epsilon (getD l epsilon 0 + 1))) (narrow-counts narrow)
+      ap (λ (l : List ℕ). stampBy v (t .c) (set l epsilon (getD l epsilon 0 + 1))) (narrow-counts narrow)
       ∙ rw (
         trimmed-all,
         getD-padded 32 (take (2 * epsilon) (t .kn)) epsilon,
@@ -65,10 +61,10 @@ module _ (epsilon : ℕ) (t : Timestamp) (small : epsilon ≤ 16) (long : length
       )
 
   -- of a frame with that c and those counts, the own ones raised where they stand
-  pub absorb-widened : (modulus reading up down count c d : ℕ) (counts kn : List ℕ) → t ≡ widened (trimmed epsilon t) → length counts ≡ 2 * epsilon
+  pub absorb-widened : (modulus reading up down count c d : ℕ) (counts kn : List ℕ) → t .kn ≡ padded 32 (take (2 * epsilon) (t .kn)) → length counts ≡ 2 * epsilon
       → up ≡ reading - modulus → down ≡ modulus - reading → count ≡ 2 * epsilon - (up + down)
       → kn ≡ tab 32 (raisedAt up (t .kn) (take count (drop down counts))) → d ≡ max (t .c) (reading + c - modulus)
-      → stamp (t .r) d kn ≡ widened (absorb epsilon modulus (trimmed epsilon t) reading (stamp 0 c counts))
+      → stampBy (t .r) d kn ≡ widened (absorb epsilon modulus (trimmed epsilon t) reading (stampBy 0 c counts))
   unfolding widened absorb countAt sum width
   absorb-widened modulus reading up down count c d counts kn narrow wide eu ed ec e el =
       rw (
@@ -85,7 +81,7 @@ module _ (epsilon : ℕ) (t : Timestamp) (small : epsilon ≤ 16) (long : length
 
       raised : tab 32 (raisedAt up (t .kn) (take count (drop down counts))) ≡ padded 32 (tab (2 * epsilon) (largerAt modulus reading (take (2 * epsilon) (t .kn)) counts))
       raised =
-          ap (λ (l : List ℕ). tab 32 (raisedAt up l (take count (drop down counts)))) (narrow-counts narrow)
+          ap (λ (l : List ℕ). tab 32 (raisedAt up l (take count (drop down counts)))) narrow
           ∙ larger-raised (2 * epsilon) modulus reading up down count counts eu ed ec 32 (t .kn) (omega arith)
           ∙ ap (λ (l : List ℕ). padded 32 (tab (2 * epsilon) (largerAt modulus reading (take (2 * epsilon) (t .kn)) l))) all
 

@@ -3,7 +3,7 @@
 use Prim.Native.Nat.{ℕ, _+_, _-_, _*_, _≤_, _<_, max}
 use native.Mathlib.Omega.{arith}
 use mathlib.Core.Path.{_≡_, refl, sym, ap, _∙_}
-use mathlib.Core.Bool.{false, _&&_, cond}
+use mathlib.Core.Bool.{true, false, _&&_, cond}
 use mathlib.Core.Logic.{_⊎_, inl, inr}
 use mathlib.Core.List.{List}
 use lib.Bits.{bitOr, or-zero-r, or-add-and, and-le-l}
@@ -166,13 +166,25 @@ module _ (n epsilon c : ℕ) (kn : List ℕ) (narrow : epsilon ≤ 16) (long : 3
   same-count : getD (take (2 * epsilon) kn) (epsilon + c) 0 ≡ getD kn (epsilon + c) 0
   same-count = getD-take (2 * epsilon) kn (epsilon + c) 0 (omega arith)
 
-  pub window-none : getD kn (epsilon + c) 0 < 1 → false ≡ soundTimestamp n epsilon (ofCounts c (take (2 * epsilon) kn))
+  window-none : getD kn (epsilon + c) 0 < 1 → false ≡ soundTimestamp n epsilon (ofCounts c (take (2 * epsilon) kn))
   window-none k = unsound-none n epsilon c (take (2 * epsilon) kn) h (omega (arith, same-count))
 
-  pub window-within : 1 ≤ getD kn (epsilon + c) 0
+  window-within : 1 ≤ getD kn (epsilon + c) 0
       → withinLimits n (epsilon + c) (take (2 * epsilon) kn) ≡ soundTimestamp n epsilon (ofCounts c (take (2 * epsilon) kn))
   window-within k =
       let wide : length (take (2 * epsilon) kn) ≡ 2 * epsilon = length-take-le (2 * epsilon) kn (omega arith) in
       let whole : take (2 * epsilon) (take (2 * epsilon) kn) ≡ take (2 * epsilon) kn = take-all (2 * epsilon) (take (2 * epsilon) kn) (omega arith) in
       ap (withinLimits n (epsilon + c)) (sym whole)
       ∙ sound-within n epsilon c (take (2 * epsilon) kn) wide h (omega (arith, same-count))
+
+  -- a count past its limit is enough for a no
+  pub window-over : withinLimits n (epsilon + c) (take (2 * epsilon) kn) ≡ false → false ≡ soundTimestamp n epsilon (ofCounts c (take (2 * epsilon) kn))
+  window-over e = elim (lt-or-ge (getD kn (epsilon + c) 0) 1) [ inl k ↦ window-none k | inr k ↦ sym e ∙ window-within k ]
+
+  -- where there is none, the count at offset c decides
+  pub window-some : withinLimits n (epsilon + c) (take (2 * epsilon) kn) ≡ true → leb 1 (getD kn (epsilon + c) 0) ≡ soundTimestamp n epsilon (ofCounts c (take (2 * epsilon) kn))
+  window-some e =
+      elim (lt-or-ge (getD kn (epsilon + c) 0) 1) [
+        | inl k ↦ lt-leb 1 (getD kn (epsilon + c) 0) k ∙ window-none k
+        | inr k ↦ le-leb 1 (getD kn (epsilon + c) 0) k ∙ (sym e ∙ window-within k)
+      ]

@@ -13,9 +13,13 @@ use Rattle.timestamp.specs.declared.stamp.Timestamp.{Timestamp}
 abbrev pub stampOf : Timestamp → stamps.Timestamp
 stampOf t = record { r = t .r; c = t .c; kn = t .kn }
 
+-- a timestamp of these parts
+abbrev pub stampBy : ℕ → ℕ → List ℕ → stamps.Timestamp
+stampBy r c kn = record { r = r; c = c; kn = kn }
+
 -- a timestamp with that c and those counts, where r is not looked at
 abbrev pub ofCounts : ℕ → List ℕ → stamps.Timestamp
-ofCounts c kn = record { r = 0; c = c; kn = kn }
+ofCounts c kn = stampBy 0 c kn
 
 -- 01: "each count ≤ n" and "all counts above" the place `top` "are 0"
 abbrev pub withinLimits : ℕ → ℕ → List ℕ → Bool

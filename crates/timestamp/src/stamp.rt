@@ -8,7 +8,7 @@ ghost use Rattle.laws.specs.Lists.{tab, padded};
 ghost use Rattle.model.specs.Setup.{widest};
 ghost use Rattle.model.specs.Timestamp.{atMost, soundTimestamp, soundBeside, soundTables, trimmed, widened};
 ghost use Rattle.model.specs.Timestamp as model;
-ghost use Rattle.timestamp.specs.Views.{stampOf, ofCounts, withinLimits, raisedAt};
+ghost use Rattle.timestamp.specs.Views.{stampOf, stampBy, ofCounts, withinLimits, raisedAt};
 
 // 01: the stamp.
 pub struct Timestamp {
@@ -56,32 +56,28 @@ impl Timestamp {
         }
     }
 
-    // 01, tick 3: "c and each count become the larger of own and frame's, both placed relative to v", which reads B. The frame's 2ε
-    // counts are a part of it, and the own ones are raised where they stand. A reading past v lays the frame's counts further up, one
+    // 01, tick 3: "c and each count become the larger of own and frame's, both placed relative to v", which reads B. The own counts are
+    // raised where they stand, and the answer is c; r, which may be any, stays. A reading past v lays the frame's 2ε counts further up, one
     // before v further down; where none of them meets an own one, the own counts stay.
     pub fn absorb(
-        self,
+        kn: &mut [u8],
+        lead: usize,
         epsilon: usize,
         modulus: usize,
         reading: usize,
         c: usize,
         counts: &[u8],
-    ) -> Self
+    ) -> usize
         requires { ⌜ (epsilon ≤ 16) × ((modulus ≤ 2 ^ 63) × ((reading ≤ 2 ^ 63) × (c ≤ 2 ^ 16))) ⌝ }
-        requires { ⌜ (stampOf self ≡ widened (trimmed epsilon (stampOf self))) × (length (now counts) ≡ 2 * epsilon) ⌝ }
-        ensures { λ s. ⌜ stampOf s
-            ≡ widened (model.absorb epsilon modulus (trimmed epsilon (stampOf self)) reading (ofCounts c (now (counts .entry)))) ⌝ }
+        requires { ⌜ (ofCounts lead (now kn) ≡ widened (trimmed epsilon (ofCounts lead (now kn)))) × (length (now counts) ≡ 2 * epsilon) ⌝ }
+        ensures { λ d. ⌜ ((r : ℕ) → stampBy r d (now (kn .exit))
+            ≡ widened (model.absorb epsilon modulus (trimmed epsilon (stampBy r lead (now (kn .entry)))) reading (ofCounts c (now (counts .entry))))) ⌝ }
     {
         let up = past(reading, modulus);
         let down = past(modulus, reading);
         let count = past(2 * epsilon, up + down);
-        let own = self.kn;
-        let kn = raise(own, up, counts, down, count);
-        Timestamp {
-            r: self.r,
-            c: larger_lead(self.c, reading + c, modulus),
-            kn,
-        }
+        raise(kn, up, counts, down, count);
+        larger_lead(lead, reading + c, modulus)
     }
 
     // 01, tick 4: "The count at offset 0 rises by one; r is v".
@@ -235,25 +231,17 @@ fn larger_lead(c: usize, sum: usize, modulus: usize) -> usize
     if c < lead { lead } else { c }
 }
 
-// Lays the `count` counts of `other` that start at the place `from` over those of `own` that start at the place `to`, and keeps
-// the larger of each two. The rest of `own` stays.
-fn raise(
-    own: [u8; Timestamp::WIDTH],
-    to: usize,
-    other: &[u8],
-    from: usize,
-    count: usize,
-) -> [u8; Timestamp::WIDTH]
-    requires { ⌜ (count ≤ 32 - to) × (count ≤ length (now other) - from) ⌝ }
-    ensures { λ kn. ⌜ kn ≡ tab widest (raisedAt to own (take count (drop from (now (other .entry))))) ⌝ }
+// Lays the `count` counts of `other` that start at the place `from` over the own ones that start at the place `to`, and keeps
+// the larger of each two. The rest of the own ones stay.
+fn raise(own: &mut [u8], to: usize, other: &[u8], from: usize, count: usize)
+    requires { ⌜ (length (now own) ≡ widest) × ((count ≤ widest - to) × (count ≤ length (now other) - from)) ⌝ }
+    ensures { λ _. ⌜ now (own .exit) ≡ tab widest (raisedAt to (now (own .entry)) (take count (drop from (now (other .entry))))) ⌝ }
 {
-    let mut kn = own;
     let mut i = 0;
     while i < count {
-        kn[to + i] = larger(kn[to + i], other[from + i]);
+        own[to + i] = larger(own[to + i], other[from + i]);
         i += 1;
     }
-    kn
 }
 
 // 01: "u is (r − v) modulo B".

@@ -72,8 +72,8 @@ pub fn sound_window(kn: &[u8], c: usize, limits: &[u8], epsilon: usize) -> bool
     if epsilon <= c {
         return false;
     }
-    if kn[epsilon + c] < 1 {
+    if !within_window(kn, limits, epsilon + c) {
         return false;
     }
-    within_window(kn, limits, epsilon + c)
+    1 <= kn[epsilon + c]
 }

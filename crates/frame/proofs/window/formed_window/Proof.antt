@@ -2,17 +2,26 @@
 use native.Mathlib.Omega.{arith}
 use Prim.Native.Nat.{_+_, _*_}
 use borrow.Author.Needs.{needs}
-use Rattle.frame.proofs.Windows.{first-no, second-no, third-decides}
+use Rattle.frame.proofs.Windows.{long-no, second-no, first-decides}
 use Rattle.frame.proofs.window.formed_window.Statement.{statement}
 use Rattle.frame.proofs.window.formed_window.Tie as tie
 
+mul-if1 : tie.Need-mul-if1
+mul-if1 c = search needs
+
+add-if1 : tie.Need-add-if1
+add-if1 c = search needs
+
 shared-slice-read-if1 : tie.Need-shared-slice-read-if1
-shared-slice-read-if1 c = search needs
+shared-slice-read-if1 c = omega arith
+
+cast-if1 : tie.Need-cast-if1
+cast-if1 c = omega (arith, c .shared-slice-known .given (6 + 2 * c .before .args .epsilon))
 
 returns : tie.Need-returns
 returns c =
     let start = c .before .before in
-    first-no (start .args .epsilon) (start .args .w .now) (omega arith)
+    long-no (start .args .epsilon) (start .args .w .now) (omega arith)
 
 shared-slice-read-if2 : tie.Need-shared-slice-read-if2
 shared-slice-read-if2 c = search needs
@@ -29,38 +38,29 @@ add-if2 c = search needs
 returns-2 : tie.Need-returns-2
 returns-2 c =
     let start = c .before .before .before .before in
-    second-no (start .args .epsilon) (start .args .w .now) (omega arith) (omega arith)
-
-mul-result : tie.Need-mul-result
-mul-result c = search needs
-
-add-result : tie.Need-add-result
-add-result c = search needs
+    second-no (start .args .epsilon) (start .args .w .now) (omega arith)
 
 shared-slice-read-result : tie.Need-shared-slice-read-result
-shared-slice-read-result c = omega arith
-
-cast-result : tie.Need-cast-result
-cast-result c = omega (arith, c .shared-slice-known3 .given (6 + 2 * c .before .before .before .before .before .args .epsilon))
+shared-slice-read-result c = search needs
 
 returns-3 : tie.Need-returns-3
 returns-3 c =
     let start = c .before .before .before .before .before in
-    third-decides (start .args .epsilon) (start .args .w .now) (start .pre .1) (omega arith) (omega arith)
+    first-decides (start .args .epsilon) (start .args .w .now) (start .pre .1) (omega arith) (omega arith)
 
 pub formed-window-spec : {M : Type 1} → statement M
 formed-window-spec =
     tie.close
     (tie.spec
+    mul-if1
+    add-if1
     shared-slice-read-if1
+    cast-if1
     returns
     shared-slice-read-if2
     cast-if2
     mul-if2
     add-if2
     returns-2
-    mul-result
-    add-result
     shared-slice-read-result
-    cast-result
     returns-3)
