@@ -220,15 +220,15 @@ fn past(a: usize, b: usize) -> usize
     if a < b { 0 } else { a - b }
 }
 
-// The larger of c and of how far a sum lies past B.
-fn larger_lead(c: usize, sum: usize, modulus: usize) -> usize
-    ensures { λ x. ⌜ x ≡ max c (sum - modulus) ⌝ }
+// The larger of a lead and of how far a sum lies past B.
+fn larger_lead(lead: usize, sum: usize, modulus: usize) -> usize
+    ensures { λ x. ⌜ x ≡ max lead (sum - modulus) ⌝ }
 {
     if sum <= modulus {
-        return c;
+        return lead;
     }
-    let lead = sum - modulus;
-    if c < lead { lead } else { c }
+    let other = sum - modulus;
+    if lead < other { other } else { lead }
 }
 
 // Lays the `count` counts of `other` that start at the place `from` over the own ones that start at the place `to`, and keeps

@@ -24,8 +24,8 @@ module _ (c : tie.After-counts-part) where
   abbrev begin : tie.Start
   begin = c .before .before .before .before .before
 
-  lead : c .before .c-of .result ≡ decode (begin .args .setup .epsilon) (begin .args .s .now) .stamp .c
-  lead = c .before .c-of .ensures (begin .args .setup .epsilon)
+  frames-c : c .before .c-of .result ≡ decode (begin .args .setup .epsilon) (begin .args .s .now) .stamp .c
+  frames-c = c .before .c-of .ensures (begin .args .setup .epsilon)
 
   wide : length (c .counts-part .result .now) ≡ 2 * begin .args .setup .epsilon
   wide = ap length (c .counts-part .ensures) ∙ counts-wide (begin .args .setup .epsilon) (begin .args .s .now) (begin .pre .0 .long)
@@ -34,7 +34,7 @@ absorb-requires : tie.Need-absorb-requires
 absorb-requires c κs =
     let start = begin (c .before) in
     let asked = start .pre .0 in
-    ((asked .epsilon-most, (asked .clock-fits, (asked .reading-fits, omega (arith, lead (c .before), asked .c-below, asked .epsilon-most)))), (start .pre .1, wide (c .before)))
+    ((asked .epsilon-most, (asked .clock-fits, (asked .reading-fits, omega (arith, frames-c (c .before), asked .c-below, asked .epsilon-most)))), (start .pre .1, wide (c .before)))
 
 same-length : tie.Need-same-length
 same-length c = search needs
@@ -45,7 +45,7 @@ returns c =
     let start = begin part in
     let a = start .args in
     λ r. c .before .before .absorb .ensures r
-    ∙ ap widened (counts-absorbed (a .setup .epsilon) (a .at) (a .reading) (trimmed (a .setup .epsilon) (stampBy r (a .lead) (a .kn .now))) (a .s .now) (part .before .c-of .result) (part .counts-part .result .now) (lead part) (part .counts-part .ensures))
+    ∙ ap widened (counts-absorbed (a .setup .epsilon) (a .at) (a .reading) (trimmed (a .setup .epsilon) (stampBy r (a .lead) (a .kn .now))) (a .s .now) (part .before .c-of .result) (part .counts-part .result .now) (frames-c part) (part .counts-part .ensures))
 
 pub absorb-counts-spec : {M : Type 1} → statement M
 absorb-counts-spec = tie.close (tie.spec cast-epsilon c-of-requires counts-part-requires absorb-requires same-length returns)

@@ -49,7 +49,7 @@ returns c =
     let down = c .before .before .before .before .before .before .past2 in
     let count = c .before .before .before .before .before .past3 in
     λ r. absorb-widened (a .epsilon) (stampBy r (a .lead) (a .kn .now)) (start .pre .0 .0) (long start) (a .modulus) (a .reading) (up .result) (down .result) (count .result) (a .c) (c .larger-lead .result) (a .counts .now) _
-    (narrow-counts (a .epsilon) (ofCounts (a .lead) (a .kn .now)) (start .pre .0 .0) (long start) (start .pre .1 .0)) (start .pre .1 .1) (up .ensures) (down .ensures) (count .ensures) (c .before .before .before .raise .ensures) (c .larger-lead .ensures)
+    (narrow-counts (a .epsilon) (ofCounts (a .lead) (a .kn .now)) (start .pre .0 .0) (long start) (start .pre .1 .0)) (start .pre .1 .1) (up .ensures) (down .ensures) (omega (arith, count .ensures)) (c .before .before .before .raise .ensures) (c .larger-lead .ensures)
 
 pub absorb-spec : {M : Type 1} → statement M
 absorb-spec =
