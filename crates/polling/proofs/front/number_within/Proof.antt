@@ -51,7 +51,7 @@ part-due-within-end c = omega (arith, led-next (c .before .before .before .loop 
 due-within-requires : tie.Need-due-within-requires Inv-loop μ-loop
 due-within-requires c κs =
     let start = c .before .before .before .before .before .before .before in
-    (start .pre .0, led-passes (c .before .before .before .before .loop .inv) (c .before .before .before .loop-test .taken) (c .before .frame-end .ensures))
+    ((start .pre .0 .0, (start .pre .0 .1 .0, search needs)), led-passes (c .before .before .before .before .loop .inv) (c .before .before .before .loop-test .taken) (c .before .frame-end .ensures))
 
 -- the first one past the bound
 returns : tie.Need-returns Inv-loop μ-loop
