@@ -4,7 +4,7 @@ use Prim.Native.Nat.{ℕ, _+_, _-_, _%_, _≤_, _<_}
 use native.Mathlib.Omega.{arith}
 use native.Mathlib.Nat.{mod-eq-of-lt, add-zero}
 use mathlib.Core.Path.{_≡_, refl, sym, ap, subst, _∙_}
-use mathlib.Core.Bool.{true, false, _||_, not}
+use mathlib.Core.Bool.{true, _||_, not}
 use mathlib.Core.Logic.{_⊎_, inl, inr}
 use mathlib.Core.List.{List, List·Memᴰ}
 use lib.Dec.{leb, ltb, eqb}
@@ -14,13 +14,13 @@ use Rattle.laws.specs.Lists.{select}
 use Rattle.laws.proofs.Numbers.{lt-or-ge}
 use Rattle.laws.proofs.Lists.{select-either}
 use Rattle.model.specs.Setup.{Setup}
-use Rattle.model.specs.Timestamp.{Timestamp, sum, clockStep, soundClock}
+use Rattle.model.specs.Timestamp.{Timestamp, sum}
 use Rattle.model.specs.Frame.{Frame}
 use Rattle.model.specs.Order.{readingOf, due, dueNear}
 use Rattle.model.specs.Batch.{batchEntries}
 use Rattle.model.specs.Holdback.{held, soundHoldback, encodeHoldback}
 use Rattle.model.specs.Judge.{Asking, judgeQuestions, observerQuestions}
-use Rattle.model.specs.Tick.{Input, Output, holdbackSize, leastAfter, leastDue, openingQueue, openedQueue, earlyOf, heardOf, deliveredOf, keptOf, takenCount, dueBefore, dueNow, acceptance, tick}
+use Rattle.model.specs.Tick.{Input, Output, holdbackSize, leastDue, openingQueue, openedQueue, earlyOf, heardOf, deliveredOf, keptOf, takenCount, dueBefore, dueNow, acceptance, tick}
 use Rattle.model.specs.Observer.{Listening, Listened, lastSound, observerLeast, observerOpened, observerHeard, observerDelivered, observerKept, listened, listen}
 use Rattle.model.specs.Poll.{PollAnswer, dueWithin, numberWithin, pollBy, poll}
 use Rattle.lemmas.proofs.Board.{Board, boardOpened, boardHeard, boardDelivered, boardKept, board-kept, board-held, board-size, board-sound}
