@@ -13,5 +13,5 @@ pub mod Board
 pub mod OneTick
 pub mod OneListening
 pub mod LongTick
-pub mod NextTick
+pub mod NextCall
 pub mod Comparing
