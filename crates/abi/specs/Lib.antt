@@ -1,3 +1,4 @@
--- `Packing` says how numbers and tables stand in bytes and bits at the boundary to C, `Fresh` with which tables a station starts.
+-- `Packing` says how numbers and tables stand in bytes and bits at the boundary to C, `Fresh` with which tables a station starts, `Refusals` what a refused call gives back.
 pub mod Packing
 pub mod Fresh
+pub mod Refusals

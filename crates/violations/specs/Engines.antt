@@ -6,7 +6,7 @@ use mathlib.Core.List.{List, [], _∷_, _++_, map}
 use mathlib.Core.Option.{Option, none, some}
 use lib.Dec.{leb, eqb}
 use lib.ListN.{length, take, replicate}
-use Rattle.laws.specs.Lists.{tab, every, chained, joined, sameList}
+use Rattle.laws.specs.Lists.{tab, every, chained, joined, overlay, sameList}
 use Rattle.model.specs.Setup.{Setup}
 use Rattle.model.specs.Frame.{Frame}
 use Rattle.model.specs.Batch.{batchEntries}
@@ -16,7 +16,7 @@ use Rattle.model.specs.Run.{Done, isEvent}
 use Rattle.model.specs.Long.{longMost, longEncode, longBefore, longHoldbackSize, longHeldBytes, longHeld, longSoundHoldback, longQuestions, longTablesSound, longLeastDue, longSent, longDelivered, longTick}
 use Rattle.theory.specs.Premises.{sameTimestamp}
 use Rattle.theory.specs.LongAny.{longHeardBefore}
-use Rattle.theory.specs.LongClocks.{LongYard, longOf, longActed, reducedStamp, reducedLong, narrowed}
+use Rattle.theory.specs.LongClocks.{LongYard, longOf, longActed, reducedStamp, reducedLong, rewritten, narrowed, narrowedDelivery}
 use Rattle.violations.specs.Stories.{freshTables, batchWith}
 use Rattle.violations.specs.Tests.{sameEach, implies, firstFailed, everyStep, sameFrames}
 
@@ -130,23 +130,30 @@ longSameTables s d o = sameTimestamp (d .output .answer .tables) (reducedStamp (
 
 unfoldable pub longSameFrames : LongTest
 longSameFrames s d o =
-    sameList (take (d .output .answer .sent) (d .output .outgoing)) (narrowed s (take (o .answer .sent) (o .outgoing)))
+    sameList (take (d .output .answer .sent) (d .output .outgoing)) (narrowed (s .modulus) (take (o .answer .sent) (o .outgoing)))
+
+unfoldable pub longSameFramesRead : LongTest
+longSameFramesRead s d o =
+    sameList (take (d .output .answer .sent) (d .output .outgoing)) (rewritten s (take (o .answer .sent) (o .outgoing)))
 
 unfoldable pub longSameDelivered : LongTest
 longSameDelivered s d o = eqb (o .answer .delivered) (d .output .answer .delivered)
+
+unfoldable pub longSameDelivery : LongTest
+longSameDelivery s d o = sameList (d .output .delivery) (overlay (narrowedDelivery s (o .delivery)) (d .call .delivery))
 
 -- the two frames are the same
 unfoldable pub sameFrame : Frame → Frame → Bool
 sameFrame f g = eqb (f .station) (g .station) && (sameTimestamp (f .stamp) (g .stamp) && sameList (f .payload) (g .payload))
 
-unfoldable pub longSameDelivery : LongTest
-longSameDelivery s d o =
+unfoldable pub longSameHeld : LongTest
+longSameHeld s d o =
     sameEach sameFrame (held (s .epsilon) (d .output .delivery)) (map (reducedLong (s .modulus)) (longHeld (s .epsilon) (o .delivery)))
 
 unfoldable pub longSameAll : LongTest
 longSameAll s d o =
     longSameNumber s d o && (longSameRepair s d o && (longSameVerdicts s d o && (longSameTaken s d o && (longSameTables s d o
-    && (longSameFrames s d o && (longSameDelivered s d o && longSameDelivery s d o))))))
+    && (longSameFrames s d o && (longSameFramesRead s d o && (longSameDelivered s d o && (longSameDelivery s d o && longSameHeld s d o))))))))
 
 -- the test of a call, where its station has an engine
 abbrev pub besideBy : LongTest → Setup → Done → Option Output → Bool
