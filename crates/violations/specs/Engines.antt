@@ -5,7 +5,7 @@ use mathlib.Core.Bool.{Bool, true, false, _&&_, cond}
 use mathlib.Core.List.{List, [], _∷_, _++_, map}
 use mathlib.Core.Option.{Option, none, some}
 use lib.Dec.{leb, eqb}
-use lib.ListN.{length, take, replicate}
+use lib.ListN.{length, take, drop, replicate}
 use Rattle.laws.specs.Lists.{tab, every, chained, joined, overlay, sameList}
 use Rattle.model.specs.Setup.{Setup}
 use Rattle.model.specs.Frame.{Frame}
@@ -13,7 +13,7 @@ use Rattle.model.specs.Batch.{batchEntries}
 use Rattle.model.specs.Holdback.{held}
 use Rattle.model.specs.Tick.{Input, Output, takenCount}
 use Rattle.model.specs.Run.{Done, isEvent}
-use Rattle.model.specs.Long.{longMost, longEncode, longBefore, longHoldbackSize, longHeldBytes, longHeld, longSoundHoldback, longQuestions, longTablesSound, longLeastDue, longSent, longDelivered, longTick}
+use Rattle.model.specs.Long.{longMost, longEncode, longBefore, longHoldbackSize, longHeldBytes, longHeld, longSoundHoldback, longEncodeFrames, longQuestions, longTablesSound, longLeastDue, longSent, longDelivered, longTick}
 use Rattle.theory.specs.Premises.{sameTimestamp}
 use Rattle.theory.specs.LongAny.{longHeardBefore}
 use Rattle.theory.specs.LongClocks.{LongYard, longOf, longActed, reducedStamp, reducedLong, rewritten, narrowed, narrowedDelivery}
@@ -92,6 +92,11 @@ unfoldable pub engineSentTest : Input → Bool
 engineSentTest i =
     eqb (longTick i .answer .sent) (length (longSent i)) && sameList (take (longTick i .answer .sent) (longTick i .outgoing)) (longSent i)
 
+-- the bytes beyond the hand-out stay
+unfoldable pub engineKeptTest : Input → Bool
+engineKeptTest i =
+    sameList (drop (length (longEncodeFrames (longDelivered i))) (longTick i .delivery)) (drop (length (longEncodeFrames (longDelivered i))) (i .delivery))
+
 unfoldable pub engineBoundedTest : Input → Bool
 engineBoundedTest i =
     everyStep (λ k. longTablesSound (i .setup) (i .clock + k) (longTick i .answer .tables)
@@ -104,7 +109,7 @@ engineFewTest i = every (λ k. leb (length (longHeardBefore i k .queue)) longMos
 unfoldable pub engineTest : Input → Bool
 engineTest i =
     engineVerdictTest i && (engineRepairTest i && (engineTakenTest i && (engineDeliveryTest i && (engineOrderTest i
-    && (engineSentTest i && (engineBoundedTest i && engineFewTest i))))))
+    && (engineSentTest i && (engineKeptTest i && (engineBoundedTest i && engineFewTest i)))))))
 
 -- ---- tests of a list of calls
 
