@@ -32,9 +32,8 @@ use Rattle.lemmas.proofs.Questions.{setup-to}
 use Rattle.polling.specs.Statements.{BoardCall, tickCall, listenCall, Told, PollsWhatIsLeft, PollsWhatObserversLeave, Follows, PollForetells, PollForetellsObservers}
 use Rattle.polling.proofs.Asking.{poll-accepted, questions-passed, polled-sound}
 
--- an accepted call: the least due clock that it allowed, what it asked, and what it heard; and that it left and answered what comes of these
-record Attended (A : Type 0) (c : BoardCall A) : Type 0 where
-  least : ℕ
+-- an accepted call, by the least due clock that it allowed: what it asked, and what it heard; and that it left and answered what comes of these
+record Attended (A : Type 0) (c : BoardCall A) (least : ℕ) : Type 0 where
   asking : Asking
   entries : List (List ℕ)
   board : Board (c .setup) (c .clock) least asking
@@ -68,12 +67,12 @@ module _ (s : Setup) (v v′ k : ℕ) (f : Frame) (moved : readingOf s v′ f + 
 abbrev dueBy : Setup → ℕ → List Frame → ℕ
 dueBy s v queue = length (select (dueBefore s v) queue) + length (select (dueNow s v) (select (λ f. not (dueBefore s v f)) queue))
 
-module _ (A : Type 0) (c : BoardCall A) (a : Attended A c) where
+module _ (A : Type 0) (c : BoardCall A) (least : ℕ) (a : Attended A c least) where
   abbrev s : Setup
   s = c .setup
 
   abbrev frames : List Frame
-  frames = boardKept s (c .clock) (a .least) (a .asking) (c .holdback) (a .entries)
+  frames = boardKept s (c .clock) least (a .asking) (c .holdback) (a .entries)
 
   same-clock : (c .clock + 0) % s .modulus ≡ c .clock
   same-clock = ap (λ (v : ℕ). v % s .modulus) (add-zero (c .clock)) ∙ mod-eq-of-lt (a .board .below)
@@ -85,18 +84,18 @@ module _ (A : Type 0) (c : BoardCall A) (a : Attended A c) where
   left-sound =
       ap (soundHoldback s (c .clock) (s .modulus + 1)) (a .left-is)
       ∙ subst (λ (v : ℕ). soundHoldback s v (s .modulus + 1) (encodeHoldback (holdbackSize s) frames) ≡ true) same-clock
-      (subst (λ (least : ℕ). soundHoldback s ((c .clock + 0) % s .modulus) least (encodeHoldback (holdbackSize s) frames) ≡ true) whole
-      (board-sound s (c .clock) (a .least) (a .asking) (c .holdback) (a .entries) (a .board) 0 (omega arith)))
+      (subst (λ (lowest : ℕ). soundHoldback s ((c .clock + 0) % s .modulus) lowest (encodeHoldback (holdbackSize s) frames) ≡ true) whole
+      (board-sound s (c .clock) least (a .asking) (c .holdback) (a .entries) (a .board) 0 (omega arith)))
 
   left-size : length (c .holdbackLeft) ≡ holdbackSize s
-  left-size = ap length (a .left-is) ∙ board-size s (c .clock) (a .least) (a .asking) (c .holdback) (a .entries) (a .board)
+  left-size = ap length (a .left-is) ∙ board-size s (c .clock) least (a .asking) (c .holdback) (a .entries) (a .board)
 
   left-told : (own d : ℕ) → own < s .n → poll s own (c .clock) d (c .holdbackLeft) ≡ pollBy 0 s (c .clock) d (c .kept)
   left-told own d below =
       sym (poll-accepted s own (c .clock) (c .holdbackLeft) d (questions-passed s own (c .clock) (c .holdbackLeft) (setup-to s own (a .board .limits) below) (a .board .below) left-size))
       ∙ ap (pollBy 0 s (c .clock) d)
       (polled-sound s (c .clock) (c .holdbackLeft) left-sound
-      ∙ (ap (held (s .epsilon)) (a .left-is) ∙ board-held s (c .clock) (a .least) (a .asking) (c .holdback) (a .entries) (a .board) ∙ sym (a .kept-is)))
+      ∙ (ap (held (s .epsilon)) (a .left-is) ∙ board-held s (c .clock) least (a .asking) (c .holdback) (a .entries) (a .board) ∙ sym (a .kept-is)))
 
   told : (own d : ℕ) → own < s .n → Told A c own d
   told own d below = record { sound = left-sound; answer = left-told own d below }
@@ -109,7 +108,7 @@ module _ (A : Type 0) (c : BoardCall A) (a : Attended A c) where
     moved : (f : Frame) → List·Memᴰ f frames → readingOf s later f + k ≡ readingOf s (c .clock) f
     moved f m =
         left-moved s (c .clock) 0 k frames (a .board .limits) (omega (arith, few))
-        (subst (λ (v : ℕ). QueueLeft s v 0 frames) (sym (mod-eq-of-lt (a .board .below))) (board-kept s (c .clock) (a .least) (a .asking) (c .holdback) (a .entries) (a .board))) f m
+        (subst (λ (v : ℕ). QueueLeft s v 0 frames) (sym (mod-eq-of-lt (a .board .below))) (board-kept s (c .clock) least (a .asking) (c .holdback) (a .entries) (a .board))) f m
         ∙ ap (λ (v : ℕ). readingOf s v f) (mod-eq-of-lt (a .board .below))
 
     -- as many are due before or at the later clock as within k ticks
@@ -123,33 +122,32 @@ module _ (A : Type 0) (c : BoardCall A) (a : Attended A c) where
     left-opened : openingQueue s later (s .modulus + 1 - k) (c .holdbackLeft) ≡ frames
     left-opened =
         ap (openingQueue s later (s .modulus + 1 - k)) (a .left-is)
-        ∙ board-next s (c .clock) (a .least) (a .asking) (c .holdback) (a .entries) (a .board) k few
+        ∙ board-next s (c .clock) least (a .asking) (c .holdback) (a .entries) (a .board) k few
 
 -- so the call that follows, where its least due clock is the one after this clock
-module _ (A : Type 0) (i j : BoardCall A) (k : ℕ) (a : Attended A i) (b : Attended A j) (f : Follows A i j k) (few : k ≤ i .setup .epsilon) (least : b .least ≡ i .setup .modulus + 1 - k) where
-  opened-then : boardOpened (j .setup) (j .clock) (b .least) (b .asking) (j .holdback) (b .entries) ≡ frames A i a
-  opened-then = rw (f .setup, f .clock, f .holdback, least) (left-opened A i a k few)
+module _ (A : Type 0) (i j : BoardCall A) (k least next : ℕ) (a : Attended A i least) (b : Attended A j next) (f : Follows A i j k) (few : k ≤ i .setup .epsilon) (next-is : next ≡ i .setup .modulus + 1 - k) where
+  opened-then : boardOpened (j .setup) (j .clock) next (b .asking) (j .holdback) (b .entries) ≡ frames A i least a
+  opened-then = rw (f .setup, f .clock, f .holdback, next-is) (left-opened A i least a k few)
 
-  number-then : dueBy (j .setup) (j .clock) (boardOpened (j .setup) (j .clock) (b .least) (b .asking) (j .holdback) (b .entries)) ≡ numberWithin (i .setup) (i .clock) k (i .kept)
+  number-then : dueBy (j .setup) (j .clock) (boardOpened (j .setup) (j .clock) next (b .asking) (j .holdback) (b .entries)) ≡ numberWithin (i .setup) (i .clock) k (i .kept)
   number-then =
       ap (dueBy (j .setup) (j .clock)) opened-then
-      ∙ (ap (λ (s : Setup). dueBy s (j .clock) (frames A i a)) (f .setup)
-      ∙ (ap (λ (v : ℕ). dueBy (i .setup) v (frames A i a)) (f .clock)
-      ∙ (due-by-then A i a k few ∙ ap (numberWithin (i .setup) (i .clock) k) (sym (a .kept-is)))))
+      ∙ (ap (λ (s : Setup). dueBy s (j .clock) (frames A i least a)) (f .setup)
+      ∙ (ap (λ (v : ℕ). dueBy (i .setup) v (frames A i least a)) (f .clock)
+      ∙ (due-by-then A i least a k few ∙ ap (numberWithin (i .setup) (i .clock) k) (sym (a .kept-is)))))
 
   foretold : (own : ℕ) → own < i .setup .n → j .taken ≡ 0 → j .delivered ≡ poll (i .setup) own (i .clock) k (i .holdbackLeft) .within
   foretold own below quiet =
       b .delivered-is
-      ∙ (board-quiet (j .setup) (j .clock) (b .least) (b .asking) (j .holdback) (b .entries) (sym (b .taken-is) ∙ quiet)
-      ∙ (number-then ∙ sym (ap (λ (p : PollAnswer). p .within) (left-told A i a own k below))))
+      ∙ (board-quiet (j .setup) (j .clock) next (b .asking) (j .holdback) (b .entries) (sym (b .taken-is) ∙ quiet)
+      ∙ (number-then ∙ sym (ap (λ (p : PollAnswer). p .within) (left-told A i least a own k below))))
 
 -- a station's tick
-tick-attended : (i : Input) → tick i .answer .number ≡ 0 → Attended Timestamp (tickCall i)
+tick-attended : (i : Input) → tick i .answer .number ≡ 0 → Attended Timestamp (tickCall i) (leastDue (i .setup) (i .clock) (i .tables))
 unfolding keptOf heardOf openedQueue acceptance deliveredOf earlyOf
 tick-attended i e =
     let a = accepted-call i e in
     record {
-      least = leastDue (i .setup) (i .clock) (i .tables);
       asking = judgeQuestions (i .setup) (i .clock);
       entries = batchEntries (i .batch);
       board = tick-board i a;
@@ -160,23 +158,21 @@ tick-attended i e =
     }
 
 pub polls-what-is-left : PollsWhatIsLeft
-polls-what-is-left i d e = told Timestamp (tickCall i) (tick-attended i e) (i .own) d (accepted-call i e .own-below)
+polls-what-is-left i d e = told Timestamp (tickCall i) (leastDue (i .setup) (i .clock) (i .tables)) (tick-attended i e) (i .own) d (accepted-call i e .own-below)
 
 tick-follows : (i j : Input) (k : ℕ) → tick i .answer .number ≡ 0 → Follows Timestamp (tickCall i) (tickCall j) k → 1 ≤ k → k ≤ i .setup .epsilon → leastDue (j .setup) (j .clock) (j .tables) ≡ i .setup .modulus + 1 - k
 tick-follows i j k e f pos few = rw (f .setup, f .clock, f .given) (least-next i k (accepted-call i e) pos few)
 
 pub poll-foretells : PollForetells
-unfolding tick-attended leastDue
 poll-foretells i j k e e′ f pos few =
-    foretold Timestamp (tickCall i) (tickCall j) k (tick-attended i e) (tick-attended j e′) f few (tick-follows i j k e f pos few) (i .own) (accepted-call i e .own-below)
+    foretold Timestamp (tickCall i) (tickCall j) k (leastDue (i .setup) (i .clock) (i .tables)) (leastDue (j .setup) (j .clock) (j .tables)) (tick-attended i e) (tick-attended j e′) f few (tick-follows i j k e f pos few) (i .own) (accepted-call i e .own-below)
 
 -- an observer's call
-listen-attended : (i : Listening) → listen i .number ≡ 0 → Attended ℕ (listenCall i)
+listen-attended : (i : Listening) → listen i .number ≡ 0 → Attended ℕ (listenCall i) (observerLeast i)
 unfolding observerKept observerHeard observerOpened observerDelivered listened
 listen-attended i e =
     let a = listen-accepted i e in
     record {
-      least = observerLeast i;
       asking = observerQuestions (i .setup) (i .clock);
       entries = batchEntries (i .batch);
       board = listen-board i a;
@@ -187,13 +183,12 @@ listen-attended i e =
     }
 
 pub polls-what-observers-leave : PollsWhatObserversLeave
-polls-what-observers-leave i own d below e = told ℕ (listenCall i) (listen-attended i e) own d below
+polls-what-observers-leave i own d below e = told ℕ (listenCall i) (observerLeast i) (listen-attended i e) own d below
 
 listen-follows : (i j : Listening) (k : ℕ) → listen i .number ≡ 0 → Follows ℕ (listenCall i) (listenCall j) k → 1 ≤ k → k ≤ i .setup .epsilon → observerLeast j ≡ i .setup .modulus + 1 - k
 unfolding observerLeast lastSound
 listen-follows i j k e f pos few = rw (f .setup, f .clock, f .given) (last-least i k (listen-accepted i e) pos few)
 
 pub poll-foretells-observers : PollForetellsObservers
-unfolding listen-attended observerLeast
 poll-foretells-observers i j own k below e e′ f pos few =
-    foretold ℕ (listenCall i) (listenCall j) k (listen-attended i e) (listen-attended j e′) f few (listen-follows i j k e f pos few) own below
+    foretold ℕ (listenCall i) (listenCall j) k (observerLeast i) (observerLeast j) (listen-attended i e) (listen-attended j e′) f few (listen-follows i j k e f pos few) own below
