@@ -1,4 +1,4 @@
--- `Words` has the laws of tables in bytes and of answers in one number, `LongWords` those of an engine's, `Fresh` those of the tables with which a station starts.
+-- `Words` has the laws of tables in bytes and of answers in one number, `LongWords` those of an engine's, `Fresh` those of a start.
 mod Words
 mod LongWords
 mod Fresh
