@@ -1,4 +1,4 @@
-//! Sixty-three small faults that can be planted in the oracle, to show that a comparison finds them.
+//! Sixty-nine small faults that can be planted in the oracle, to show that a comparison finds them.
 //! Without the feature `plant` nothing of this is left in the code.
 //!
 //!  1. the writer alone refuses a buffer of exactly the frame's length
@@ -64,15 +64,21 @@
 //! 61. an engine's tables pass as sound after a step of ε + 1
 //! 62. an engine's writer refuses a buffer of exactly the frame's length
 //! 63. the byte after an engine's last held frame is not cleared
+//! 64. an engine's start at 2^63 is taken
+//! 65. the count of an engine's fresh tables stands one offset too low
+//! 66. an engine's start is asked for a B
+//! 67. an observer's start is taken at a clock of more than two bytes, of which it keeps two: 5 of 65,541
+//! 68. an observer's start is asked for an own number
+//! 69. an observer's start at B is taken
 
 use std::ops::RangeInclusive;
 
 /// How many faults there are.
-pub const COUNT: u8 = 63;
+pub const COUNT: u8 = 69;
 /// Those that are in the program `yard` alone.
 pub const OF_YARD: RangeInclusive<u8> = 39..=47;
 /// Those that are in engines (02, 2.9) alone.
-pub const OF_ENGINES: RangeInclusive<u8> = 48..=63;
+pub const OF_ENGINES: RangeInclusive<u8> = 48..=66;
 
 #[cfg(feature = "plant")]
 mod switch {

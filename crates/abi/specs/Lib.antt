@@ -1,5 +1,5 @@
--- `Packing` says how numbers and tables stand in bytes and bits at the boundary to C, `Fresh` with which tables a station starts, `Refusals` what a refused call gives back,
--- `Narrowing` which bytes of an engine's tables are the station's.
+-- `Packing` says how numbers and tables stand in bytes and bits at the boundary to C, `Fresh` with what a station, an observer and an engine start,
+-- `Refusals` what a refused call gives back, `Narrowing` which bytes of an engine's tables are the station's.
 pub mod Packing
 pub mod Fresh
 pub mod Refusals
