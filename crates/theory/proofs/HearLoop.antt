@@ -16,7 +16,7 @@ use Rattle.laws.proofs.Numbers.{lt-or-ge, clash, and-intro, and-left, and-right
 use Rattle.laws.proofs.Lists.{any-of-mem, any-of-false, mem-of-insertAt, mem-insertAt-old, mem-insertAt-new}
 use Rattle.model.specs.Codec.{frameOf}
 use Rattle.model.specs.Setup.{Setup}
-use Rattle.model.specs.Timestamp.{Timestamp, countsFrom, sum, atMost}
+use Rattle.model.specs.Timestamp.{Timestamp, countAt, countsFrom, sum, atMost}
 use Rattle.model.specs.Frame.{Frame, encode, decode}
 use Rattle.model.specs.Order.{readingOf, due}
 use Rattle.model.specs.Holdback.{sameOrigin, notEarly}
@@ -42,7 +42,7 @@ pub record Arrival (s : Setup) (floor : ℕ) (nodes : List Node) (past : List Do
   pub at : getElem? past k ≡ some m
   pub sent : sends m ≡ true
   pub event : CallEvent s m
-  pub bounded : Bounded s floor nodes (m .clock) (eventFrame s m .stamp .kn)
+  pub bounded : Bounded (s .epsilon) floor nodes (m .clock) (eventFrame s m .stamp .kn)
   pub not-ahead : m .clock < v + s .epsilon
   pub not-late : v ≤ m .clock + s .delta + s .epsilon
 
@@ -53,14 +53,14 @@ Entry s floor nodes past v bytes stale = v + s .epsilon ≤ floor
 -- who hears at v: no clock is more than ε ahead of the one before v, and no two calls sent one message
 pub record Around (s : Setup) (nodes : List Node) (past : List Done) (v : ℕ) : Type 0 where
   pub limits : Limits s
-  pub none-ahead : (w : ℕ) → 1 ≤ reached (s .epsilon) nodes w → w < v + s .epsilon + s .epsilon
+  pub none-ahead : (x : ℕ) → 1 ≤ reached nodes x → x < v + s .epsilon
   pub unique :
       (k l : ℕ) (a b : Done) → getElem? past k ≡ some a → getElem? past l ≡ some b → sends a ≡ true → sends b ≡ true
       → a .own ≡ b .own → a .clock ≡ b .clock → k ≡ l
 
 -- a station has not reached v, as is the one that hears: so no count for v or later is full
 abbrev pub Unreached : Setup → List Node → ℕ → Type 0
-Unreached s nodes v = (w : ℕ) → v + s .epsilon ≤ w → reached (s .epsilon) nodes w < s .n
+Unreached s nodes v = (x : ℕ) → v ≤ x → reached nodes x < s .n
 
 -- the queue half: the queue is sound, and holds of the covered messages those heard that are not yet due
 pub record QueueLoop (s : Setup) (from : ℕ) (past : List Done) (v : ℕ) (heard : ℕ → Bool) (queue : List Frame) : Type 0 where
@@ -71,8 +71,8 @@ pub record QueueLoop (s : Setup) (from : ℕ) (past : List Done) (v : ℕ) (hear
 -- the stamp half: the counts are right, and what the opening stamp knew is known
 pub record StampLoop (s : Setup) (floor : ℕ) (nodes : List Node) (v : ℕ) (opening t : Timestamp) : Type 0 where
   pub absorbing : Absorbing s (v % s .modulus) t
-  pub bounded : Bounded s floor nodes v (t .kn)
-  pub wider : (R : ℕ) (f : Timestamp) → Under R f v opening → Under R f v t
+  pub bounded : Bounded (s .epsilon) floor nodes v (t .kn)
+  pub wider : (R : ℕ) (f : Timestamp) → Under (s .epsilon) R f v opening → Under (s .epsilon) R f v t
 
 -- one entry, by its verdict, whatever is asked
 pub hear-taken :
@@ -134,15 +134,16 @@ module _ (s : Setup) (floor from : ℕ) (settles : Settles s floor from) (nodes 
 
   -- 14
   pub arrival-close : (k : ℕ) (m : Done) → Arrival s floor nodes past v k m → covered from m ≡ true → m .clock + eventFrame s m .stamp .c < v + s .epsilon
+  unfolding countAt
   arrival-close k m a f =
       elim (lt-or-ge (m .clock + eventFrame s m .stamp .c) floor) [
         | inl h ↦
             let b : floor ≤ v = settles .1 v (m .clock) (covered-from from m f) (a .not-ahead) in
             omega (arith, around .limits .epsilon-pos)
         | inr h ↦
-            let c : 1 ≤ reached (s .epsilon) nodes (m .clock + eventFrame s m .stamp .c + s .epsilon) =
-            omega (arith, sound-top (s .n) (s .epsilon) (m .clock) (eventFrame s m .stamp) (a .event .frame .sound), a .bounded (m .clock + eventFrame s m .stamp .c + s .epsilon) (omega arith)) in
-            omega (arith, around .none-ahead (m .clock + eventFrame s m .stamp .c + s .epsilon) c)
+            let c : 1 ≤ reached nodes (m .clock + eventFrame s m .stamp .c) =
+            omega (arith, sound-top (s .n) (s .epsilon) (m .clock) (eventFrame s m .stamp) (a .event .frame .sound), a .bounded (m .clock + eventFrame s m .stamp .c) h) in
+            around .none-ahead (m .clock + eventFrame s m .stamp .c) c
       ]
 
   -- 16: a covered message's frame lies in the queue exactly if it was heard
@@ -203,6 +204,7 @@ module _ (s : Setup) (floor from : ℕ) (settles : Settles s floor from) (nodes 
     pub arrival-room :
         (k : ℕ) (m : Done) → Arrival s floor nodes past v k m → covered from m ≡ true
         → atMost (s .n - 1) (countsFrom (s .epsilon) (readingOf s (v % s .modulus) (eventFrame s m)) (eventFrame s m .stamp .kn) (s .modulus)) ≡ true
+    unfolding countAt
     arrival-room k m a f =
         at-most-past-to (s .n - 1) (s .epsilon) (readingOf s (v % s .modulus) (eventFrame s m)) (eventFrame s m .stamp .kn) (s .modulus) each
       where
@@ -211,12 +213,12 @@ module _ (s : Setup) (floor from : ℕ) (settles : Settles s floor from) (nodes 
 
         each : (x : ℕ) → s .modulus + s .epsilon ≤ x → placedAt (readingOf s (v % s .modulus) (eventFrame s m)) (eventFrame s m .stamp .kn) x ≤ s .n - 1
         each x h =
-            let w : s .modulus + (v + x - s .modulus) ≡ v + x = omega arith in
+            let y : ℕ = v + x - (s .modulus + s .epsilon) in
             omega (
               arith,
-              count-moved (readingOf s (v % s .modulus) (eventFrame s m)) (m .clock) (eventFrame s m .stamp .kn) x (v + x - s .modulus) (omega (arith, arrival-reading k m a)),
-              a .bounded (v + x - s .modulus) (omega (arith, settled)),
-              unreached (v + x - s .modulus) (omega arith),
+              count-moved (readingOf s (v % s .modulus) (eventFrame s m)) (m .clock) (eventFrame s m .stamp .kn) x (y + s .epsilon) (omega (arith, arrival-reading k m a)),
+              a .bounded y (omega (arith, settled)),
+              unreached y (omega arith),
             )
 
     pub loop-verdict :
@@ -397,7 +399,7 @@ module _ (s : Setup) (floor from : ℕ) (settles : Settles s floor from) (nodes 
   pub stamp-takes :
       (queue : List Frame) (opening t : Timestamp) → StampLoop s floor nodes v opening t → (k : ℕ) (m : Done) → Arrival s floor nodes past v k m
       → firstNo (judgeQuestions s (v % s .modulus) queue (messageBytes m)) ≡ 0
-      → Under (m .clock) (eventFrame s m .stamp) v (absorbBy (firstNo (judgeQuestions s (v % s .modulus) queue (messageBytes m))) s (v % s .modulus) (decode (s .epsilon) (messageBytes m)) t)
+      → Under (s .epsilon) (m .clock) (eventFrame s m .stamp) v (absorbBy (firstNo (judgeQuestions s (v % s .modulus) queue (messageBytes m))) s (v % s .modulus) (decode (s .epsilon) (messageBytes m)) t)
   stamp-takes queue opening t loop k m a e =
       rw (e, arrival-decoded k m a)
       (absorb-under (s .n) (s .epsilon) (s .modulus) v (readingOf s (v % s .modulus) (eventFrame s m)) (m .clock) t (eventFrame s m .stamp)
@@ -417,13 +419,13 @@ module _ (s : Setup) (floor from : ℕ) (settles : Settles s floor from) (nodes 
             under-absorb (s .epsilon) (s .modulus) v (readingOf s (v % s .modulus) (decode (s .epsilon) bytes)) R g t (decode (s .epsilon) bytes .stamp) (loop .absorbing .opened .wide) (loop .wider R g u);
       }
     where
-      bounded : (o : Source) → Entry s floor nodes past v bytes o → Bounded s floor nodes v (absorbBy 0 s (v % s .modulus) (decode (s .epsilon) bytes) t .kn)
+      bounded : (o : Source) → Entry s floor nodes past v bytes o → Bounded (s .epsilon) floor nodes v (absorbBy 0 s (v % s .modulus) (decode (s .epsilon) bytes) t .kn)
       bounded stale early =
-          early-bounded s floor nodes v (absorbBy 0 s (v % s .modulus) (decode (s .epsilon) bytes) t .kn)
+          early-bounded (s .epsilon) floor nodes v (absorbBy 0 s (v % s .modulus) (decode (s .epsilon) bytes) t .kn)
           (absorb-wide (s .epsilon) (s .modulus) (readingOf s (v % s .modulus) (decode (s .epsilon) bytes)) t (decode (s .epsilon) bytes .stamp)) early
       bounded (sentBy k) (m, a, e) =
           rw (e, arrival-decoded k m a)
-          (absorb-bounded s floor nodes v (readingOf s (v % s .modulus) (eventFrame s m)) (m .clock) t (eventFrame s m .stamp) (loop .absorbing .opened .wide) (arrival-reading k m a) (loop .bounded) (a .bounded))
+          (absorb-bounded (s .epsilon) (s .modulus) floor nodes v (readingOf s (v % s .modulus) (eventFrame s m)) (m .clock) t (eventFrame s m .stamp) (loop .absorbing .opened .wide) (arrival-reading k m a) (loop .bounded) (a .bounded))
 
   pub stamp-one :
       (queue : List Frame) (opening t : Timestamp) (bytes : List ℕ) (o : Source) → StampLoop s floor nodes v opening t → Entry s floor nodes past v bytes o

@@ -55,8 +55,8 @@ module _ (s : Setup) (floor from : ℕ) (w : World) (call : Call) (node : Node) 
   unfolding nodeAfter
   kind′ = refl
 
-  grows : (u : ℕ) → reached (s .epsilon) (w .nodes) u ≤ reached (s .epsilon) nodes′ u
-  grows u = reached-grows (s .epsilon) (w .nodes) u (call .node) node node′ (legal .at) kind′ (omega (arith, clock′, legal .called .turn))
+  grows : (x : ℕ) → reached (w .nodes) x ≤ reached nodes′ x
+  grows x = reached-grows (w .nodes) x (call .node) node node′ (legal .at) kind′ (omega (arith, clock′, legal .called .turn))
 
   was : (j : ℕ) (a : Node) → getElem? nodes′ j ≡ some a → (b : Node) × (getElem? (w .nodes) j ≡ some b) × (a .own ≡ b .own) × (a .listens ≡ b .listens)
   was j a at =
@@ -178,16 +178,16 @@ module _ (s : Setup) (floor from : ℕ) (w : World) (call : Call) (node : Node) 
     ticks = record { due = legal .called; station = station }
 
     -- it has reached v, one station more
-    gains : reached (s .epsilon) nodes′ (v + s .epsilon) ≡ suc (reached (s .epsilon) (w .nodes) (v + s .epsilon))
+    gains : reached nodes′ v ≡ suc (reached (w .nodes) v)
     gains =
-        reached-gains (s .epsilon) (w .nodes) v (call .node) node node′ (legal .at) (kind′ ∙ station)
+        reached-gains (w .nodes) v (call .node) node node′ (legal .at) (kind′ ∙ station)
         (omega (arith, legal .called .turn, legal .called .step-pos)) (omega (arith, clock′))
 
     -- the new counts
-    bounded′ : Bounded s floor nodes′ v (eventFrame s (doneOf node call) .stamp .kn)
+    bounded′ : Bounded (s .epsilon) floor nodes′ v (eventFrame s (doneOf node call) .stamp .kn)
     bounded′ =
-        subst (λ (t : Timestamp). Bounded s floor nodes′ v (t .kn)) (sym (event-own s node call ticks))
-        (own-bounded s floor (w .nodes) nodes′ v (v % s .modulus) (heardStamp (inputOf node call)) (ends .stamp station .absorbing .opened .wide)
+        subst (λ (t : Timestamp). Bounded (s .epsilon) floor nodes′ v (t .kn)) (sym (event-own s node call ticks))
+        (own-bounded (s .epsilon) floor (w .nodes) nodes′ v (v % s .modulus) (heardStamp (inputOf node call)) (ends .stamp station .absorbing .opened .wide)
         (ends .limits .epsilon-pos) grows gains (ends .stamp station .bounded))
 
     new-settled : Settled s floor nodes′ (doneOf node call)
@@ -195,7 +195,7 @@ module _ (s : Setup) (floor from : ℕ) (w : World) (call : Call) (node : Node) 
         record {
           event = event-made s node call ticks;
           maker = new-maker;
-          bounded = subst (λ (v : ℕ). Bounded s floor nodes′ v (eventFrame s (doneOf node call) .stamp .kn)) (sym (done-clock s node call (legal .called))) bounded′;
+          bounded = subst (λ (v : ℕ). Bounded (s .epsilon) floor nodes′ v (eventFrame s (doneOf node call) .stamp .kn)) (sym (done-clock s node call (legal .called))) bounded′;
         }
 
     -- no call of this station was for this clock before
@@ -221,7 +221,7 @@ module _ (s : Setup) (floor from : ℕ) (w : World) (call : Call) (node : Node) 
             record {
               event = st .event;
               maker = maker′ d (st .maker);
-              bounded = bounded-grows s floor (w .nodes) nodes′ (d .clock) (eventFrame s d .stamp .kn) grows (st .bounded);
+              bounded = bounded-grows (s .epsilon) floor (w .nodes) nodes′ (d .clock) (eventFrame s d .stamp .kn) grows (st .bounded);
             }
         | inr q ↦ subst (Settled s floor nodes′) (sym (q .1)) (new-settled (last-kind d (q .1) made))
       ]
@@ -262,7 +262,7 @@ module _ (s : Setup) (floor from : ℕ) (w : World) (call : Call) (node : Node) 
             let t = l .stamp station in
             record {
               tables = t .tables;
-              bounded = bounded-grows s floor (w .nodes) nodes′ (a .clock) (trimmed (s .epsilon) (a .tables) .kn) grows (t .bounded);
+              bounded = bounded-grows (s .epsilon) floor (w .nodes) nodes′ (a .clock) (trimmed (s .epsilon) (a .tables) .kn) grows (t .bounded);
               passed-on = λ k d at made same.
                   elim (getElem?-snoc-cases (w .past) (doneOf node call) k at) [
                     | inl q ↦ t .passed-on k d q made same
@@ -317,8 +317,8 @@ module _ (s : Setup) (floor from : ℕ) (w : World) (call : Call) (node : Node) 
         record {
           tables = tables-left s node call (ticks station);
           bounded =
-              subst (λ (x : ℕ). Bounded s floor nodes′ x (trimmed (s .epsilon) (node′ .tables) .kn)) (sym clock′)
-              (subst (λ (t : Timestamp). Bounded s floor nodes′ v (t .kn)) (sym tables-here) (bounded′ station));
+              subst (λ (x : ℕ). Bounded (s .epsilon) floor nodes′ x (trimmed (s .epsilon) (node′ .tables) .kn)) (sym clock′)
+              (subst (λ (t : Timestamp). Bounded (s .epsilon) floor nodes′ v (t .kn)) (sym tables-here) (bounded′ station));
           passed-on = λ k d at made same.
               subst (λ (x : ℕ). Passed-on s d x (trimmed (s .epsilon) (node′ .tables))) (sym clock′)
               (subst (λ (t : Timestamp). Passed-on s d v t) (sym tables-here) (passes-on k d at made same));

@@ -124,14 +124,14 @@ module _ (s : Setup) (floor from : ℕ) (w : World) (i : ℕ) (node : Node) (k :
   left-opens-stamp : LeftStamp s floor w i node → (v : ℕ) → OpensStamp s floor w i (node .clock + k) (step k v (trimmed (s .epsilon) (node .tables)))
   left-opens-stamp left v =
       record {
-        bounded = step-bounded s floor (w .nodes) k (node .clock) v (trimmed (s .epsilon) (node .tables)) (left .bounded);
+        bounded = step-bounded (s .epsilon) floor (w .nodes) k (node .clock) v (trimmed (s .epsilon) (node .tables)) (left .bounded);
         passed-on = λ j d at made same.
             let r = left .passed-on j d at made same in
             record {
               last = r .last;
               sound = r .sound;
               comes = r .comes;
-              under = under-step k (node .clock) v (r .last .clock) _ (trimmed (s .epsilon) (node .tables)) (r .under);
+              under = under-step (s .epsilon) k (node .clock) v (r .last .clock) _ (trimmed (s .epsilon) (node .tables)) (r .under);
             };
       }
 
@@ -150,7 +150,7 @@ module _ (s : Setup) (floor from : ℕ) (w : World) (i : ℕ) (node : Node) (k :
   untouched-opens-stamp : Untouched s floor w i node → (t : Timestamp) → length (t .kn) ≡ width (s .epsilon) → OpensStamp s floor w i (node .clock + k) t
   untouched-opens-stamp old t wide =
       record {
-        bounded = early-bounded s floor (w .nodes) (node .clock + k) (t .kn) wide (omega (arith, old .early));
+        bounded = early-bounded (s .epsilon) floor (w .nodes) (node .clock + k) (t .kn) wide (omega (arith, old .early));
         passed-on = λ j d at made same. absurd (old .uncalled j d at made same);
       }
 

@@ -11,13 +11,13 @@ use mathlib.Core.Option.{Option, some}
 use lib.ListN.{length, take, getD, getElem?}
 use lib.Seq.{take-all}
 use borrow.Author.Tests.{lt-ltb, le-ltb, ltb-true, eq-eqb, eqb-true}
-use Rattle.laws.specs.Lists.{any, select, sortBy, placedAt, foldLeft}
+use Rattle.laws.specs.Lists.{any, select, sortBy, foldLeft}
 use Rattle.laws.specs.Lex.{lexCompare}
 use Rattle.laws.proofs.Numbers.{eq-or-ne, lt-or-ge, or-left, or-cases, not-of-false}
 use Rattle.laws.proofs.Lists.{getElem?-in, getElem?-lt, getElem?-getD, mem-select, mem-of-select}
 use Rattle.laws.proofs.Lex.{lex-trans}
 use Rattle.model.specs.Setup.{Setup, width}
-use Rattle.model.specs.Timestamp.{Timestamp, sum}
+use Rattle.model.specs.Timestamp.{Timestamp, countAt, sum}
 use Rattle.model.specs.Frame.{Frame, decode}
 use Rattle.model.specs.Order.{readingOf, key, due, dueNear}
 use Rattle.model.specs.Holdback.{heldBytes}
@@ -69,14 +69,14 @@ module _ (s : Setup) (floor from : ℕ) (settles : Settles s floor from) (w : Wo
       record {
         limits = good .group .limits (call .node) node (legal .at);
         none-ahead = λ u h.
-            let r = reached-some (s .epsilon) (w .nodes) u h in
+            let r = reached-some (w .nodes) u h in
             omega (arith, r .3, legal .called .turn, legal .called .step-pos, good .group .together (r .0) (call .node) (r .1) node (r .2) (legal .at));
         unique = λ k l a b p q x y.
             good .unique k l a b p q (sends-event a x) (sends-event b y);
       }
 
   pub unreached : node .listens ≡ false → Unreached s (w .nodes) v
-  unreached station u h = omega (arith, reached-not-all (s .epsilon) (w .nodes) u (call .node) node (legal .at) station (omega (arith, legal .called .turn, legal .called .step-pos)), good .group .few)
+  unreached station u h = omega (arith, reached-not-all (w .nodes) u (call .node) node (legal .at) station (omega (arith, legal .called .turn, legal .called .step-pos)), good .group .few)
 
   pub entry-at :
       (e : ℕ) (bytes : List ℕ) (o : Source) → getElem? (batchEntries (call .batch)) e ≡ some bytes → getElem? (call .sources) e ≡ some o
@@ -357,21 +357,21 @@ module _ (s : Setup) (floor from : ℕ) (settles : Settles s floor from) (w : Wo
     stamp-all = stamps-end (openingStamp s (v % s .modulus) (node .tables)) (stamp-at many (omega arith))
 
     causes :
-        (R : ℕ) (f : Frame) → Sound (s .n) (s .epsilon) (f .stamp) → Under R (f .stamp) v (heardStamp (inputOf node call))
+        (R : ℕ) (f : Frame) → Sound (s .n) (s .epsilon) (f .stamp) → Under (s .epsilon) R (f .stamp) v (heardStamp (inputOf node call))
         → lexCompare (key s R f) (eventKey s (doneOf node call)) ≡ Ordering·lt
     unfolding eventKey
     causes R f sound under =
         subst (λ (u : ℕ). lexCompare (key s R f) (key s u (eventFrame s (doneOf node call))) ≡ Ordering·lt) (sym (done-clock s node call (legal .called)))
         (cause-first s R v f (eventFrame s (doneOf node call)) sound (event-made s node call ticks .frame .sound) (more .sums) (more .counts)
-        (subst (λ (t : Timestamp). placedAt R (f .stamp .kn) (v + s .epsilon) < placedAt v (t .kn) (v + s .epsilon)) (sym (event-own s node call ticks))
+        (subst (λ (t : Timestamp). countAt (s .epsilon) R (f .stamp .kn) v < countAt (s .epsilon) v (t .kn) v) (sym (event-own s node call ticks))
         (own-strict (s .epsilon) v (v % s .modulus) R (f .stamp) (heardStamp (inputOf node call)) wide (around .limits .epsilon-pos) under)))
       where
         wide : length (heardStamp (inputOf node call) .kn) ≡ width (s .epsilon)
         wide = stamp-all .absorbing .opened .wide
 
-        more : Under R (f .stamp) v (eventFrame s (doneOf node call) .stamp)
+        more : Under (s .epsilon) R (f .stamp) v (eventFrame s (doneOf node call) .stamp)
         more =
-            subst (λ (t : Timestamp). Under R (f .stamp) v t) (sym (event-own s node call ticks))
+            subst (λ (t : Timestamp). Under (s .epsilon) R (f .stamp) v t) (sym (event-own s node call ticks))
             (own-under (s .epsilon) v (v % s .modulus) R (f .stamp) (heardStamp (inputOf node call)) wide (around .limits .epsilon-pos) under)
 
     comes-later :
@@ -418,9 +418,9 @@ module _ (s : Setup) (floor from : ℕ) (settles : Settles s floor from) (w : Wo
             ∙ ap (λ (asking : Asking). absorbBy (firstNo (asking (stateAt s v node call e .queue) (messageBytes m))) s (v % s .modulus) (decode (s .epsilon) (messageBytes m)) (stampAt s v node call e))
             (asking-is s v node call ticks)
 
-        taken : Under (m .clock) (eventFrame s m .stamp) v (stampAt s v node call (suc e))
+        taken : Under (s .epsilon) (m .clock) (eventFrame s m .stamp) v (stampAt s v node call (suc e))
         taken =
-            subst (λ (t : Timestamp). Under (m .clock) (eventFrame s m .stamp) v t) (sym next)
+            subst (λ (t : Timestamp). Under (s .epsilon) (m .clock) (eventFrame s m .stamp) v t) (sym next)
             (stamp-takes s floor from settles (w .nodes) (w .past) v around (stateAt s v node call e .queue) (openingStamp s (v % s .modulus) (node .tables)) (stampAt s v node call e)
             (stamp-at e (omega (arith, inside))) k m (r .0) verdict)
 
