@@ -11,8 +11,8 @@ use mathlib.Core.Option.{some}
 use lib.Dec.{leb, eqb}
 use lib.ListN.{getElem?}
 use Rattle.laws.specs.Lists.{any, insertAt, placedAt}
-use borrow.Author.Tests.{leb-true, leb-false, eqb-true, eq-eqb}
-use Rattle.laws.proofs.Numbers.{lt-or-ge, clash, and-intro, and-left, and-right, and-false-cases, or-left, or-right, or-cases, false-of-no}
+use borrow.Author.Tests.{leb-true, le-leb, eqb-true, eq-eqb}
+use Rattle.laws.proofs.Numbers.{lt-or-ge, clash, and-intro, and-left, and-right, or-left, or-right, or-cases, false-of-no}
 use Rattle.laws.proofs.Lists.{any-of-mem, any-of-false, mem-of-insertAt, mem-insertAt-old, mem-insertAt-new}
 use Rattle.model.specs.Codec.{frameOf}
 use Rattle.model.specs.Setup.{Setup}
@@ -27,7 +27,7 @@ use Rattle.theory.specs.Demand3.{covered, isFrom}
 use Rattle.lemmas.proofs.Bounds.{Limits, QueueOk}
 use Rattle.lemmas.proofs.Counts.{count-moved, sound-top, at-most-past-to, absorb-wide}
 use Rattle.lemmas.proofs.RoundTrip.{decode-encode}
-use Rattle.lemmas.proofs.Queue.{early-from, early-to, reading-high, Passed, Places, judged-passed, passed-judged, repeat-judged, observed-passed, passed-observed, repeat-observed, queue-take}
+use Rattle.lemmas.proofs.Queue.{early-from, early-to, Passed, Places, judged-passed, passed-judged, repeat-judged, observed-passed, passed-observed, repeat-observed, queue-take}
 use Rattle.lemmas.proofs.OneTick.{Absorbing, absorbing-one}
 use Rattle.theory.proofs.Event.{event-reads}
 use Rattle.theory.proofs.Stamps.{early-bounded, absorb-bounded, absorb-under, under-absorb}
@@ -63,9 +63,9 @@ abbrev pub Unreached : Setup → List Node → ℕ → Type 0
 Unreached s nodes v = (x : ℕ) → v ≤ x → reached nodes x < s .n
 
 -- the queue half: the queue is sound, and holds of the covered messages those heard that are not yet due
-pub record QueueLoop (s : Setup) (from : ℕ) (past : List Done) (v : ℕ) (heard : ℕ → Bool) (queue : List Frame) : Type 0 where
+pub record QueueLoop (s : Setup) (floor from : ℕ) (past : List Done) (v : ℕ) (heard : ℕ → Bool) (queue : List Frame) : Type 0 where
   pub sound : QueueOk s (v % s .modulus) (s .modulus) queue
-  pub members : AllExplained s from past heard v queue
+  pub members : AllExplained s floor past heard v queue
   pub present : AllPresent s from past heard v queue
 
 -- the stamp half: the counts are right, and what the opening stamp knew is known
@@ -99,13 +99,9 @@ pub covered-from : (from : ℕ) (m : Done) → covered from m ≡ true → from 
 unfolding covered
 covered-from from m e = leb-true from (m .clock) (and-right (sends m) (leb from (m .clock)) e)
 
-not-covered : (from : ℕ) (m : Done) → sends m ≡ true → covered from m ≡ false → m .clock < from
+pub covered-of : (from : ℕ) (m : Done) → sends m ≡ true → from ≤ m .clock → covered from m ≡ true
 unfolding covered
-not-covered from m e f =
-    elim (and-false-cases (sends m) (leb from (m .clock)) f) [
-      | inl q ↦ absurd (clash e q)
-      | inr q ↦ leb-false from (m .clock) q
-    ]
+covered-of from m e h = and-intro e (le-leb from (m .clock) h)
 
 pub some-inj : {A : Type 0} {x y : A} → some x ≡ some y → x ≡ y
 some-inj e = cc
@@ -148,7 +144,7 @@ module _ (s : Setup) (floor from : ℕ) (settles : Settles s floor from) (nodes 
 
   -- 16: a covered message's frame lies in the queue exactly if it was heard
   pub arrival-new :
-      (heard : ℕ → Bool) (queue : List Frame) → AllExplained s from past heard v queue → (k : ℕ) (m : Done) → Arrival s floor nodes past v k m
+      (heard : ℕ → Bool) (queue : List Frame) → AllExplained s floor past heard v queue → (k : ℕ) (m : Done) → Arrival s floor nodes past v k m
       → covered from m ≡ true → heard k ≡ false → any (sameOrigin (eventFrame s m)) queue ≡ false
   arrival-new heard queue members k m a f no-k =
       any-of-false (sameOrigin (eventFrame s m)) queue (λ g mem. false-of-no (sameOrigin (eventFrame s m) g) (λ same. clashes g same (members g mem)))
@@ -156,12 +152,12 @@ module _ (s : Setup) (floor from : ℕ) (settles : Settles s floor from) (nodes 
       reads : (g : Frame) → sameOrigin (eventFrame s m) g ≡ true → readingOf s (v % s .modulus) g + v ≡ s .modulus + m .clock
       reads g same = rw (← same-reading s (v % s .modulus) (eventFrame s m) g same) (arrival-reading k m a)
 
-      clashes : (g : Frame) → sameOrigin (eventFrame s m) g ≡ true → Explained s from past heard v g → ⊥
-      clashes g same (inl h) = omega (arith, reads g same, covered-from from m f)
+      clashes : (g : Frame) → sameOrigin (eventFrame s m) g ≡ true → Explained s floor past heard v g → ⊥
+      clashes g same (inl h) = omega (arith, reads g same, covered-from from m f, settles .0)
       clashes g same (inr x) =
           let c : m .clock ≡ x .1 .clock = omega (arith, reads g same, x .6) in
           let o : m .own ≡ x .1 .own = sym (event-station s m) ∙ (same-station (eventFrame s m) g same ∙ (ap (λ (y : Frame). y .station) (x .5) ∙ event-station s (x .1))) in
-          let q : k ≡ x .0 = around .unique k (x .0) m (x .1) (a .at) (x .2) (a .sent) (covered-sends from (x .1) (x .3)) o c in
+          let q : k ≡ x .0 = around .unique k (x .0) m (x .1) (a .at) (x .2) (a .sent) (x .3) o c in
           clash (ap heard q ∙ x .4) no-k
 
   -- the same as the judge asks
@@ -186,7 +182,7 @@ module _ (s : Setup) (floor from : ℕ) (settles : Settles s floor from) (nodes 
 
   -- so one that was not heard passes
   arrival-passes :
-      (heard : ℕ → Bool) (queue : List Frame) → AllExplained s from past heard v queue → (k : ℕ) (m : Done) → Arrival s floor nodes past v k m
+      (heard : ℕ → Bool) (queue : List Frame) → AllExplained s floor past heard v queue → (k : ℕ) (m : Done) → Arrival s floor nodes past v k m
       → covered from m ≡ true → heard k ≡ false → Passed s (v % s .modulus) queue (eventFrame s m)
   arrival-passes heard queue members k m a f e =
       record { frame = a .event .frame; late = arrival-late k m a; early = arrival-early k m a f; new = arrival-new heard queue members k m a f e }
@@ -195,7 +191,7 @@ module _ (s : Setup) (floor from : ℕ) (settles : Settles s floor from) (nodes 
   pub record TakesOnce (asking : Asking) : Type 0 where
     pub places : Places s (v % s .modulus) asking
     pub verdict :
-        (heard : ℕ → Bool) (queue : List Frame) → QueueLoop s from past v heard queue → (k : ℕ) (m : Done) → Arrival s floor nodes past v k m
+        (heard : ℕ → Bool) (queue : List Frame) → QueueLoop s floor from past v heard queue → (k : ℕ) (m : Done) → Arrival s floor nodes past v k m
         → covered from m ≡ true → firstNo (asking queue (messageBytes m)) ≡ cond (heard k) 16 0
 
   -- 10 to 16 are such questions, where 15 can be answered
@@ -222,7 +218,7 @@ module _ (s : Setup) (floor from : ℕ) (settles : Settles s floor from) (nodes 
             )
 
     pub loop-verdict :
-        (heard : ℕ → Bool) (queue : List Frame) → QueueLoop s from past v heard queue → (k : ℕ) (m : Done) → Arrival s floor nodes past v k m
+        (heard : ℕ → Bool) (queue : List Frame) → QueueLoop s floor from past v heard queue → (k : ℕ) (m : Done) → Arrival s floor nodes past v k m
         → covered from m ≡ true → firstNo (judgeQuestions s (v % s .modulus) queue (messageBytes m)) ≡ cond (heard k) 16 0
     loop-verdict heard queue loop k m a f = rw (a .event .bytes (a .sent)) (go (heard k) refl)
       where
@@ -239,7 +235,7 @@ module _ (s : Setup) (floor from : ℕ) (settles : Settles s floor from) (nodes 
 
   -- 02, 2.6: and so are an observer's, wherever the stations are
   observed-verdict :
-      (heard : ℕ → Bool) (queue : List Frame) → QueueLoop s from past v heard queue → (k : ℕ) (m : Done) → Arrival s floor nodes past v k m
+      (heard : ℕ → Bool) (queue : List Frame) → QueueLoop s floor from past v heard queue → (k : ℕ) (m : Done) → Arrival s floor nodes past v k m
       → covered from m ≡ true → firstNo (observerQuestions s (v % s .modulus) queue (messageBytes m)) ≡ cond (heard k) 16 0
   observed-verdict heard queue loop k m a f = rw (a .event .bytes (a .sent)) (go (heard k) refl)
     where
@@ -257,28 +253,28 @@ module _ (s : Setup) (floor from : ℕ) (settles : Settles s floor from) (nodes 
   module _ (asking : Asking) (once : TakesOnce asking) where
     -- a refused entry leaves all as it was
     queue-keep :
-        (heard heard′ : ℕ → Bool) (h : Heard) (bytes : List ℕ) (k : ℕ) → QueueLoop s from past v heard (h .queue)
+        (heard heard′ : ℕ → Bool) (h : Heard) (bytes : List ℕ) (k : ℕ) → QueueLoop s floor from past v heard (h .queue)
         → firstNo (asking (h .queue) bytes) ≡ suc k
         → ((j : ℕ) → heard j ≡ true → heard′ j ≡ true)
         → ((j : ℕ) (m : Done) → getElem? past j ≡ some m → covered from m ≡ true → heard′ j ≡ true → heard j ≡ true)
-        → QueueLoop s from past v heard′ (hearOne s (v % s .modulus) asking h bytes .queue)
+        → QueueLoop s floor from past v heard′ (hearOne s (v % s .modulus) asking h bytes .queue)
     queue-keep heard heard′ h bytes k loop e more back =
-        subst (QueueLoop s from past v heard′) (sym (hear-refused s (v % s .modulus) asking h bytes k e))
+        subst (QueueLoop s floor from past v heard′) (sym (hear-refused s (v % s .modulus) asking h bytes k e))
         (record {
           sound = loop .sound;
-          members = λ f mem. explained-more s from past heard heard′ v f more (loop .members f mem);
+          members = λ f mem. explained-more s floor past heard heard′ v f more (loop .members f mem);
           present = λ j m at fol hd un. loop .present j m at fol (back j m at fol hd) un;
         })
 
     queue-new :
-        (heard heard′ : ℕ → Bool) (h : Heard) (bytes : List ℕ) (f : Frame) → QueueLoop s from past v heard (h .queue)
+        (heard heard′ : ℕ → Bool) (h : Heard) (bytes : List ℕ) (f : Frame) → QueueLoop s floor from past v heard (h .queue)
         → firstNo (asking (h .queue) bytes) ≡ 0 → decode (s .epsilon) bytes ≡ f
         → ((j : ℕ) → heard j ≡ true → heard′ j ≡ true)
         → ((j : ℕ) (m : Done) → getElem? past j ≡ some m → covered from m ≡ true → heard′ j ≡ true → (heard j ≡ true) ⊎ (eventFrame s m ≡ f))
-        → Explained s from past heard′ v f
-        → QueueLoop s from past v heard′ (hearOne s (v % s .modulus) asking h bytes .queue)
+        → Explained s floor past heard′ v f
+        → QueueLoop s floor from past v heard′ (hearOne s (v % s .modulus) asking h bytes .queue)
     queue-new heard heard′ h bytes f loop e d more back new =
-        subst (QueueLoop s from past v heard′) (sym queue-is)
+        subst (QueueLoop s floor from past v heard′) (sym queue-is)
         (record {
           sound = subst (λ (g : Frame). QueueOk s (v % s .modulus) (s .modulus) (insertAt (placeFor s (v % s .modulus) (h .queue) g) g (h .queue))) d (queue-take s (v % s .modulus) (h .queue) (decode (s .epsilon) bytes) (around .limits) arrival-below (loop .sound) (once .places (h .queue) bytes e));
           members = members;
@@ -293,11 +289,11 @@ module _ (s : Setup) (floor from : ℕ) (settles : Settles s floor from) (nodes 
             hear-taken s (v % s .modulus) asking h bytes e
             ∙ ap (λ (g : Frame). insertAt (placeFor s (v % s .modulus) (h .queue) g) g (h .queue)) d
 
-        members : AllExplained s from past heard′ v (insertAt place f (h .queue))
+        members : AllExplained s floor past heard′ v (insertAt place f (h .queue))
         members g mem =
             elim (mem-of-insertAt place f (h .queue) mem) [
-              | inl q ↦ subst (λ (y : Frame). Explained s from past heard′ v y) (sym q) new
-              | inr q ↦ explained-more s from past heard heard′ v g more (loop .members g q)
+              | inl q ↦ subst (λ (y : Frame). Explained s floor past heard′ v y) (sym q) new
+              | inr q ↦ explained-more s floor past heard heard′ v g more (loop .members g q)
             ]
 
         present : AllPresent s from past heard′ v (insertAt place f (h .queue))
@@ -309,13 +305,13 @@ module _ (s : Setup) (floor from : ℕ) (settles : Settles s floor from) (nodes 
 
     -- one entry
     pub queue-one :
-        (heard heard′ : ℕ → Bool) (h : Heard) (bytes : List ℕ) (o : Source) → QueueLoop s from past v heard (h .queue)
+        (heard heard′ : ℕ → Bool) (h : Heard) (bytes : List ℕ) (o : Source) → QueueLoop s floor from past v heard (h .queue)
         → Entry s floor nodes past v bytes o → ((j : ℕ) → heard′ j ≡ (heard j || isFrom j o))
-        → QueueLoop s from past v heard′ (hearOne s (v % s .modulus) asking h bytes .queue)
+        → QueueLoop s floor from past v heard′ (hearOne s (v % s .modulus) asking h bytes .queue)
     unfolding isFrom
     queue-one heard heard′ h bytes stale loop early is =
         elim (zero-or-suc (firstNo (asking (h .queue) bytes))) [
-          | inl e ↦ queue-new heard heard′ h bytes (decode (s .epsilon) bytes) loop e refl more (λ j m at fol hd. inl (back j hd)) (inl uncovered)
+          | inl e ↦ queue-new heard heard′ h bytes (decode (s .epsilon) bytes) loop e refl more (λ j m at fol hd. inl (back j hd)) (inl (below e))
           | inr e ↦ queue-keep heard heard′ h bytes (e .0) loop (e .1) more (λ j m at fol hd. back j hd)
         ]
       where
@@ -329,12 +325,13 @@ module _ (s : Setup) (floor from : ℕ) (settles : Settles s floor from) (nodes 
               | inr q ↦ absurd (clash q refl)
             ]
 
-        uncovered : readingOf s (v % s .modulus) (decode (s .epsilon) bytes) + v < s .modulus + from
-        uncovered = omega (arith, reading-high s (v % s .modulus) (decode (s .epsilon) bytes) (around .limits), settles .0)
+        below : firstNo (asking (h .queue) bytes) ≡ 0 → readingOf s (v % s .modulus) (decode (s .epsilon) bytes) + decode (s .epsilon) bytes .stamp .c + v < s .modulus + floor
+        below e =
+            omega (arith, early-from s (v % s .modulus) (decode (s .epsilon) bytes) (once .places (h .queue) bytes e .early), early, around .limits .epsilon-pos)
     queue-one heard heard′ h bytes (sentBy k) loop entry is =
-        subst (λ (b : List ℕ). QueueLoop s from past v heard′ (hearOne s (v % s .modulus) asking h b .queue)) (sym (entry .2))
+        subst (λ (b : List ℕ). QueueLoop s floor from past v heard′ (hearOne s (v % s .modulus) asking h b .queue)) (sym (entry .2))
         (elim (zero-or-suc (firstNo (asking (h .queue) (messageBytes m)))) [
-          | inl e ↦ queue-new heard heard′ h (messageBytes m) (eventFrame s m) loop e (arrival-decoded k m a) more taken (explained (covered from m) refl)
+          | inl e ↦ queue-new heard heard′ h (messageBytes m) (eventFrame s m) loop e (arrival-decoded k m a) more taken (inr (k, m, a .at, a .sent, here, refl, arrival-reading k m a))
           | inr e ↦ queue-keep heard heard′ h (messageBytes m) (e .0) loop (e .1) more (kept (e .0) (e .1))
         ])
       where
@@ -381,10 +378,6 @@ module _ (s : Setup) (floor from : ℕ) (settles : Settles s floor from) (nodes 
                 let z : suc x ≡ 0 = sym e ∙ (once .verdict heard (h .queue) loop k m a f ∙ ap (λ (b : Bool). cond b 16 0) p) in
                 let bad : ⊥ = omega arith in
                 absurd bad
-
-        explained : (b : Bool) → covered from m ≡ b → Explained s from past heard′ v (eventFrame s m)
-        explained true f = inr (k, m, a .at, f, here, refl, arrival-reading k m a)
-        explained false f = inl (omega (arith, arrival-reading k m a, not-covered from m (a .sent) f))
 
   -- the stamp half: a taken frame has passed 14
   taken-close :

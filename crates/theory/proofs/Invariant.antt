@@ -112,8 +112,8 @@ module _ (s : Setup) (floor from : ℕ) (w : World) (call : Call) (node : Node) 
   known-at i k m at hd = sym (getElem?-append (w .past) (doneOf node call ∷ []) k (heard-known i k hd)) ∙ at
 
   explained-on :
-      (v j : ℕ) (heard : ℕ → Bool) (f : Frame) → ((k : ℕ) → heard k ≡ true → heardAt past′ j k ≡ true) → Explained s from (w .past) heard v f
-      → Explained s from past′ (heardAt past′ j) v f
+      (v j : ℕ) (heard : ℕ → Bool) (f : Frame) → ((k : ℕ) → heard k ≡ true → heardAt past′ j k ≡ true) → Explained s floor (w .past) heard v f
+      → Explained s floor past′ (heardAt past′ j) v f
   explained-on v j heard f more (inl h) = inl h
   explained-on v j heard f more (inr x) = inr (x .0, x .1, old-at (x .0) (x .1) (x .2), x .3, more (x .0) (x .4), x .5, x .6)
 
@@ -275,7 +275,7 @@ module _ (s : Setup) (floor from : ℕ) (w : World) (call : Call) (node : Node) 
   queue-here : held (s .epsilon) (node′ .holdback) ≡ select (λ f. not (dueNow s (v % s .modulus) f)) (heardOn s v node call .queue)
   queue-here = leaves-queue s node call (legal .called)
 
-  members′ : AllExplained s from past′ (heardAt past′ (call .node)) v (held (s .epsilon) (node′ .holdback))
+  members′ : AllExplained s floor past′ (heardAt past′ (call .node)) v (held (s .epsilon) (node′ .holdback))
   members′ f mem =
       let r = mem-of-select (λ g. not (dueNow s (v % s .modulus) g)) (heardOn s v node call .queue) (subst (λ (q : List Frame). List·Memᴰ f q) queue-here mem) in
       explained-on v (call .node) (heardAt past′ (call .node)) f (λ k h. h) (ends .queue .members f (r .0))
@@ -328,7 +328,7 @@ module _ (s : Setup) (floor from : ℕ) (w : World) (call : Call) (node : Node) 
   here-ok =
       record {
         memory = memory-left s node call (legal .called);
-        members = subst (λ (x : ℕ). AllExplained s from past′ (heardAt past′ (call .node)) x (held (s .epsilon) (node′ .holdback))) (sym clock′) members′;
+        members = subst (λ (x : ℕ). AllExplained s floor past′ (heardAt past′ (call .node)) x (held (s .epsilon) (node′ .holdback))) (sym clock′) members′;
         waiting = subst (λ (x : ℕ). AllWaiting s from past′ (heardAt past′ (call .node)) x (held (s .epsilon) (node′ .holdback))) (sym clock′) waiting′;
         stamp = λ station. stamp-ok (sym kind′ ∙ station);
       }

@@ -45,7 +45,7 @@ use Rattle.theory.proofs.Entries.{heardTo, stateAt, stampAt, state-suc,
 -- what an accepted call for v has come to: the two halves after its last entry, the stamp of a station, and its promises
 pub record Ends (s : Setup) (floor from : ℕ) (w : World) (call : Call) (node : Node) (v : ℕ) : Type 0 where
   pub limits : Limits s
-  pub queue : QueueLoop s from (w .past) v (heardAt (w .past ++ (doneOf node call ∷ [])) (call .node)) (heardOn s v node call .queue)
+  pub queue : QueueLoop s floor from (w .past) v (heardAt (w .past ++ (doneOf node call ∷ [])) (call .node)) (heardOn s v node call .queue)
   pub stamp : node .listens ≡ false → StampLoop s floor (w .nodes) v (openingStamp s (v % s .modulus) (node .tables)) (heardStamp (inputOf node call))
   pub kept : Kept s from (w .past) (doneOf node call)
 
@@ -120,7 +120,7 @@ module _ (s : Setup) (floor from : ℕ) (settles : Settles s floor from) (w : Wo
 
   -- the two halves before entry e
   abbrev pub QueueAt : ℕ → Type 0
-  QueueAt e = QueueLoop s from (w .past) v (heardTo (w .past) call e) (stateAt s v node call e .queue)
+  QueueAt e = QueueLoop s floor from (w .past) v (heardTo (w .past) call e) (stateAt s v node call e .queue)
 
   abbrev pub StampAt : Timestamp → ℕ → Type 0
   StampAt opening e = StampLoop s floor (w .nodes) v opening (stampAt s v node call e)
@@ -143,12 +143,12 @@ module _ (s : Setup) (floor from : ℕ) (settles : Settles s floor from) (w : Wo
 
   queue-next : (e : ℕ) → e < length (batchEntries (call .batch)) → QueueAt e → QueueAt (suc e)
   queue-next e h loop =
-      subst (λ (x : Heard). QueueLoop s from (w .past) v (heardTo (w .past) call (suc e)) (x .queue)) (sym (state-suc s v node call e h))
+      subst (λ (x : Heard). QueueLoop s floor from (w .past) v (heardTo (w .past) call (suc e)) (x .queue)) (sym (state-suc s v node call e h))
       (queue-one s floor from settles (w .nodes) (w .past) v around (askingAt s v node) takes-once (heardTo (w .past) call e) (heardTo (w .past) call (suc e)) (stateAt s v node call e)
       (getD (batchEntries (call .batch)) e []) (getD (call .sources) e stale) loop (entry-here e h) (heard-suc (w .past) call e (omega (arith, legal .lengths))))
 
   -- what it starts from
-  starts : OpensQueue s from w (call .node) (node .clock) v (openedAt s v node)
+  starts : OpensQueue s floor from w (call .node) (node .clock) v (openedAt s v node)
   starts =
       node-opens s floor from w (call .node) node v (call .step) (around .limits) (settles .0) (good .node (call .node) node (legal .at))
       (legal .called .turn) (legal .called .step-pos) (legal .called .step-few)
@@ -169,7 +169,7 @@ module _ (s : Setup) (floor from : ℕ) (settles : Settles s floor from) (w : Wo
       record {
         sound = queue-rest s (v % s .modulus) (leastAt s v node) (openedAt s v node) opened-sound;
         members = λ f mem.
-            explained-more s from (w .past) (heardAt (w .past) (call .node)) (heardTo (w .past) call 0) v f (λ j h. or-left false h)
+            explained-more s floor (w .past) (heardAt (w .past) (call .node)) (heardTo (w .past) call 0) v f (λ j h. or-left false h)
             (starts .members f (mem-of-select (λ g. not (dueBefore s (v % s .modulus) g)) (openedAt s v node) mem .0));
         present = λ k m at fol hd un.
             let un′ : node .clock < due s (m .clock) (eventFrame s m .stamp .c) = omega (arith, un, legal .called .turn, legal .called .step-pos) in
@@ -190,12 +190,12 @@ module _ (s : Setup) (floor from : ℕ) (settles : Settles s floor from) (w : Wo
 
   -- after the last entry
   queue-end :
-      QueueLoop s from (w .past) v (heardAt (w .past ++ (doneOf node call ∷ [])) (call .node)) (heardOn s v node call .queue)
+      QueueLoop s floor from (w .past) v (heardAt (w .past ++ (doneOf node call ∷ [])) (call .node)) (heardOn s v node call .queue)
   queue-end =
-      subst (λ (h : Heard). QueueLoop s from (w .past) v (heardAt (w .past ++ (doneOf node call ∷ [])) (call .node)) (h .queue)) (sym (state-end s v node call))
+      subst (λ (h : Heard). QueueLoop s floor from (w .past) v (heardAt (w .past ++ (doneOf node call ∷ [])) (call .node)) (h .queue)) (sym (state-end s v node call))
       (record {
         sound = all .sound;
-        members = λ f mem. explained-more s from (w .past) (heardTo (w .past) call many) (heardAt (w .past ++ (doneOf node call ∷ [])) (call .node)) v f (λ j h. sym (heard-all j) ∙ h) (all .members f mem);
+        members = λ f mem. explained-more s floor (w .past) (heardTo (w .past) call many) (heardAt (w .past ++ (doneOf node call ∷ [])) (call .node)) v f (λ j h. sym (heard-all j) ∙ h) (all .members f mem);
         present = λ k m at fol hd un. all .present k m at fol (heard-all k ∙ hd) un;
       })
     where
@@ -249,7 +249,7 @@ module _ (s : Setup) (floor from : ℕ) (settles : Settles s floor from) (w : Wo
 
   -- what of the covered messages heard here has come due since the clock before this call
   came-due :
-      Delivers s from (w .past) (heardAt (w .past ++ (doneOf node call ∷ [])) (call .node)) (node .clock) v
+      Delivers s floor from (w .past) (heardAt (w .past ++ (doneOf node call ∷ [])) (call .node)) (node .clock) v
       (deliveredOn s v node call)
   unfolding dueNow dueBefore
   came-due =
@@ -259,7 +259,7 @@ module _ (s : Setup) (floor from : ℕ) (settles : Settles s floor from) (w : Wo
         members = λ f m.
             elim (split f m) [
               | inl q ↦
-                  explained-more s from (w .past) (heardAt (w .past) (call .node)) (heardAt (w .past ++ (doneOf node call ∷ [])) (call .node)) v f
+                  explained-more s floor (w .past) (heardAt (w .past) (call .node)) (heardAt (w .past ++ (doneOf node call ∷ [])) (call .node)) v f
                   (λ j h. sym (heard-all j) ∙ or-left (any (isFrom j) (take many (call .sources))) h) (starts .members f (q .0))
               | inr q ↦ queue-end .members f (q .0)
             ];
@@ -301,7 +301,7 @@ module _ (s : Setup) (floor from : ℕ) (settles : Settles s floor from) (w : Wo
       ≡ map messageBytes (sortBy (earlier s) (dueHere s from (w .past ++ (doneOf node call ∷ [])) (call .node) (node .clock) v))
   delivers-here =
       ap (select (coveredFrame s from v)) (delivers-bytes s node call (legal .called))
-      ∙ delivery s from (node .clock) v (call .node) (w .past) (doneOf node call)
+      ∙ delivery s floor from (node .clock) v (call .node) (settles .0) (w .past) (doneOf node call)
       (deliveredOn s v node call) (around .limits)
       (omega (arith, legal .called .turn, legal .called .step-few)) (λ k m at made. good .calls k m at made .event) (good .unique)
       (done-clock s node call (legal .called)) came-due

@@ -54,21 +54,21 @@ pub record Under (epsilon R : ℕ) (f : Timestamp) (v : ℕ) (t : Timestamp) : T
 unfoldable pub heardAt : List Done → ℕ → ℕ → Bool
 heardAt past node k = any (heardIn node k) past
 
--- a frame in the queue of a node, at v: of a message that is not covered, or of one that is covered and was heard
+-- a frame in the queue of a node, at v: its sum lies below the floor, or it is a message that was heard
 abbrev pub Explained : Setup → ℕ → List Done → (ℕ → Bool) → ℕ → Frame → Type 0
-Explained s from past heard v f =
-    (readingOf s (v % s .modulus) f + v < s .modulus + from)
-    ⊎ ((k : ℕ) × (m : Done) × (getElem? past k ≡ some m) × (covered from m ≡ true) × (heard k ≡ true) × (f ≡ eventFrame s m)
+Explained s floor past heard v f =
+    (readingOf s (v % s .modulus) f + f .stamp .c + v < s .modulus + floor)
+    ⊎ ((k : ℕ) × (m : Done) × (getElem? past k ≡ some m) × (sends m ≡ true) × (heard k ≡ true) × (f ≡ eventFrame s m)
     × (readingOf s (v % s .modulus) f + v ≡ s .modulus + m .clock))
 
 abbrev pub AllExplained : Setup → ℕ → List Done → (ℕ → Bool) → ℕ → List Frame → Type 0
-AllExplained s from past heard v queue = (f : Frame) → List·Memᴰ f queue → Explained s from past heard v f
+AllExplained s floor past heard v queue = (f : Frame) → List·Memᴰ f queue → Explained s floor past heard v f
 
 pub explained-more :
-    (s : Setup) (from : ℕ) (past : List Done) (heard heard′ : ℕ → Bool) (v : ℕ) (f : Frame) → ((j : ℕ) → heard j ≡ true → heard′ j ≡ true)
-    → Explained s from past heard v f → Explained s from past heard′ v f
-explained-more s from past heard heard′ v f more (inl h) = inl h
-explained-more s from past heard heard′ v f more (inr x) = inr (x .0, x .1, x .2, x .3, more (x .0) (x .4), x .5, x .6)
+    (s : Setup) (floor : ℕ) (past : List Done) (heard heard′ : ℕ → Bool) (v : ℕ) (f : Frame) → ((j : ℕ) → heard j ≡ true → heard′ j ≡ true)
+    → Explained s floor past heard v f → Explained s floor past heard′ v f
+explained-more s floor past heard heard′ v f more (inl h) = inl h
+explained-more s floor past heard heard′ v f more (inr x) = inr (x .0, x .1, x .2, x .3, more (x .0) (x .4), x .5, x .6)
 
 -- each covered message that was heard and is not yet due before v lies in the queue
 abbrev pub AllPresent : Setup → ℕ → List Done → (ℕ → Bool) → ℕ → List Frame → Type 0
@@ -148,8 +148,8 @@ abbrev pub restAt : Setup → ℕ → Node → List Frame
 restAt s v node = select (λ f. not (dueBefore s (v % s .modulus) f)) (openedAt s v node)
 
 -- what a call of node i for v starts from, its clock before that being `last`: the queue as found or emptied, with what is due before v
-pub record OpensQueue (s : Setup) (from : ℕ) (w : World) (i last v : ℕ) (queue : List Frame) : Type 0 where
-  pub members : AllExplained s from (w .past) (heardAt (w .past) i) v queue
+pub record OpensQueue (s : Setup) (floor from : ℕ) (w : World) (i last v : ℕ) (queue : List Frame) : Type 0 where
+  pub members : AllExplained s floor (w .past) (heardAt (w .past) i) v queue
   -- a frame there that is covered is due past `last`
   pub later : (f : Frame) → List·Memᴰ f queue → s .modulus + from ≤ readingOf s (v % s .modulus) f + v → s .modulus + last < dueNear s (v % s .modulus) f + v
   pub waiting : AllWaiting s from (w .past) (heardAt (w .past) i) last queue
@@ -180,7 +180,7 @@ pub record LeftStamp (s : Setup) (floor : ℕ) (w : World) (i : ℕ) (node : Nod
 -- a node as its last accepted call left it; a fresh node is one too
 pub record LeftAt (s : Setup) (floor from : ℕ) (w : World) (i : ℕ) (node : Node) : Type 0 where
   pub memory : Memory s node
-  pub members : AllExplained s from (w .past) (heardAt (w .past) i) (node .clock) (held (s .epsilon) (node .holdback))
+  pub members : AllExplained s floor (w .past) (heardAt (w .past) i) (node .clock) (held (s .epsilon) (node .holdback))
   pub waiting : AllWaiting s from (w .past) (heardAt (w .past) i) (node .clock) (held (s .epsilon) (node .holdback))
   pub stamp : node .listens ≡ false → LeftStamp s floor w i node
 
