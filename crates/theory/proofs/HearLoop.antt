@@ -16,7 +16,7 @@ use Rattle.laws.proofs.Numbers.{lt-or-ge, clash, and-intro, and-left, and-right
 use Rattle.laws.proofs.Lists.{any-of-mem, any-of-false, mem-of-insertAt, mem-insertAt-old, mem-insertAt-new}
 use Rattle.model.specs.Codec.{frameOf}
 use Rattle.model.specs.Setup.{Setup}
-use Rattle.model.specs.Timestamp.{Timestamp, countAt, countsFrom, sum, atMost}
+use Rattle.model.specs.Timestamp.{Timestamp, countAt, countsFrom, atMost}
 use Rattle.model.specs.Frame.{Frame, encode, decode}
 use Rattle.model.specs.Order.{readingOf, due}
 use Rattle.model.specs.Holdback.{sameOrigin, notEarly}
@@ -30,6 +30,7 @@ use Rattle.lemmas.proofs.RoundTrip.{decode-encode}
 use Rattle.lemmas.proofs.Queue.{early-from, early-to, Passed, Places, judged-passed, passed-judged, repeat-judged, observed-passed, passed-observed, repeat-observed, queue-take}
 use Rattle.lemmas.proofs.OneTick.{Absorbing, absorbing-one}
 use Rattle.theory.proofs.Event.{event-reads}
+use Rattle.theory.proofs.Due.{due-heard}
 use Rattle.theory.proofs.Stamps.{early-bounded, absorb-bounded, absorb-under, under-absorb}
 use Rattle.theory.proofs.World.{eventFrame, reached, Bounded, Under, Explained, AllExplained, explained-more, AllPresent, CallEvent}
 
@@ -173,8 +174,7 @@ module _ (s : Setup) (floor from : ℕ) (settles : Settles s floor from) (nodes 
   arrival-early k m a f = early-to s (v % s .modulus) (eventFrame s m) (omega (arith, arrival-reading k m a, arrival-close k m a f))
 
   pub arrival-undue : (k : ℕ) (m : Done) → Arrival s floor nodes past v k m → v ≤ due s (m .clock) (eventFrame s m .stamp .c)
-  unfolding due sum
-  arrival-undue k m a = omega (arith, a .not-late)
+  arrival-undue k m a = due-heard s v (m .clock) (eventFrame s m .stamp .c) (a .not-late)
 
   pub arrival-decoded : (k : ℕ) (m : Done) → Arrival s floor nodes past v k m → decode (s .epsilon) (messageBytes m) ≡ eventFrame s m
   arrival-decoded k m a =

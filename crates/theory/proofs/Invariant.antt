@@ -14,9 +14,9 @@ use Rattle.laws.specs.Lists.{any, select}
 use Rattle.laws.proofs.Numbers.{eq-or-ne, and-right, or-cases, not-of-false}
 use Rattle.laws.proofs.Lists.{countOf, countOf-set-same, any-append, getElem?-lt, getElem?-getD, getElem?-append, getElem?-snoc-cases, mem-of-select, mem-select}
 use Rattle.model.specs.Setup.{Setup}
-use Rattle.model.specs.Timestamp.{trimmed, Timestamp, sum}
+use Rattle.model.specs.Timestamp.{trimmed, Timestamp}
 use Rattle.model.specs.Frame.{Frame}
-use Rattle.model.specs.Order.{readingOf, due, dueNear}
+use Rattle.model.specs.Order.{due, dueNear}
 use Rattle.model.specs.Holdback.{held}
 use Rattle.model.specs.Tick.{heardStamp, dueNow}
 use Rattle.model.specs.Run.{Node, Call, Done, World, inputOf, isAccepted, outputOf, doneOf, nodeAfter, act, isEvent}
@@ -26,6 +26,7 @@ use Rattle.theory.proofs.Boards.{heardOn, leaves-queue, memory-left}
 use Rattle.theory.proofs.Entries.{from-entry}
 use Rattle.theory.proofs.Reach.{isStation, reached-grows, reached-gains}
 use Rattle.theory.proofs.Stamps.{bounded-grows, own-bounded}
+use Rattle.theory.proofs.Due.{due-reads}
 use Rattle.theory.proofs.HearLoop.{some-inj, covered-sends}
 use Rattle.theory.proofs.World.{AllWaiting, LeftStamp, LeftAt, eventFrame, reached, Bounded, heardAt, Explained, AllExplained, Maker, Settled, Passed-on, NodeOk, Group, AllKinds, Good, Ticks, Legal, act-is, event-kind, event-of, nodesAfter, after-at, after-other, after-together}
 use Rattle.theory.proofs.Promises.{Ends, waiting-reads}
@@ -283,10 +284,15 @@ module _ (s : Setup) (floor from : ℕ) (w : World) (call : Call) (node : Node) 
   -- a covered message that is due later is not delivered
   not-due : (k : ℕ) (m : Done) → getElem? (w .past) k ≡ some m → covered from m ≡ true → v < due s (m .clock) (eventFrame s m .stamp .c)
       → dueNow s (v % s .modulus) (eventFrame s m) ≡ false
-  unfolding dueNow dueNear due sum
+  unfolding dueNow
   not-due k m at fol un =
-      ne-eqb (readingOf s (v % s .modulus) (eventFrame s m) + eventFrame s m .stamp .c + s .delta + s .epsilon) (s .modulus)
-      (λ e. omega (arith, un, waiting-reads s floor from w call node v good legal k m at (covered-sends from m fol) (omega (arith, un, legal .called .turn, legal .called .step-pos))))
+      ne-eqb (dueNear s (v % s .modulus) (eventFrame s m)) (s .modulus)
+      (λ e. omega (
+        arith,
+        un,
+        due-reads s v (m .clock) (eventFrame s m)
+            (waiting-reads s floor from w call node v good legal k m at (covered-sends from m fol) (omega (arith, un, legal .called .turn, legal .called .step-pos))),
+      ))
 
   waiting′ : AllWaiting s from past′ (heardAt past′ (call .node)) v (held (s .epsilon) (node′ .holdback))
   waiting′ k m at fol hd un =

@@ -13,18 +13,19 @@ use borrow.Author.Tests.{lt-ltb}
 use Rattle.laws.proofs.Numbers.{clash, within-intro}
 use Rattle.laws.proofs.Lists.{every-mem}
 use Rattle.model.specs.Setup.{Setup, width}
-use Rattle.model.specs.Timestamp.{Timestamp, sum, clockStep, soundClock, trimmed, step}
+use Rattle.model.specs.Timestamp.{Timestamp, clockStep, soundClock, trimmed, step}
 use Rattle.model.specs.Frame.{Frame}
-use Rattle.model.specs.Order.{readingOf, due, dueNear}
+use Rattle.model.specs.Order.{readingOf}
 use Rattle.model.specs.Holdback.{held, notEarly, soundHoldback}
 use Rattle.model.specs.Tick.{tablesSound, stepOf, leastAfter, leastDue, shelfSound, openingStamp, openingQueue, repairOf}
 use Rattle.model.specs.Run.{Node, Done, World}
 use Rattle.lemmas.proofs.Bounds.{Limits}
 use Rattle.lemmas.proofs.Reading.{step-true}
 use Rattle.lemmas.proofs.Counts.{left-tables}
-use Rattle.lemmas.proofs.Queue.{QueueLeft, early-from, opening-queue, reading-later, left-later, left-ok, left-room, bytes-sound}
+use Rattle.lemmas.proofs.Queue.{QueueLeft, early-from, opening-queue, reading-later, left-later, left-due, left-ok, left-room, bytes-sound}
 use Rattle.lemmas.proofs.OneTick.{opening-stamp}
 use Rattle.theory.proofs.Stamps.{early-bounded, step-bounded, under-step}
+use Rattle.theory.proofs.Due.{due-moves}
 use Rattle.theory.proofs.World.{Explained, leastBy, leastAt, openedAt, OpensQueue, OpensStamp, Memory, Tables, LeftStamp, LeftAt, Untouched, NodeOk}
 
 -- what a call left is sound for the clock k after it, for a step of 1 to ε, and is opened as it is
@@ -114,11 +115,11 @@ module _ (s : Setup) (floor from : ℕ) (w : World) (i : ℕ) (node : Node) (k :
 
   -- what a call left
   pub left-opens : LeftAt s floor from w i node → OpensQueue s floor from w i (node .clock) (node .clock + k) (held (s .epsilon) (node .holdback))
-  unfolding dueNear due sum
   left-opens left =
       record {
         members = λ f m. explained-later (left .memory) (w .past) _ f m (left .members f m);
-        later = λ f m cov. omega (arith, reads-later (left .memory) f m, left .memory .queue .later f m);
+        later = λ f m cov.
+            omega (arith, due-moves s (node .clock + k) (node .clock) f (reads-later (left .memory) f m), left-due s (node .clock % s .modulus) 0 (held (s .epsilon) (node .holdback)) (left .memory .queue) f m);
         waiting = left .waiting;
       }
 

@@ -17,7 +17,7 @@ use Rattle.laws.proofs.Numbers.{eq-or-ne, lt-or-ge, or-left, or-cases, not-of-f
 use Rattle.laws.proofs.Lists.{getElem?-in, getElem?-lt, getElem?-getD, mem-select, mem-of-select}
 use Rattle.laws.proofs.Lex.{lex-trans}
 use Rattle.model.specs.Setup.{Setup, width}
-use Rattle.model.specs.Timestamp.{Timestamp, countAt, sum}
+use Rattle.model.specs.Timestamp.{Timestamp, countAt}
 use Rattle.model.specs.Frame.{Frame, decode}
 use Rattle.model.specs.Order.{readingOf, key, due, dueNear}
 use Rattle.model.specs.Holdback.{heldBytes}
@@ -37,6 +37,7 @@ use Rattle.theory.proofs.Boards.{heardOn, deliveredOn, delivers-ok, del
 use Rattle.theory.proofs.Reach.{reached-some, reached-not-all}
 use Rattle.theory.proofs.Stamps.{own-under, own-strict}
 use Rattle.theory.proofs.HearLoop.{Settles, Arrival, Entry, Around, Unreached, QueueLoop, StampLoop, TakesOnce, judged-once, observed-once, queue-one, stamp-takes, stamp-one, arrival-undue, covered-sends, some-inj}
+use Rattle.theory.proofs.Due.{due-reads, due-window}
 use Rattle.theory.proofs.Delivery.{Delivers, delivery}
 use Rattle.theory.proofs.World.{eventFrame, askingBy, askingAt, leastAt, openedAt, earlyAt, eventKey, Under, heardAt, explained-more, Settled, Passed-on, Good, Ticks, Legal, SentEntry, Kept, act-is, sends-event, event-kind, nodesAfter, after-at, after-other, after-together, OpensQueue, OpensStamp}
 use Rattle.theory.proofs.Opening.{node-opens, node-opens-stamp}
@@ -49,18 +50,36 @@ pub record Ends (s : Setup) (floor from : ℕ) (w : World) (call : Call) (node :
   pub stamp : node .listens ≡ false → StampLoop s floor (w .nodes) v (openingStamp s (v % s .modulus) (node .tables)) (heardStamp (inputOf node call))
   pub kept : Kept s from (w .past) (doneOf node call)
 
+-- the drift limit: in a call for v no node's clock is ε or more ahead of v
+none-ahead :
+    (s : Setup) (floor from : ℕ) (w : World) (call : Call) (node : Node) (v : ℕ) → Good s floor from w → Legal s floor w call node v
+    → (i : ℕ) (a : Node) → getElem? (w .nodes) i ≡ some a → a .clock < v + s .epsilon
+none-ahead s floor from w call node v good legal i a at =
+    omega (arith, legal .called .turn, legal .called .step-pos, good .group .together i (call .node) a node at (legal .at))
+
+-- the delay limit, beside it: a message of the node i that is heard while that node's clock, after the call, is at most δ past the sending is not late for v
+not-late :
+    (s : Setup) (floor : ℕ) (w : World) (call : Call) (node : Node) (v : ℕ) → Legal s floor w call node v → (i R : ℕ) (b : Node)
+    → getElem? (nodesAfter (w .nodes) call node) i ≡ some b → b .clock ≤ R + s .delta → v ≤ R + s .delta + s .epsilon
+not-late s floor w call node v legal i R b at near-by =
+    omega (
+      arith,
+      after-together s floor w call node v legal (call .node) i (nodeAfter node (call .step) (outputOf node call)) b (after-at (w .nodes) call node (legal .at)) at,
+      after-clock s node call (legal .called),
+    )
+
 -- a message that is due past the clock before the call reads at its true clock
 pub waiting-reads :
     (s : Setup) (floor from : ℕ) (w : World) (call : Call) (node : Node) (v : ℕ) → Good s floor from w → Legal s floor w call node v
     → (k : ℕ) (m : Done) → getElem? (w .past) k ≡ some m → sends m ≡ true → node .clock < due s (m .clock) (eventFrame s m .stamp .c)
     → readingOf s (v % s .modulus) (eventFrame s m) + v ≡ s .modulus + m .clock
-unfolding due sum
 waiting-reads s floor from w call node v good legal k m at sent un =
     let st = good .calls k m at (sends-event m sent) in
     let limits = good .group .limits (call .node) node (legal .at) in
     event-reads s v m limits (st .event)
-    (omega (arith, st .maker .clock-is, legal .called .turn, legal .called .step-pos, good .group .together (m .node) (call .node) (st .maker .node) node (st .maker .at) (legal .at)))
-    (omega (arith, un, legal .called .turn, legal .called .step-few, st .event .frame .sound .close, limits .modulus-least))
+    (omega (arith, st .maker .clock-is, none-ahead s floor from w call node v good legal (m .node) (st .maker .node) (st .maker .at)))
+    (due-window s (node .clock) v (m .clock) (eventFrame s m .stamp .c) limits (st .event .frame .sound .close) un
+    (omega (arith, legal .called .turn, legal .called .step-few)))
 
 module _ (s : Setup) (floor from : ℕ) (settles : Settles s floor from) (w : World) (call : Call) (node : Node) (v : ℕ) (good : Good s floor from w) (legal : Legal s floor w call node v) where
   -- whom it meets
@@ -70,7 +89,7 @@ module _ (s : Setup) (floor from : ℕ) (settles : Settles s floor from) (w : Wo
         limits = good .group .limits (call .node) node (legal .at);
         none-ahead = λ u h.
             let r = reached-some (w .nodes) u h in
-            omega (arith, r .3, legal .called .turn, legal .called .step-pos, good .group .together (r .0) (call .node) (r .1) node (r .2) (legal .at));
+            omega (arith, r .3, none-ahead s floor from w call node v good legal (r .0) (r .1) (r .2));
         unique = λ k l a b p q x y.
             good .unique k l a b p q (sends-event a x) (sends-event b y);
       }
@@ -98,7 +117,7 @@ module _ (s : Setup) (floor from : ℕ) (settles : Settles s floor from) (w : Wo
 
       late-by : (b : Node) → getElem? (nodesAfter (w .nodes) call node) (m .node) ≡ some b → v ≤ m .clock + s .delta + s .epsilon
       late-by b b-at =
-          omega (arith, after-together s floor w call node v legal (call .node) (m .node) (nodeAfter node (call .step) (outputOf node call)) b (after-at (w .nodes) call node (legal .at)) b-at, subst (λ (o : Option Node). clockAt o ≤ m .clock + s .delta) b-at near-by, after-clock s node call (legal .called))
+          not-late s floor w call node v legal (m .node) (m .clock) b b-at (subst (λ (o : Option Node). clockAt o ≤ m .clock + s .delta) b-at near-by)
 
       late : v ≤ m .clock + s .delta + s .epsilon
       late =
@@ -114,7 +133,7 @@ module _ (s : Setup) (floor from : ℕ) (settles : Settles s floor from) (w : Wo
             sent = entry .sent;
             event = settled .event;
             bounded = settled .bounded;
-            not-ahead = omega (arith, settled .maker .clock-is, legal .called .turn, legal .called .step-pos, good .group .together (m .node) (call .node) (settled .maker .node) node (settled .maker .at) (legal .at));
+            not-ahead = omega (arith, settled .maker .clock-is, none-ahead s floor from w call node v good legal (m .node) (settled .maker .node) (settled .maker .at));
             not-late = late;
           }
 
@@ -157,11 +176,10 @@ module _ (s : Setup) (floor from : ℕ) (settles : Settles s floor from) (w : Wo
   opened-sound = opening-queue s (v % s .modulus) (leastAt s v node) (node .holdback) (around .limits)
 
   -- a covered message's due clock, as the node reads it
-  due-reads :
+  due-waits :
       (k : ℕ) (m : Done) → getElem? (w .past) k ≡ some m → covered from m ≡ true → node .clock < due s (m .clock) (eventFrame s m .stamp .c)
       → dueNear s (v % s .modulus) (eventFrame s m) + v ≡ s .modulus + due s (m .clock) (eventFrame s m .stamp .c)
-  unfolding dueNear due sum
-  due-reads k m at fol un = omega (arith, waiting-reads s floor from w call node v good legal k m at (covered-sends from m fol) un)
+  due-waits k m at fol un = due-reads s v (m .clock) (eventFrame s m) (waiting-reads s floor from w call node v good legal k m at (covered-sends from m fol) un)
 
   queue-start : QueueAt 0
   unfolding stateAt hear foldLeft any dueBefore
@@ -175,7 +193,7 @@ module _ (s : Setup) (floor from : ℕ) (settles : Settles s floor from) (w : Wo
             let un′ : node .clock < due s (m .clock) (eventFrame s m .stamp .c) = omega (arith, un, legal .called .turn, legal .called .step-pos) in
             mem-select (λ g. not (dueBefore s (v % s .modulus) g))
             (starts .waiting k m at fol (sym (or-false (heardAt (w .past) (call .node) k)) ∙ hd) un′)
-            (not-of-false (le-ltb (dueNear s (v % s .modulus) (eventFrame s m)) (s .modulus) (omega (arith, due-reads k m at fol un′, un))));
+            (not-of-false (le-ltb (dueNear s (v % s .modulus) (eventFrame s m)) (s .modulus) (omega (arith, due-waits k m at fol un′, un))));
       }
 
   pub queue-at : (e : ℕ) → e ≤ length (batchEntries (call .batch)) → QueueAt e
@@ -278,11 +296,11 @@ module _ (s : Setup) (floor from : ℕ) (settles : Settles s floor from) (w : Wo
               | inl q ↦
                   Memᴰ·append-left (select (dueNow s (v % s .modulus)) (heardOn s v node call .queue))
                   (mem-select (dueBefore s (v % s .modulus)) (starts .waiting k m at fol (heard-before k m at q hd) lo)
-                  (lt-ltb (dueNear s (v % s .modulus) (eventFrame s m)) (s .modulus) (omega (arith, due-reads k m at fol lo))))
+                  (lt-ltb (dueNear s (v % s .modulus) (eventFrame s m)) (s .modulus) (omega (arith, due-waits k m at fol lo))))
               | inr q ↦
                   Memᴰ·append-right (earlyAt s v node)
                   (mem-select (dueNow s (v % s .modulus)) (queue-end .present k m at fol hd q)
-                  (eq-eqb (dueNear s (v % s .modulus) (eventFrame s m)) (s .modulus) (omega (arith, due-reads k m at fol lo))))
+                  (eq-eqb (dueNear s (v % s .modulus) (eventFrame s m)) (s .modulus) (omega (arith, due-waits k m at fol lo))))
             ];
       }
     where
