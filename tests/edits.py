@@ -140,12 +140,12 @@ def place(crate, file, old):
     return "/".join(module + ([kinds[-1]] if heads[-1][1] else []) + [heads[-1][2]]), "⌜" not in line and "⌝" not in line
 
 
-def in_turn(edits, day):
-    """The edits of a crate that did not change whose turn it is on a day: those that are tried every time, and one in so many of the
-    others; of one function's edits on each day about as many."""
+def in_turn(edits, day, files):
+    """The edits of a crate that did not change whose turn it is on a day: those that are tried every time, those that are new
+    themselves, and one in so many of the others; of one function's edits on each day about as many."""
     turns = sorted((edit for edit in edits if not edit.every), key=lambda edit: (edit.control, edit.alone, sorted(edit.functions), edit.path))
     now = {edit.path for place, edit in enumerate(turns) if (place + day) % TURNS == 0}
-    return [edit for edit in edits if edit.every or edit.path in now]
+    return [edit for edit in edits if edit.every or edit.path in now or edit.path in files]
 
 
 def rounds(edits):
@@ -377,13 +377,17 @@ def last_merge():
     return git("rev-list", "--merges", "--first-parent", "--max-count=1", "HEAD^")
 
 
-def changed_crates(base):
-    """The crates whose files differ from those of a commit; all where the kit does, or no commit is known."""
-    every = {path.name for path in (ROOT / "crates").iterdir()}
+def changed_files(base):
+    """The files under crates/ that differ from those of a commit; None, for all, where the kit does or no commit is known."""
     if not base or git("diff", "--name-only", base, "--", "toolchain"):
-        return every
-    files = git("diff", "--name-only", base, "--", "crates") + "\n" + git("ls-files", "--others", "--exclude-standard", "crates")
-    return {Path(file).parts[1] for file in files.split("\n") if file.count("/") > 1}
+        return None
+    files = git("diff", "--name-only", "--no-renames", base, "--", "crates") + "\n" + git("ls-files", "--others", "--exclude-standard", "crates")
+    return {file for file in files.split("\n") if file}
+
+
+def is_changed(crate, files):
+    """Do the code, the definitions or the proofs of a crate differ?"""
+    return files is None or any(file.startswith(f"crates/{crate}/{part}/") for file in files for part in ("src", "specs", "proofs"))
 
 
 def chosen(words):
@@ -397,13 +401,13 @@ def chosen(words):
             sys.exit(f"edits: no edits are tried here of {' '.join(strange)}")
         return edits if "all" in words else {name: edits[name] for name in words}, "all that are asked for"
     base = last_merge()
-    changed = changed_crates(base)
+    files = changed_files(base)
     day = datetime.datetime.now(datetime.timezone.utc).toordinal()
-    now = {name: listed if name in changed else in_turn(listed, day) for name, listed in edits.items()}
+    same = [name for name in edits if not is_changed(name, files)]
+    now = {name: in_turn(listed, day, files) if name in same else listed for name, listed in edits.items()}
     count, among = (sum(map(len, of.values())) for of in (now, edits))
     since = f"since {base[:7]}" if base else "as far as the history tells"
-    same = len(set(edits) - changed)
-    return now, f"{count} of {among}; {among - count} of the {same} crates that did not change {since} wait for their day, one in {TURNS}"
+    return now, f"{count} of {among}; {among - count} of {len(same)} crates that did not change {since} wait for their day, one in {TURNS}"
 
 
 def main():
