@@ -15,3 +15,4 @@ pub mod OneListening
 pub mod LongTick
 pub mod NextTick
 pub mod Comparing
+pub mod Schedules

@@ -276,16 +276,16 @@ questions-hold = refl
 abbrev listened : ℕ → ℕ → ℕ → ℕ → List Frame → List Frame → List ℕ
 listened marked clock last shelf queue heard =
     let o : Listened =
-        listenIn (mark marked)
-        (record {
-          setup = narrow;
-          clock = clock;
-          last = last;
-          holdback = encodeHoldback shelf queue;
-          batch = batch heard;
-          verdicts = replicate 255 1;
-          delivery = replicate 992 1;
-        })
+    listenIn (mark marked)
+    (record {
+      setup = narrow;
+      clock = clock;
+      last = last;
+      holdback = encodeHoldback shelf queue;
+      batch = batch heard;
+      verdicts = replicate 255 1;
+      delivery = replicate 992 1;
+    })
     in
     o .number ∷ o .repair ∷ o .taken ∷ o .delivered ∷ o .last ∷ []
 
