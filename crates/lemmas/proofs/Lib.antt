@@ -16,3 +16,4 @@ pub mod LongTick
 pub mod NextTick
 pub mod Comparing
 pub mod Schedules
+pub mod WideFrames
