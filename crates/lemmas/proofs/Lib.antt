@@ -17,3 +17,4 @@ pub mod NextTick
 pub mod Comparing
 pub mod Schedules
 pub mod WideFrames
+pub mod Carried

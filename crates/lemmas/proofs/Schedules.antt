@@ -56,6 +56,59 @@ due-by before after change total =
       | inr h ↦ new h (rw (le-ltb (total + before .delta + before .epsilon) change h))
     ]
 
+-- the limits of every clock are in 01's, in one group
+pub limits-good : (g : Schedule) → Good g → (x : ℕ) → Limits (limitsAt g x)
+limits-good (steady s) good x = good
+limits-good (widening before after change) good x = go (limitsAt (widening before after change) x) (limits-by before after change x)
+  where
+    go : (s : Setup) → LimitsBy before after change x s → Limits s
+    go s (narrow p e) = subst Limits (sym e) (good .old)
+    go s (wide p e) = subst Limits (sym e) (good .new)
+
+pub limits-modulus : (g : Schedule) → Good g → (x : ℕ) → limitsAt g x .modulus ≡ modulusOf g
+limits-modulus (steady s) good x = refl
+limits-modulus (widening before after change) good x = go (limitsAt (widening before after change) x) (limits-by before after change x)
+  where
+    go : (s : Setup) → LimitsBy before after change x s → s .modulus ≡ before .modulus
+    go s (narrow p e) = ap (λ (u : Setup). u .modulus) e
+    go s (wide p e) = ap (λ (u : Setup). u .modulus) e ∙ good .modulus
+
+pub limits-n : (g : Schedule) → Good g → (x : ℕ) → limitsAt g x .n ≡ widestOf g .n
+limits-n (steady s) good x = refl
+limits-n (widening before after change) good x = go (limitsAt (widening before after change) x) (limits-by before after change x)
+  where
+    go : (s : Setup) → LimitsBy before after change x s → s .n ≡ after .n
+    go s (narrow p e) = ap (λ (u : Setup). u .n) e ∙ sym (good .n)
+    go s (wide p e) = ap (λ (u : Setup). u .n) e
+
+-- and those of a later clock are as wide or wider
+pub limits-grow : (g : Schedule) → Good g → (x y : ℕ) → x ≤ y → (limitsAt g x .epsilon ≤ limitsAt g y .epsilon) × (limitsAt g x .delta ≤ limitsAt g y .delta)
+limits-grow (steady s) good x y h = (omega arith, omega arith)
+limits-grow (widening before after change) good x y h =
+    go (limitsAt (widening before after change) x) (limitsAt (widening before after change) y) (limits-by before after change x) (limits-by before after change y)
+  where
+    go : (s u : Setup) → LimitsBy before after change x s → LimitsBy before after change y u → (s .epsilon ≤ u .epsilon) × (s .delta ≤ u .delta)
+    go s u (narrow p e) (narrow p′ e′) = rw (e, e′) (omega arith, omega arith)
+    go s u (narrow p e) (wide p′ e′) = rw (e, e′) (good .epsilon, good .delta)
+    go s u (wide p e) (narrow p′ e′) = absurd (omega arith)
+    go s u (wide p e) (wide p′ e′) = rw (e, e′) (omega arith, omega arith)
+
+pub limits-widest : (g : Schedule) → Good g → (x : ℕ) → (limitsAt g x .epsilon ≤ widestOf g .epsilon) × (limitsAt g x .delta ≤ widestOf g .delta)
+limits-widest (steady s) good x = (omega arith, omega arith)
+limits-widest (widening before after change) good x = go (limitsAt (widening before after change) x) (limits-by before after change x)
+  where
+    go : (s : Setup) → LimitsBy before after change x s → (s .epsilon ≤ after .epsilon) × (s .delta ≤ after .delta)
+    go s (narrow p e) = rw e (good .epsilon, good .delta)
+    go s (wide p e) = rw e (omega arith, omega arith)
+
+pub widest-good : (g : Schedule) → Good g → Limits (widestOf g)
+widest-good (steady s) good = good
+widest-good (widening before after change) good = good .new
+
+pub widest-modulus : (g : Schedule) → Good g → widestOf g .modulus ≡ modulusOf g
+widest-modulus (steady s) good = refl
+widest-modulus (widening before after change) good = good .modulus
+
 -- ---- how due clocks lie
 
 -- a due clock grows at least as fast as its sum
