@@ -250,7 +250,7 @@ shift-at k kn i =
     count-zero (drop k kn ++ replicate k 0) i
     ∙ (getD-append-zeros (drop k kn) k i ∙ (getD-drop k kn i 0 ∙ sym (count-zero kn (k + i))))
 
-length-shift : (k : ℕ) (kn : List ℕ) → k ≤ length kn → length (shift k kn) ≡ length kn
+pub length-shift : (k : ℕ) (kn : List ℕ) → k ≤ length kn → length (shift k kn) ≡ length kn
 unfolding shift
 length-shift k kn h =
     omega (arith, length-append (drop k kn) (replicate k 0), length-drop k kn, length-replicate {A = ℕ} k 0)

@@ -18,3 +18,4 @@ pub mod Comparing
 pub mod Schedules
 pub mod WideFrames
 pub mod Carried
+pub mod EqualPairs
