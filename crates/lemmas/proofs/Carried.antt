@@ -27,44 +27,8 @@ use Rattle.lemmas.proofs.Bounds.{Limits, Sound}
 use Rattle.lemmas.proofs.Reading.{near-later}
 use Rattle.lemmas.proofs.Queue.{early-to}
 use Rattle.lemmas.proofs.Schedules.{Widens, Good, LimitsBy, narrow, wide, limits-by, DueBy, old, new, due-by, limits-good, limits-modulus, limits-n, limits-grow, limits-widest, widest-good, widest-modulus, due-window, Aligned, limits-aligned, due-aligned, compared-aligned, half-aligned, modulus-aligned, widest-aligned, near-wider}
+use Rattle.lemmas.proofs.WiderQueue.{QueueAlong, LeftAlong, ordered-along, along-ordered, overdue-along, length-down-by}
 use Rattle.lemmas.proofs.WideFrames.{Half, half-one, half-back, half-some, HasWidth, FrameWithin}
-
--- a queue that is sound for the modular clock v, with the least due clock that is allowed
-pub record QueueAlong (g : Schedule) (v least : ℕ) (queue : List Frame) : Type 0 where
-  pub frames : (f : Frame) → List·Memᴰ f queue → FrameWithin g (ownLimits g) f
-  pub ordered : chained (widerBefore g v) queue ≡ true
-  pub single : apart sameOrigin queue ≡ true
-  pub early : every (notEarly (ownLimits g) v) queue ≡ true
-  pub overdue : every (widerNotOverdue g v least) queue ≡ true
-
--- one that a call for v leaves: each frame is due after v
-pub record LeftAlong (g : Schedule) (v : ℕ) (queue : List Frame) : Type 0 where
-  pub frames : (f : Frame) → List·Memᴰ f queue → FrameWithin g (ownLimits g) f
-  pub ordered : chained (widerBefore g v) queue ≡ true
-  pub single : apart sameOrigin queue ≡ true
-  pub early : (f : Frame) → List·Memᴰ f queue → widerReading g v f + f .stamp .c ≤ modulusOf g + (ownLimits g .epsilon - 1)
-  pub later : (f : Frame) → List·Memᴰ f queue → modulusOf g < dueAlong g (widerReading g v f + f .stamp .c)
-
--- the order of a queue is that of its keys
-pub ordered-along : (g : Schedule) (v : ℕ) (queue : List Frame) → chained (widerBefore g v) queue ≡ true → Sorted (widerKeyNear g v) queue
-unfolding widerBefore
-ordered-along g v queue h = sorted-of-chained (widerKeyNear g v) queue h
-
-pub along-ordered : (g : Schedule) (v : ℕ) (queue : List Frame) → Sorted (widerKeyNear g v) queue → chained (widerBefore g v) queue ≡ true
-unfolding widerBefore
-along-ordered g v queue h = chained-of-sorted (widerKeyNear g v) queue h
-
-pub overdue-along : (g : Schedule) (v least : ℕ) (f : Frame) → least ≤ dueAlong g (widerReading g v f + f .stamp .c) → widerNotOverdue g v least f ≡ true
-unfolding widerNotOverdue widerDue sum
-overdue-along g v least f h = le-leb least (dueAlong g (widerReading g v f + f .stamp .c)) h
-
-pub along-overdue : (g : Schedule) (v least : ℕ) (f : Frame) → widerNotOverdue g v least f ≡ true → least ≤ dueAlong g (widerReading g v f + f .stamp .c)
-unfolding widerNotOverdue widerDue sum
-along-overdue g v least f h = leb-true least (dueAlong g (widerReading g v f + f .stamp .c)) h
-
-pub length-down-by : (most half : ℕ) (t : Timestamp) → length (countsDownBy most half t) ≡ most
-unfolding countsDownBy
-length-down-by most half t = length-tab most (λ k. countAt half most (t .kn) (most + t .c - k))
 
 -- keys with sums and readings k less, and the same counts, are in the same order; where the sums differ, so may the numbers of counts
 lower : (k x x′ a a′ y y′ : ℕ) (m m′ : List ℕ) → (x ≡ x′ → length m ≡ length m′)

@@ -17,5 +17,6 @@ pub mod NextTick
 pub mod Comparing
 pub mod Schedules
 pub mod WideFrames
+pub mod WiderQueue
 pub mod Carried
 pub mod EqualPairs
