@@ -2,6 +2,7 @@
 -- Readings are by the limits of the call's own clock; due clocks and the order by the schedule. Assumes nothing.
 use Prim.Native.Nat.{ℕ, suc, _+_, _-_, _*_, _≤_, _<_}
 use native.Mathlib.Omega.{arith}
+use native.Mathlib.Nat.{mul-suc, mul-le-mul-left}
 use mathlib.Core.Path.{_≡_, refl, sym, ap, subst, _∙_}
 use mathlib.Core.Logic.{_⊎_, inl, inr}
 use mathlib.Core.Bool.{Bool, true, false, not, cond}
@@ -173,3 +174,151 @@ module _ (g : Schedule) (good : Good g) (v : ℕ) (queue : List Frame) (bytes : 
   observed-along e =
       let t = passed-front (askRepeat queue heardFrame ∷ []) e in
       t .0 (passed-new queue heardFrame [] (t .1))
+
+-- ---- a queue
+
+module _ (g : Schedule) (good : Good g) where
+  abbrev s : Setup
+  s = ownLimits g
+
+  abbrev B : ℕ
+  B = modulusOf g
+
+  limits-own : Limits s
+  limits-own = limits-good g good B
+
+  -- B is that of the limits
+  modulus-own : s .modulus ≡ B
+  modulus-own = limits-modulus g good B
+
+  large : 6 * s .epsilon + s .delta + 1 ≤ B
+  large = omega (arith, limits-own .modulus-least, modulus-own)
+
+  pub reading-high-along : (v : ℕ) (f : Frame) → widerReading g v f < B + s .epsilon
+  reading-high-along v f = omega (arith, reading-high s v f limits-own, modulus-own)
+
+  -- two frames with one station and one reading
+  pub reading-origin-along :
+      (v : ℕ) (a b : Frame) → v < B → FrameWithin g s a → FrameWithin g s b → a .station ≡ b .station → widerReading g v a ≡ widerReading g v b → sameOrigin a b ≡ true
+  unfolding readingOf
+  reading-origin-along v a b below p q e h =
+      origin-to a b e
+      (near-injective (s .epsilon) (s .modulus) v (a .stamp .r) (b .stamp .r) (limits-own .epsilon-pos) (omega (arith, large, modulus-own)) (omega (arith, below, modulus-own)) (p .r-below) (q .r-below) h)
+
+  pub queue-none-along : (v least : ℕ) → QueueAlong g v least []
+  unfolding chained apart every
+  queue-none-along v least =
+      record { frames = λ f m. absurd (List·Memᴰ·not-nil m); ordered = refl; single = refl; early = refl; overdue = refl }
+
+  -- the test of a queue's bytes, as facts
+  pub sound-along : (v least : ℕ) (bytes : List ℕ) → widerSoundHoldback g v least bytes ≡ true → QueueAlong g v least (widerHeld g bytes)
+  unfolding widerSoundHoldback widerHeld
+  sound-along v least bytes h =
+      let queue = widerHeld g bytes in
+      let h₁ = and-right (leb (twoAt bytes 0) (depthOf s)) _ h in
+      let h₂ = and-right (every (widerPasses g) (widerHeldBytes g bytes)) _ h₁ in
+      let h₃ = and-right (chained (widerBefore g v) queue) _ h₂ in
+      let h₄ = and-right (apart sameOrigin queue) _ h₃ in
+      record {
+        frames = λ f m. one f (Memᴰ·of-map (widerDecode g) (widerHeldBytes g bytes) m) (and-left _ _ h₁);
+        ordered = and-left _ _ h₂;
+        single = and-left _ _ h₃;
+        early = and-left _ _ h₄;
+        overdue = and-right (every (notEarly s v) queue) _ h₄;
+      }
+    where
+      one : (f : Frame) → (a : List ℕ) × List·Memᴰ a (widerHeldBytes g bytes) × (widerDecode g a ≡ f) → every (widerPasses g) (widerHeldBytes g bytes) ≡ true → FrameWithin g s f
+      one f t p = subst (FrameWithin g s) (t .2) (passes-wide g (t .0) good (limits-own .epsilon-pos) (every-mem (widerPasses g) p (t .1)))
+
+  pub opening-along : (v least : ℕ) (bytes : List ℕ) → QueueAlong g v least (widerOpeningQueue g v least bytes)
+  unfolding widerOpeningQueue
+  opening-along v least bytes = go (widerSoundHoldback g v least bytes) refl
+    where
+      go : (b : Bool) → widerSoundHoldback g v least bytes ≡ b → QueueAlong g v least (cond b (widerHeld g bytes) [])
+      go true e = sound-along v least bytes e
+      go false e = queue-none-along v least
+
+  -- a part of it, with another least due clock that its frames keep
+  pub part-along :
+      (v least least′ : ℕ) (p : Frame → Bool) (queue : List Frame) → QueueAlong g v least queue
+      → ((f : Frame) → List·Memᴰ f queue → p f ≡ true → least′ ≤ dueAlong g (widerReading g v f + f .stamp .c)) → QueueAlong g v least′ (select p queue)
+  part-along v least least′ p queue ok h =
+      record {
+        frames = λ f m. ok .frames f (mem-of-select p queue m .0);
+        ordered = along-ordered g v (select p queue) (sorted-select (widerKeyNear g v) p queue (ordered-along g v queue (ok .ordered)));
+        single = apart-select sameOrigin p queue (ok .single);
+        early = every-of-mem (notEarly s v) (select p queue) (λ f m. every-mem (notEarly s v) (ok .early) (mem-of-select p queue m .0));
+        overdue =
+            every-of-mem (widerNotOverdue g v least′) (select p queue)
+            (λ f m. overdue-along g v least′ f (h f (mem-of-select p queue m .0) (mem-of-select p queue m .1)));
+      }
+
+  due-of : (v least : ℕ) (queue : List Frame) → QueueAlong g v least queue → (f : Frame) → List·Memᴰ f queue → least ≤ dueAlong g (widerReading g v f + f .stamp .c)
+  due-of v least queue ok f m = along-overdue g v least f (every-mem (widerNotOverdue g v least) (ok .overdue) m)
+
+  key-near-origin : (v : ℕ) (a b : Frame) → widerKeyNear g v a ≡ widerKeyNear g v b → (a .station ≡ b .station) × (widerReading g v a ≡ widerReading g v b)
+  unfolding widerKeyNear
+  key-near-origin v a b e = key-origin-along g (widerReading g v a) (widerReading g v b) a b e
+
+  -- without what is due before v no due clock is before v
+  pub rest-along : (v least : ℕ) (queue : List Frame) → QueueAlong g v least queue → QueueAlong g v B (select (λ f. not (widerDueBefore g v f)) queue)
+  rest-along v least queue ok = part-along v least B (λ f. not (widerDueBefore g v f)) queue ok (λ f m e. not-before-along g v f e)
+
+  pub take-along : (v : ℕ) (queue : List Frame) (f : Frame) → v < B → QueueAlong g v B queue → PassedAlong g v queue f → QueueAlong g v B (insertAt (widerPlace g v queue f) f queue)
+  unfolding widerPlace widerBefore
+  take-along v queue f below ok p =
+      let at = widerPlace g v queue f in
+      record {
+        frames = λ a m. one a (mem-of-insertAt at f queue m);
+        ordered = along-ordered g v (insertAt at f queue) (sorted-insert (widerKeyNear g v) f queue (ordered-along g v queue (ok .ordered)) other);
+        single = apart-insertAt sameOrigin origin-sym at f queue (p .new) (ok .single);
+        early = every-insertAt (notEarly s v) at f queue ∙ and-intro (p .early) (ok .early);
+        overdue = every-insertAt (widerNotOverdue g v B) at f queue ∙ and-intro (overdue-along g v B f (p .due)) (ok .overdue);
+      }
+    where
+      one : (a : Frame) → (a ≡ f) ⊎ List·Memᴰ a queue → FrameWithin g s a
+      one a (inl e) = rw e (p .frame)
+      one a (inr m) = ok .frames a m
+
+      other : (a : Frame) → List·Memᴰ a queue → widerKeyNear g v a ≡ widerKeyNear g v f → ⊥
+      other a m e =
+          let t = key-near-origin v f a (sym e) in
+          clash (reading-origin-along v f a below (p .frame) (ok .frames a m) (t .0) (t .1)) (any-false (sameOrigin f) (p .new) m)
+
+  -- ---- how many
+
+  -- where the readings of a queue's frames lie
+  pub window-along :
+      (v least : ℕ) (queue : List Frame) → least ≤ B + 1 → QueueAlong g v least queue → (f : Frame) → List·Memᴰ f queue
+      → least < widerReading g v f + (s .delta + 2 * s .epsilon)
+  window-along v least queue h ok f m =
+      omega (arith, due-window g good B least (widerReading g v f + f .stamp .c) h (due-of v least queue ok f m), ok .frames f m .close)
+
+  -- frames of a sound queue whose readings are among m from lo on: n m at most
+  few-along :
+      (v least : ℕ) (queue : List Frame) (lo m : ℕ) → v < B → QueueAlong g v least queue
+      → ((f : Frame) → List·Memᴰ f queue → lo ≤ widerReading g v f) → ((f : Frame) → List·Memᴰ f queue → widerReading g v f < lo + m) → length queue ≤ s .n * m
+  few-along v least queue lo m below ok low high =
+      pigeonhole-pairs sameOrigin (λ f. f .station) (widerReading g v) (s .n) lo m queue
+      (ok .single) (λ a b x y e h. reading-origin-along v a b below (ok .frames a x) (ok .frames b y) e h) (λ f x. ok .frames f x .station-below)
+      low high
+
+  -- 02, 2.7: n(δ + 3ε − 1) at most where none is due before v, by the limits of v
+  pub bound-along : (v least : ℕ) (queue : List Frame) → v < B → B ≤ least → least ≤ B + 1 → QueueAlong g v least queue → length queue ≤ s .n * (s .delta + 3 * s .epsilon - 1)
+  bound-along v least queue below late near-enough ok =
+      few-along v least queue (B + 1 - (s .delta + 2 * s .epsilon)) (s .delta + 3 * s .epsilon - 1) below ok
+      (λ f m. omega (arith, window-along v least queue near-enough ok f m)) (λ f m. omega (arith, window-along v least queue near-enough ok f m, reading-high-along v f, large, limits-own .epsilon-pos))
+
+  pub room-along : (v least : ℕ) (queue : List Frame) → v < B → B ≤ least → least ≤ B + 1 → QueueAlong g v least queue → length queue < depthOf s
+  unfolding depth
+  room-along v least queue below late near-enough ok =
+      omega (
+        arith,
+        bound-along v least queue below late near-enough ok,
+        mul-suc (s .n) (s .delta + 3 * s .epsilon - 1),
+        ap (λ (k : ℕ). s .n * k) (pred-suc (s .delta) (s .epsilon) (limits-own .epsilon-pos)),
+        limits-own .n-pos,
+      )
+    where
+      pred-suc : (d e : ℕ) → 1 ≤ e → suc (d + 3 * e - 1) ≡ d + 3 * e
+      pred-suc d e h = omega arith
