@@ -13,7 +13,7 @@ use lib.Seq.{drop-at}
 use borrow.Author.Tests.{le-leb, leb-true, ltb-true, ltb-false, eqb-true, eqb-false}
 use Rattle.laws.specs.Lists.{any, every, chained, apart, select, insertAt, padded}
 use Rattle.laws.specs.Lex.{lexCompare}
-use Rattle.laws.proofs.Numbers.{clash, and-intro, and-left, and-right, false-of-not}
+use Rattle.laws.proofs.Numbers.{lt-or-ge, clash, and-intro, and-left, and-right, false-of-not}
 use Rattle.laws.proofs.Lists.{length-tab, every-mem, every-of-mem, every-map, every-insertAt, any-false, mem-of-insertAt, mem-of-select}
 use Rattle.laws.proofs.Lex.{lt-isLess, lex-head-lt}
 use Rattle.laws.proofs.Sorted.{lessBy, Sorted, pairwise-append, sorted-of-chained, chained-of-sorted, sorted-select, sorted-insert, apart-select, apart-insertAt, pigeonhole-pairs}
@@ -29,8 +29,8 @@ use Rattle.model.specs.Wider.{frameHalf, widerReading, widerDecode, countsDownB
 use Rattle.lemmas.proofs.Bounds.{Limits}
 use Rattle.lemmas.proofs.Reading.{near-high, near-injective}
 use Rattle.lemmas.proofs.RoundTrip.{none-no}
-use Rattle.lemmas.proofs.Queue.{early-from, reading-high, origin-to, origin-sym, passed-new, both-few, depth-small}
-use Rattle.lemmas.proofs.Schedules.{Good, limits-good, limits-modulus, limits-n, limits-widest, due-later, due-window, Gap, due-gap}
+use Rattle.lemmas.proofs.Queue.{early-from, early-to, reading-high, origin-to, origin-sym, passed-new, both-few, depth-small}
+use Rattle.lemmas.proofs.Schedules.{Good, limits-good, limits-modulus, limits-widest, widest-good, widest-modulus, due-grows, due-window, Gap, due-gap}
 use Rattle.lemmas.proofs.WideFrames.{HasWidth, FrameWithin, within-passed, wide-passes, passes-wide, wide-held-bytes, wide-held, length-wide-held}
 
 -- a queue that is sound for the modular clock v, with the least due clock that is allowed
@@ -322,3 +322,121 @@ module _ (g : Schedule) (good : Good g) where
     where
       pred-suc : (d e : ℕ) → 1 ≤ e → suc (d + 3 * e - 1) ≡ d + 3 * e
       pred-suc d e h = omega arith
+
+  -- 02, 2.2: few are due before v, after a last clock at most ε before it, and few at v. All their sums lie one gap before a clock in between
+  gap-small : (least gap : ℕ) → Gap g least gap → gap + 5 * s .epsilon + 1 ≤ B
+  gap-small least gap d =
+      omega (arith, d .most, limits-widest g good B .0, widest-good g good .modulus-least, widest-modulus g good)
+
+  pub early-few-along :
+      (v least : ℕ) (queue : List Frame) → v < B → B + 1 ≤ least + s .epsilon → QueueAlong g v least queue
+      → length (select (widerDueBefore g v) queue) ≤ s .n * (2 * s .epsilon - 2)
+  early-few-along v least queue below few ok = go (due-gap g good least)
+    where
+      go : (gap : ℕ) × Gap g least gap → length (select (widerDueBefore g v) queue) ≤ s .n * (2 * s .epsilon - 2)
+      go (gap, d) =
+          few-along v least (select (widerDueBefore g v) queue) (least + 1 - (gap + s .epsilon)) (2 * s .epsilon - 2) below
+          (part-along v least least (widerDueBefore g v) queue ok (λ f m e. due-of v least queue ok f m))
+          (λ f m.
+          let here = mem-of-select (widerDueBefore g v) queue m .0 in
+          omega (arith, d .low (widerReading g v f + f .stamp .c) (due-of v least queue ok f here), ok .frames f here .close, gap-small least gap d, few))
+          (λ f m.
+          let here = mem-of-select (widerDueBefore g v) queue m .0 in
+          omega (
+            arith,
+            d .low (widerReading g v f + f .stamp .c) (due-of v least queue ok f here),
+            d .high (widerReading g v f + f .stamp .c) (due-of v least queue ok f here),
+            before-along g v f (mem-of-select (widerDueBefore g v) queue m .1),
+            ok .frames f here .close,
+            gap-small least gap d,
+            few,
+          ))
+
+  pub due-few-along : (v : ℕ) (queue : List Frame) → v < B → QueueAlong g v B queue → length (select (widerDueNow g v) queue) ≤ s .n * s .epsilon
+  due-few-along v queue below ok = go (due-gap g good B)
+    where
+      go : (gap : ℕ) × Gap g B gap → length (select (widerDueNow g v) queue) ≤ s .n * s .epsilon
+      go (gap, d) =
+          few-along v B (select (widerDueNow g v) queue) (B + 1 - (gap + s .epsilon)) (s .epsilon) below
+          (part-along v B B (widerDueNow g v) queue ok (λ f m e. due-of v B queue ok f m))
+          (λ f m.
+          let here = mem-of-select (widerDueNow g v) queue m .0 in
+          omega (arith, d .low (widerReading g v f + f .stamp .c) (due-of v B queue ok f here), ok .frames f here .close, gap-small B gap d))
+          (λ f m.
+          let here = mem-of-select (widerDueNow g v) queue m .0 in
+          omega (
+            arith,
+            d .high (widerReading g v f + f .stamp .c) (due-of v B queue ok f here),
+            now-along g v f (mem-of-select (widerDueNow g v) queue m .1),
+            gap-small B gap d,
+            limits-own .epsilon-pos,
+          ))
+
+  -- what is due before v, and then what is due at v, is in order: the sums of the first are smaller
+  pub due-sorted-along :
+      (v least : ℕ) (opened queue : List Frame) → QueueAlong g v least opened → QueueAlong g v B queue
+      → Sorted (widerKeyNear g v) (select (widerDueBefore g v) opened ++ select (widerDueNow g v) queue)
+  unfolding widerKeyNear widerKey sum
+  due-sorted-along v least opened queue first ok =
+      pairwise-append (lessBy (widerKeyNear g v)) (select (widerDueBefore g v) opened) (select (widerDueNow g v) queue)
+      (sorted-select (widerKeyNear g v) (widerDueBefore g v) opened (ordered-along g v opened (first .ordered)))
+      (sorted-select (widerKeyNear g v) (widerDueNow g v) queue (ordered-along g v queue (ok .ordered)))
+      (λ a b m h. smaller a b (before-along g v a (mem-of-select (widerDueBefore g v) opened m .1)) (now-along g v b (mem-of-select (widerDueNow g v) queue h .1)))
+    where
+      less : (x y : ℕ) → dueAlong g x < B → dueAlong g y ≡ B → x < y
+      less x y p q =
+          elim (lt-or-ge x y) [
+            | inl h ↦ h
+            | inr h ↦ absurd (omega (arith, due-grows g good y x h, p, q))
+          ]
+
+      smaller :
+          (a b : Frame) → dueAlong g (widerReading g v a + a .stamp .c) < B → dueAlong g (widerReading g v b + b .stamp .c) ≡ B
+          → lessBy (widerKeyNear g v) a b ≡ true
+      smaller a b p q =
+          lt-isLess (lex-head-lt (widerReading g v a + a .stamp .c) (widerReading g v b + b .stamp .c) _ _ (less (widerReading g v a + a .stamp .c) (widerReading g v b + b .stamp .c) p q))
+
+  -- what a call leaves: the queue without what is due
+  pub left-along : (v : ℕ) (queue : List Frame) → QueueAlong g v B queue → LeftAlong g v (select (λ f. not (widerDueNow g v f)) queue)
+  left-along v queue ok =
+      record {
+        frames = λ f m. ok .frames f (mem-of-select kept queue m .0);
+        ordered = along-ordered g v (select kept queue) (sorted-select (widerKeyNear g v) kept queue (ordered-along g v queue (ok .ordered)));
+        single = apart-select sameOrigin kept queue (ok .single);
+        early = λ f m. omega (arith, early-from s v f (every-mem (notEarly s v) (ok .early) (mem-of-select kept queue m .0)), modulus-own);
+        later = λ f m. omega (arith, due-of v B queue ok f (mem-of-select kept queue m .0), not-now-along g v f (mem-of-select kept queue m .1));
+      }
+    where
+      kept : Frame → Bool
+      kept f = not (widerDueNow g v f)
+
+  -- such a queue is sound for a call at v that asks for due clocks past v: a poll's
+  pub left-polled : (v : ℕ) (queue : List Frame) → LeftAlong g v queue → QueueAlong g v (B + 1) queue
+  left-polled v queue left =
+      record {
+        frames = left .frames;
+        ordered = left .ordered;
+        single = left .single;
+        early = every-of-mem (notEarly s v) queue (λ f m. early-to s v f (omega (arith, left .early f m, modulus-own)));
+        overdue = every-of-mem (widerNotOverdue g v (B + 1)) queue (λ f m. overdue-along g v (B + 1) f (omega (arith, left .later f m)));
+      }
+
+  -- what a call leaves is never full
+  pub left-room-along : (v : ℕ) (queue : List Frame) → v < B → LeftAlong g v queue → length queue < depthOf s
+  left-room-along v queue below left = room-along v (B + 1) queue below (omega arith) (omega arith) (left-polled v queue left)
+
+  -- ---- its bytes
+
+  -- the frames of a queue in a buffer, with anything behind them
+  pub bytes-along : (v least : ℕ) (queue : List Frame) (rest : List ℕ) → length queue ≤ depthOf s → QueueAlong g v least queue → widerSoundHoldback g v least (encodeFrames queue ++ rest) ≡ true
+  unfolding widerSoundHoldback
+  bytes-along v least queue rest few ok =
+      let wide : (f : Frame) → List·Memᴰ f queue → HasWidth g f = λ f m. ok .frames f m .wide in
+      let back : widerHeld g (encodeFrames queue ++ rest) ≡ queue = wide-held g queue wide rest in
+      let count : twoAt (encodeFrames queue ++ rest) 0 ≡ length queue = sym (length-wide-held g (encodeFrames queue ++ rest)) ∙ ap length back in
+      let passed : every (widerPasses g) (widerHeldBytes g (encodeFrames queue ++ rest)) ≡ true =
+      ap (every (widerPasses g)) (wide-held-bytes g queue wide rest)
+      ∙ (every-map (widerPasses g) encode queue ∙ every-of-mem (λ f. widerPasses g (encode f)) queue (λ f m. wide-passes g f (ok .frames f m))) in
+      and-intro (le-leb (twoAt (encodeFrames queue ++ rest) 0) (depthOf s) (omega (arith, count, few)))
+      (and-intro passed
+      (rw back (and-intro (ok .ordered) (and-intro (ok .single) (and-intro (ok .early) (ok .overdue))))))
