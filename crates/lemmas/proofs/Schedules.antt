@@ -348,6 +348,31 @@ along-true s w v change pos at = record { moved = go (samePairs s w) }
     go true = refl
     go false = ap (widening s (widerSetup s w)) (change-true (s .modulus) v change w pos at)
 
+-- and the schedule of a call k clocks later is that of the call before, with all readings k less
+pub along-later :
+    (s : Setup) (w w′ : Wider) (v k change : ℕ) → 0 < s .modulus → w′ .epsilon ≡ w .epsilon → w′ .delta ≡ w .delta
+    → ChangeAt (s .modulus) v change w → ChangeAt (s .modulus) (v + k) change w′
+    → Aligned k 0 (along s w′ ((v + k) % s .modulus)) (along s w (v % s .modulus))
+unfolding along samePairs
+along-later s w w′ v k change pos e d at at′ =
+    record {
+      moved =
+          (λ j.
+          movedBy k
+          (cond (eqb (e j) (s .epsilon) && eqb (d j) (s .delta)) (steady s)
+          (widening s (record { n = s .n; epsilon = e j; delta = d j; modulus = s .modulus }) (changeNear (s .modulus) ((v + k) % s .modulus) w′))))
+          ∙ go (eqb (w .epsilon) (s .epsilon) && eqb (w .delta) (s .delta));
+    }
+  where
+    near-later : changeNear (s .modulus) ((v + k) % s .modulus) w′ + k ≡ changeNear (s .modulus) (v % s .modulus) w + 0
+    near-later = omega (arith, change-true (s .modulus) v change w pos at, change-true (s .modulus) (v + k) change w′ pos at′)
+
+    go :
+        (b : Bool) → movedBy k (cond b (steady s) (widening s (widerSetup s w) (changeNear (s .modulus) ((v + k) % s .modulus) w′)))
+        ≡ movedBy 0 (cond b (steady s) (widening s (widerSetup s w) (changeNear (s .modulus) (v % s .modulus) w)))
+    go true = refl
+    go false = ap (widening s (widerSetup s w)) near-later
+
 -- ---- a reading by the wider limits
 
 -- is the one by the old limits, where that lies far enough
