@@ -4,31 +4,30 @@ use Prim.Native.Nat.{ℕ, _+_, _-_, _*_, _%_, _≤_, _<_}
 use native.Mathlib.Omega.{arith}
 use native.Mathlib.Nat.{mod-eq-of-lt, mul-le-mul-left}
 use mathlib.Core.Path.{_≡_, refl, sym, ap, ap₂, subst, _∙_}
-use mathlib.Core.Logic.{_⊎_, inl, inr}
-use mathlib.Core.Bool.{Bool, true, false}
+use mathlib.Core.Logic.{inl, inr}
+use mathlib.Core.Bool.{true, false}
 use mathlib.Core.List.{List, [], _∷_, _++_, List·Memᴰ}
 use lib.Dec.{ltb}
 use lib.ListN.{length}
-use borrow.Author.Tests.{le-leb, leb-true, lt-ltb, le-ltb}
-use Rattle.laws.specs.Lists.{every, chained, apart}
+use borrow.Author.Tests.{lt-ltb, le-ltb}
 use Rattle.laws.specs.Lex.{lexCompare}
-use Rattle.laws.proofs.Numbers.{lt-or-ge, eq-or-ne, lt-or-gt}
-use Rattle.laws.proofs.Lists.{length-tab, every-of-mem}
+use Rattle.laws.proofs.Numbers.{eq-or-ne, lt-or-gt}
+use Rattle.laws.proofs.Lists.{every-of-mem}
 use Rattle.laws.proofs.Lex.{lex-head-lt, lex-head-gt, lex-shift}
-use Rattle.laws.proofs.Sorted.{Sorted, sorted-of-chained, chained-of-sorted, sorted-rekey}
+use Rattle.laws.proofs.Sorted.{sorted-rekey}
 use Rattle.model.specs.Setup.{Setup, width, depth, depthOf}
-use Rattle.model.specs.Timestamp.{Timestamp, countAt, sum, near}
+use Rattle.model.specs.Timestamp.{sum, near}
 use Rattle.model.specs.Frame.{Frame}
 use Rattle.model.specs.Order.{readingOf}
-use Rattle.model.specs.Holdback.{sameOrigin, notEarly, encodeFrames}
-use Rattle.model.specs.Schedule.{Schedule, steady, widening, limitsAt, modulusOf, widestOf, ownLimits, halfOf, oldDue, dueAlong, comparedAlong}
-use Rattle.model.specs.Wider.{frameHalf, widerReading, countsDownBy, widerKey, widerKeyNear, widerBefore, widerNotOverdue, widerSoundHoldback}
-use Rattle.lemmas.proofs.Bounds.{Limits, Sound}
+use Rattle.model.specs.Holdback.{notEarly, encodeFrames}
+use Rattle.model.specs.Schedule.{Schedule, steady, widening, limitsAt, modulusOf, ownLimits, halfOf, oldDue, dueAlong, comparedAlong}
+use Rattle.model.specs.Wider.{frameHalf, widerReading, countsDownBy, widerKey, widerKeyNear, widerNotOverdue, widerSoundHoldback}
+use Rattle.lemmas.proofs.Bounds.{Sound}
 use Rattle.lemmas.proofs.Reading.{near-later}
 use Rattle.lemmas.proofs.Queue.{early-to}
-use Rattle.lemmas.proofs.Schedules.{Widens, Good, LimitsBy, narrow, wide, limits-by, DueBy, old, new, due-by, limits-good, limits-modulus, limits-n, limits-grow, limits-widest, widest-good, widest-modulus, due-window, Aligned, limits-aligned, due-aligned, compared-aligned, half-aligned, modulus-aligned, widest-aligned, near-wider}
+use Rattle.lemmas.proofs.Schedules.{Widens, Good, LimitsBy, narrow, wide, limits-by, DueBy, old, new, due-by, limits-good, limits-modulus, limits-n, limits-grow, limits-widest, due-window, Aligned, limits-aligned, due-aligned, compared-aligned, half-aligned, modulus-aligned, widest-aligned, near-wider}
 use Rattle.lemmas.proofs.WiderQueue.{QueueAlong, LeftAlong, ordered-along, along-ordered, overdue-along, length-down-by, left-room-along, bytes-along}
-use Rattle.lemmas.proofs.WideFrames.{Half, half-one, half-back, half-some, HasWidth, FrameWithin}
+use Rattle.lemmas.proofs.WideFrames.{half-back, FrameWithin}
 
 -- keys with sums and readings k less, and the same counts, are in the same order; where the sums differ, so may the numbers of counts
 lower : (k x x′ a a′ y y′ : ℕ) (m m′ : List ℕ) → (x ≡ x′ → length m ≡ length m′)
@@ -223,10 +222,10 @@ module _ (l l′ : Schedule) (v k : ℕ) (good : Good l) (good′ : Good l′) (
       (λ f m. moved-kept f ((v + k) % modulusOf l) (reading-kept l l′ v k good good′ moved-follows below few f (left .frames f m) (left .later f m))) left
 
   -- 02: "Carry … shelf over without emptying"
-  pub shelf-moved :
+  pub holdback-moved :
       (queue : List Frame) (rest : List ℕ) → v < modulusOf l → k ≤ ownLimits l′ .epsilon → LeftAlong l v queue
       → widerSoundHoldback l′ ((v + k) % modulusOf l) (modulusOf l′ + 1 - k) (encodeFrames queue ++ rest) ≡ true
-  shelf-moved queue rest below few left =
+  holdback-moved queue rest below few left =
       bytes-carried l l′ v ((v + k) % modulusOf l) k queue rest good good′ moved-follows below left (carried-moved queue below few left)
 
 -- the old pair, then both. "its last clock being at least δ + 2ε before V": v reads B − k in the next call
@@ -277,10 +276,10 @@ module _ (s after : Setup) (change v k : ℕ) (good : Widens s after) (before-V 
       up-kept f ((v + k) % s .modulus) (left .frames f m) (left .early f m)
       (reading-kept (steady s) both v k (good .old) good up-follows below few f (left .frames f m) (left .later f m))) left
 
-  pub shelf-up :
+  pub holdback-up :
       (queue : List Frame) (rest : List ℕ) → v < s .modulus → k ≤ ownLimits both .epsilon → LeftAlong (steady s) v queue
       → widerSoundHoldback both ((v + k) % s .modulus) (s .modulus + 1 - k) (encodeFrames queue ++ rest) ≡ true
-  shelf-up queue rest below few left =
+  holdback-up queue rest below few left =
       bytes-carried (steady s) both v ((v + k) % s .modulus) k queue rest (good .old) good up-follows below left (carried-up queue below few left)
 
 -- both pairs, then the new one, where every frame on the shelf is wide. V is at most one past v, which reads B
@@ -328,8 +327,8 @@ module _ (before after : Setup) (change v k : ℕ) (good : Widens before after) 
       down-kept f ((v + k) % before .modulus) (all-wide f m) (left .later f m)
       (reading-kept pairs (steady after) v k good (good .new) down-follows below few f (left .frames f m) (left .later f m))) left
 
-  pub shelf-down :
+  pub holdback-down :
       (queue : List Frame) (rest : List ℕ) → v < before .modulus → k ≤ after .epsilon → ((f : Frame) → List·Memᴰ f queue → frameHalf pairs f ≡ after .epsilon) → LeftAlong pairs v queue
       → widerSoundHoldback (steady after) ((v + k) % before .modulus) (after .modulus + 1 - k) (encodeFrames queue ++ rest) ≡ true
-  shelf-down queue rest below few all-wide left =
+  holdback-down queue rest below few all-wide left =
       bytes-carried pairs (steady after) v ((v + k) % before .modulus) k queue rest good (good .new) down-follows below left (carried-down queue below few all-wide left)

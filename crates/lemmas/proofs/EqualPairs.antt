@@ -22,8 +22,8 @@ use Rattle.model.specs.Batch.{exactBatch, batchEntries}
 use Rattle.model.specs.Question.{Question, ask, firstNo, askSetup, askForm, askRange, askStamp, frameQuestions}
 use Rattle.model.specs.Codec.{askPayload, readQuestions, ReadAnswer, readBy, read, frameOf, writeFrameQuestions, writeBy, writeFrame, write}
 use Rattle.model.specs.Holdback.{cutBy, sameOrigin, notEarly, encodeFrames, encodeHoldback}
-use Rattle.model.specs.Judge.{Asking, askLate, askEarly, askRepeat, verdictBy, Heard, hearBy, absorbEach}
-use Rattle.model.specs.Tick.{Input, Output, holdbackSize, stepOf, leastAt, takenCount, boardRoomy, holdbackQuestions, acceptedWith, callQuestions, roomy, tickBy, tick}
+use Rattle.model.specs.Judge.{askLate, askEarly, askRepeat, verdictBy, hearBy, absorbEach}
+use Rattle.model.specs.Tick.{Input, holdbackSize, stepOf, leastAt, takenCount, boardRoomy, holdbackQuestions, acceptedWith, callQuestions, roomy, tickBy, tick}
 use Rattle.model.specs.Observer.{Listening, listenQuestions, listenBy, listen}
 use Rattle.model.specs.Poll.{pollQuestions, pollBy, polledQueue, poll}
 use Rattle.model.specs.Schedule.{Schedule, steady, widening, limitsAt, widestOf, Wider, widerSetup, bothInLimits, askBoth, askWider, samePairs, along, ownLimits, halfOf, tablesHalf, oldDue, dueAlong, comparedAlong}
@@ -113,16 +113,16 @@ module _ (s : Setup) (change : ℕ) where
   unfolding widerHeld
   held-same = λ j bytes. map (decode-same j) (held-bytes-same j bytes)
 
-  shelf-same : widerSoundHoldback twice ≡ widerSoundHoldback once
+  holdback-same : widerSoundHoldback twice ≡ widerSoundHoldback once
   unfolding widerSoundHoldback widerPasses widerNotOverdue
-  shelf-same = λ j v least bytes.
+  holdback-same = λ j v least bytes.
       leb (twoAt bytes 0) (depthOf (own j)) && (every (λ b. eqb (firstNo (questions-same j b)) 0) (held-bytes-same j bytes)
       && (chained (before-same j v) (held-same j bytes) && (apart sameOrigin (held-same j bytes)
       && (every (notEarly (own j) v) (held-same j bytes) && every (λ f. leb least (due-same j v f)) (held-same j bytes)))))
 
   opening-same : widerOpeningQueue twice ≡ widerOpeningQueue once
   unfolding widerOpeningQueue
-  opening-same = λ j v least bytes. cond (shelf-same j v least bytes) (held-same j bytes) []
+  opening-same = λ j v least bytes. cond (holdback-same j v least bytes) (held-same j bytes) []
 
   due-before-same : widerDueBefore twice ≡ widerDueBefore once
   unfolding widerDueBefore
@@ -251,7 +251,7 @@ module _ (s : Setup) (change : ℕ) where
   unfolding widerAcceptance widerRepair widerShelfSound widerSent widerKeptOf
   tick-same i = λ j.
       acceptedWith i
-      (cond (tables-same j (i .clock) (i .tables)) 0 1 + cond (shelf-same j (i .clock) (least-same j (i .clock) (i .tables)) (i .holdback)) 0 2)
+      (cond (tables-same j (i .clock) (i .tables)) 0 1 + cond (holdback-same j (i .clock) (least-same j (i .clock) (i .tables)) (i .holdback)) 0 2)
       (new-stamp-same i j) (heard-same j i .verdicts)
       (cond (i .send) (encode (frameOf (own j .epsilon) (i .own) (new-stamp-same i j) (i .payload))) [])
       (delivered-same j i) (encodeFrames (delivered-same j i))
@@ -286,7 +286,7 @@ module _ (s : Setup) (change : ℕ) where
         number = 0;
         repair =
             cond (soundClock (own j .epsilon) (s .modulus) (i .clock) (i .last)) 0 1
-            + cond (shelf-same j (i .clock) (observer-least-same i j) (i .holdback)) 0 2;
+            + cond (holdback-same j (i .clock) (observer-least-same i j) (i .holdback)) 0 2;
         taken = takenCount (observer-heard-same i j .verdicts);
         delivered = length (observer-delivered-same i j);
         last = i .clock;

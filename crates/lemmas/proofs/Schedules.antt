@@ -1,17 +1,17 @@
 -- 02, 2.10: limits that change at a clock. How due clocks lie, how a schedule is moved from true clocks to readings, and how a reading by the
 -- wider limits is the one by the old ones. Assumes nothing.
-use Prim.Native.Nat.{ℕ, _+_, _-_, _*_, _%_, _≤_, _<_}
+use Prim.Native.Nat.{ℕ, _+_, _-_, _%_, _≤_, _<_}
 use native.Mathlib.Omega.{arith}
 use native.Mathlib.Nat.{mod-lt, mod-self, add-mod-right}
 use mathlib.Core.Path.{_≡_, refl, sym, ap, subst, _∙_}
-use mathlib.Core.Logic.{_⊎_, inl, inr}
-use mathlib.Core.Bool.{Bool, true, false, _&&_, not, cond}
-use lib.Dec.{leb, ltb, eqb}
-use borrow.Author.Tests.{le-leb, lt-ltb, le-ltb, eq-eqb, ne-eqb, ltb-true, leb-true}
-use Rattle.laws.proofs.Numbers.{lt-or-ge, eq-or-ne, ahead-ge, ahead-lt}
-use Rattle.model.specs.Setup.{Setup, width}
+use mathlib.Core.Logic.{inl, inr}
+use mathlib.Core.Bool.{Bool, true, false, _&&_, cond}
+use lib.Dec.{ltb, eqb}
+use borrow.Author.Tests.{lt-ltb, le-ltb, ne-eqb}
+use Rattle.laws.proofs.Numbers.{lt-or-ge, ahead-ge}
+use Rattle.model.specs.Setup.{Setup}
 use Rattle.model.specs.Timestamp.{ahead, near}
-use Rattle.model.specs.Schedule.{Schedule, steady, widening, limitsAt, modulusOf, widestOf, Wider, widerSetup, isMarked, changeAhead, changeBehind, changeNear, samePairs, along, ownLimits, halfOf, tablesHalf, oldDue, dueAlong, comparedAlong}
+use Rattle.model.specs.Schedule.{Schedule, steady, widening, limitsAt, modulusOf, widestOf, Wider, widerSetup, isMarked, changeAhead, changeBehind, changeNear, samePairs, along, halfOf, oldDue, dueAlong, comparedAlong}
 use Rattle.lemmas.proofs.Bounds.{Limits}
 use Rattle.lemmas.proofs.Reading.{near-ahead, near-behind}
 

@@ -5,7 +5,7 @@ use Prim.Native.Nat.{ℕ, suc, _+_, _-_, _≤_, _<_}
 use native.Mathlib.Omega.{arith}
 use mathlib.Core.Path.{_≡_, refl, sym, ap, subst, _∙_}
 use mathlib.Core.Logic.{_⊎_, inl, inr}
-use mathlib.Core.Bool.{Bool, true, _&&_}
+use mathlib.Core.Bool.{true, _&&_}
 use mathlib.Core.List.{List, [], _∷_, _++_, map, append-nil, List·Memᴰ}
 use lib.Dec.{leb, ltb, eqb}
 use lib.ListN.{length, drop, getD, length-map}
@@ -14,17 +14,17 @@ use Rattle.laws.specs.Lists.{every, placedAt, padded}
 use Rattle.laws.proofs.Numbers.{lt-or-ge, eq-or-ne, and-intro, and-left, and-right}
 use Rattle.laws.proofs.Lists.{length-padded}
 use Rattle.model.specs.Setup.{Setup, width, depth, longestFrame, holdbackLength}
-use Rattle.model.specs.Timestamp.{Timestamp, countAt, countsFrom, atMost, soundTimestamp}
+use Rattle.model.specs.Timestamp.{Timestamp, countAt, atMost, soundTimestamp}
 use Rattle.model.specs.Frame.{Frame, twoAt, encode, decode, frameEnd, wellFormed}
 use Rattle.model.specs.Question.{Question, ask, firstNo, askRange}
 use Rattle.model.specs.Holdback.{encodeFrames, encodeHoldback}
 use Rattle.model.specs.Tick.{holdbackSize}
 use Rattle.model.specs.Schedule.{Schedule, steady, widening, widestOf, ownLimits, halfOf}
 use Rattle.model.specs.Wider.{halfIn, widerFormed, widerDecode, widerEnd, frameHalf, soundWithin, questionsWithin, widerFrameQuestions, widerHeldBytes, widerHeld, widerPasses}
-use Rattle.lemmas.proofs.Bounds.{Limits, Sound, FrameOk}
+use Rattle.lemmas.proofs.Bounds.{Sound}
 use Rattle.lemmas.proofs.Counts.{count-past, sound-from, sound-to}
 use Rattle.lemmas.proofs.RoundTrip.{encode-bytes, length-encode, decode-encode, frame-end, well-formed-encode, encode-decode, formed-from, decode-wide, decode-payload, none-no, cut-frames, length-cut-by, decode-each, length-frames}
-use Rattle.lemmas.proofs.Schedules.{Widens, Good}
+use Rattle.lemmas.proofs.Schedules.{Good}
 
 -- ---- the two half widths
 

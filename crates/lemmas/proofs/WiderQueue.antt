@@ -2,34 +2,33 @@
 -- Readings are by the limits of the call's own clock; due clocks and the order by the schedule. Assumes nothing.
 use Prim.Native.Nat.{ℕ, suc, _+_, _-_, _*_, _≤_, _<_}
 use native.Mathlib.Omega.{arith}
-use native.Mathlib.Nat.{mul-suc, mul-le-mul-left}
+use native.Mathlib.Nat.{mul-suc}
 use mathlib.Core.Path.{_≡_, refl, sym, ap, subst, _∙_}
 use mathlib.Core.Logic.{_⊎_, inl, inr}
 use mathlib.Core.Bool.{Bool, true, false, not, cond}
 use mathlib.Core.List.{List, [], _∷_, _++_, List·Memᴰ, List·Memᴰ·not-nil, Memᴰ·of-map}
 use lib.Dec.{leb, ltb, eqb}
-use lib.ListN.{length, drop, length-append}
+use lib.ListN.{length, drop}
 use lib.Seq.{drop-at}
 use borrow.Author.Tests.{le-leb, leb-true, ltb-true, ltb-false, eqb-true, eqb-false}
-use Rattle.laws.specs.Lists.{any, every, chained, apart, select, insertAt, padded}
-use Rattle.laws.specs.Lex.{lexCompare}
+use Rattle.laws.specs.Lists.{any, every, chained, apart, select, insertAt}
 use Rattle.laws.proofs.Numbers.{lt-or-ge, clash, and-intro, and-left, and-right, false-of-not}
 use Rattle.laws.proofs.Lists.{length-tab, every-mem, every-of-mem, every-map, every-insertAt, any-false, mem-of-insertAt, mem-of-select}
 use Rattle.laws.proofs.Lex.{lt-isLess, lex-head-lt}
 use Rattle.laws.proofs.Sorted.{lessBy, Sorted, pairwise-append, sorted-of-chained, chained-of-sorted, sorted-select, sorted-insert, apart-select, apart-insertAt, pigeonhole-pairs}
-use Rattle.model.specs.Setup.{Setup, width, depth, depthOf}
-use Rattle.model.specs.Timestamp.{Timestamp, countAt, countsFrom, sum, atMost, near}
+use Rattle.model.specs.Setup.{Setup, depth, depthOf}
+use Rattle.model.specs.Timestamp.{Timestamp, countAt, countsFrom, sum, atMost}
 use Rattle.model.specs.Frame.{Frame, twoAt, encode}
 use Rattle.model.specs.Order.{readingOf}
-use Rattle.model.specs.Holdback.{sameOrigin, notEarly, encodeFrames, encodeHoldback}
-use Rattle.model.specs.Question.{Question, ask, firstNo}
+use Rattle.model.specs.Holdback.{sameOrigin, notEarly, encodeFrames}
+use Rattle.model.specs.Question.{Question, firstNo}
 use Rattle.model.specs.Judge.{Asking, askLate, askEarly, askRepeat}
-use Rattle.model.specs.Schedule.{Schedule, steady, widening, limitsAt, modulusOf, widestOf, ownLimits, dueAlong, comparedAlong}
+use Rattle.model.specs.Schedule.{Schedule, steady, widening, modulusOf, ownLimits, dueAlong, comparedAlong}
 use Rattle.model.specs.Wider.{frameHalf, widerReading, widerDecode, countsDownBy, widerKey, widerKeyNear, widerBefore, widerDue, widerHeldBytes, widerHeld, widerPasses, widerNotOverdue, widerSoundHoldback, widerOpeningQueue, widerDueBefore, widerDueNow, notLateAlong, widerAskLate, widerAskCounts, widerFrameQuestions, widerPlaceQuestions, widerObserverPlaceQuestions, widerQuestions, widerObserverQuestions, widerPlace}
 use Rattle.lemmas.proofs.Bounds.{Limits}
-use Rattle.lemmas.proofs.Reading.{near-high, near-injective}
+use Rattle.lemmas.proofs.Reading.{near-injective}
 use Rattle.lemmas.proofs.RoundTrip.{none-no}
-use Rattle.lemmas.proofs.Queue.{early-from, early-to, reading-high, origin-to, origin-sym, passed-new, both-few, depth-small}
+use Rattle.lemmas.proofs.Queue.{early-from, early-to, reading-high, origin-to, origin-sym, passed-new}
 use Rattle.lemmas.proofs.Schedules.{Good, limits-good, limits-modulus, limits-widest, widest-good, widest-modulus, due-grows, due-window, Gap, due-gap}
 use Rattle.lemmas.proofs.WideFrames.{HasWidth, FrameWithin, within-passed, wide-passes, passes-wide, wide-held-bytes, wide-held, length-wide-held}
 

@@ -1,24 +1,23 @@
 -- 02, 2.10, where nothing changes: by a steady schedule everything is what it is with one pair, and it computes to that. So does a widening
 -- between equal pairs, wherever V stands; and the calls with equal pairs are the plain ones.
 -- Assumes nothing.
-use Prim.Native.Nat.{ℕ, zero, suc, _+_}
+use Prim.Native.Nat.{ℕ}
 use mathlib.Core.Path.{_≡_, refl}
-use mathlib.Core.List.{List}
 use Rattle.model.proofs.ComputingWider.{computingWider}
 use Rattle.model.specs.Setup.{Setup}
-use Rattle.model.specs.Timestamp.{Timestamp, soundTimestamp, soundTables, countAt, countsFrom, absorb, fresh}
-use Rattle.model.specs.Frame.{Frame, wellFormed, decode, frameEnd}
-use Rattle.model.specs.Order.{readingOf, countsDown, keyBy, key, keyNear, compareFrames, before, due, dueNear}
-use Rattle.model.specs.Question.{Question, askForm, askRange, askStamp, frameQuestions}
-use Rattle.model.specs.Holdback.{cutBy, cutFrames, heldBytes, held, passes, notEarly, notOverdue, soundHoldback}
-use Rattle.model.specs.Judge.{Asking, Heard, askLate, askCounts, placeQuestions, judgeQuestions, observerPlaceQuestions, observerQuestions, placeFor, judge, hearOne, hear, absorbAll}
-use Rattle.model.specs.Tick.{Input, roomy, tablesSound, stepOf, leastDue, shelfSound, repairOf, openingStamp, openingQueue, openedQueue, dueBefore, dueNow, earlyOf, heardOf, heardStamp, newStamp, sentBytes, deliveredOf, keptOf, acceptance}
-use Rattle.model.specs.Observer.{Listening, lastSound, observerLeast, observerRepair, observerOpened, observerHeard, observerDelivered, observerKept, listened}
-use Rattle.model.specs.Poll.{polledQueue, soonestDue, nextDue, dueWithin, numberWithin, pollBy}
+use Rattle.model.specs.Timestamp.{Timestamp, soundTimestamp, absorb}
+use Rattle.model.specs.Frame.{wellFormed, decode}
+use Rattle.model.specs.Order.{countsDown, key, before, dueNear}
+use Rattle.model.specs.Question.{frameQuestions}
+use Rattle.model.specs.Holdback.{heldBytes, held, soundHoldback}
+use Rattle.model.specs.Judge.{judgeQuestions, observerQuestions, judge, hear, absorbAll}
+use Rattle.model.specs.Tick.{Input, tablesSound, openingStamp, openingQueue, acceptance}
+use Rattle.model.specs.Observer.{Listening, listened}
+use Rattle.model.specs.Poll.{polledQueue, nextDue, numberWithin}
 use Rattle.model.specs.Comparison.{compared}
-use Rattle.model.specs.Schedule.{Schedule, steady, limitsAt, modulusOf, widestOf, ownLimits, halfOf, tablesHalf, dueAlong, comparedAlong}
-use Rattle.model.specs.Wider.{widerFormed, widerDecode, widerEnd, frameHalf, soundWithin, widerFrameQuestions, countsDownBy, widerKey, widerKeyNear, widerBefore, widerDue, widerHeldBytes, widerHeld, widerPasses, widerNotOverdue, widerSoundHoldback, widerOpeningQueue, widerDueBefore, widerDueNow, widerAskLate, widerAskCounts, widerPlaceQuestions, widerObserverPlaceQuestions, widerQuestions, widerObserverQuestions, widerPlace, widerJudge, widerHearOne, widerHear, absorbWide, widerAbsorbAll, widerTablesSound, widerLeast, widerShelfSound, widerRepair, widerOpeningStamp, widerOpened, widerHeard, widerHeardStamp, widerNewStamp, widerSent, widerDeliveredOf, widerKeptOf, widerAcceptance}
-use Rattle.model.specs.WiderCalls.{widerLastSound, widerObserverLeast, widerObserverRepair, widerObserverOpened, widerObserverHeard, widerObserverDelivered, widerObserverKept, widerListened, widerPolledQueue, widerSoonestDue, widerNextDue, widerDueWithin, widerNumberWithin, widerPollBy, widerCompared}
+use Rattle.model.specs.Schedule.{steady, widestOf, ownLimits}
+use Rattle.model.specs.Wider.{widerFormed, widerDecode, soundWithin, widerFrameQuestions, countsDownBy, widerKey, widerBefore, widerDue, widerHeldBytes, widerHeld, widerSoundHoldback, widerOpeningQueue, widerQuestions, widerObserverQuestions, widerJudge, widerHear, absorbWide, widerAbsorbAll, widerTablesSound, widerOpeningStamp, widerAcceptance}
+use Rattle.model.specs.WiderCalls.{widerListened, widerPolledQueue, widerNextDue, widerNumberWithin, widerCompared}
 
 -- the stamp's own definitions, with one width for both
 pub sound-one : (n epsilon : ℕ) (t : Timestamp) → soundWithin n epsilon epsilon t ≡ soundTimestamp n epsilon t
@@ -73,9 +72,9 @@ module _ (s : Setup) where
   unfolding computingWider
   held-steady = refl
 
-  pub shelf-steady : widerSoundHoldback (steady s) ≡ soundHoldback s
+  pub holdback-steady : widerSoundHoldback (steady s) ≡ soundHoldback s
   unfolding computingWider
-  shelf-steady = refl
+  holdback-steady = refl
 
   pub opening-steady : widerOpeningQueue (steady s) ≡ openingQueue s
   unfolding computingWider

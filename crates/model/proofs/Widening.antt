@@ -14,7 +14,7 @@ use Rattle.model.specs.Comparison.{CompareAnswer, orderNumber, reasonNum
 use Rattle.model.specs.Holdback.{encodeHoldback}
 use Rattle.model.specs.Judge.{verdictNumber}
 use Rattle.model.specs.Tick.{Input, Output, holdbackSize}
-use Rattle.model.specs.Observer.{Listening, Listened}
+use Rattle.model.specs.Observer.{Listened}
 use Rattle.model.specs.Poll.{PollAnswer}
 use Rattle.model.specs.Schedule.{Wider, changeNear, along, ownLimits, sideOf}
 use Rattle.model.specs.Wider.{widerDue, widerHeld, widerQuestions, widerJudge, tickIn}
