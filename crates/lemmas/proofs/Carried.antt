@@ -2,7 +2,7 @@
 -- differ: both pairs again, at a clock k later; the old pair, then both; both, then the new pair alone. Assumes nothing.
 use Prim.Native.Nat.{ℕ, _+_, _-_, _*_, _%_, _≤_, _<_}
 use native.Mathlib.Omega.{arith}
-use native.Mathlib.Nat.{mod-eq-of-lt, mul-le-mul-left}
+use native.Mathlib.Nat.{mod-eq-of-lt}
 use mathlib.Core.Path.{_≡_, refl, sym, ap, ap₂, subst, _∙_}
 use mathlib.Core.Logic.{inl, inr}
 use mathlib.Core.Bool.{true, false}
@@ -15,7 +15,7 @@ use Rattle.laws.proofs.Numbers.{eq-or-ne, lt-or-gt}
 use Rattle.laws.proofs.Lists.{every-of-mem}
 use Rattle.laws.proofs.Lex.{lex-head-lt, lex-head-gt, lex-shift}
 use Rattle.laws.proofs.Sorted.{sorted-rekey}
-use Rattle.model.specs.Setup.{Setup, width, depth, depthOf}
+use Rattle.model.specs.Setup.{Setup, width, depthOf}
 use Rattle.model.specs.Timestamp.{sum, near}
 use Rattle.model.specs.Frame.{Frame}
 use Rattle.model.specs.Order.{readingOf}
@@ -26,7 +26,7 @@ use Rattle.lemmas.proofs.Bounds.{Sound}
 use Rattle.lemmas.proofs.Reading.{near-later}
 use Rattle.lemmas.proofs.Queue.{early-to}
 use Rattle.lemmas.proofs.Schedules.{Widens, Good, LimitsBy, narrow, wide, limits-by, DueBy, old, new, due-by, limits-good, limits-modulus, limits-n, limits-grow, limits-widest, due-window, Aligned, limits-aligned, due-aligned, compared-aligned, half-aligned, modulus-aligned, widest-aligned, near-wider}
-use Rattle.lemmas.proofs.WiderQueue.{QueueAlong, LeftAlong, ordered-along, along-ordered, overdue-along, length-down-by, left-room-along, bytes-along}
+use Rattle.lemmas.proofs.WiderQueue.{QueueAlong, LeftAlong, ordered-along, along-ordered, overdue-along, length-down-by, depth-grows, left-room-along, bytes-along}
 use Rattle.lemmas.proofs.WideFrames.{half-back, FrameWithin}
 
 -- keys with sums and readings k less, and the same counts, are in the same order; where the sums differ, so may the numbers of counts
@@ -131,11 +131,7 @@ module _ (l l′ : Schedule) (v v′ k : ℕ) where
 
   -- and so are its bytes, whatever stands behind them: it was not full, and the next limits leave as much room or more
   follows-depth : Follows l l′ → depthOf (ownLimits l) ≤ depthOf (ownLimits l′)
-  unfolding depth
-  follows-depth follows =
-      rw (follows .n)
-      (mul-le-mul-left (ownLimits l .n)
-      (let more : ownLimits l .delta + 3 * ownLimits l .epsilon ≤ ownLimits l′ .delta + 3 * ownLimits l′ .epsilon = omega (arith, follows .epsilon, follows .delta) in more))
+  follows-depth follows = depth-grows (ownLimits l) (ownLimits l′) (sym (follows .n)) (follows .epsilon) (follows .delta)
 
   pub bytes-carried :
       (queue : List Frame) (rest : List ℕ) → Good l → Good l′ → Follows l l′ → v < modulusOf l → LeftAlong l v queue → QueueAlong l′ v′ (modulusOf l′ + 1 - k) queue

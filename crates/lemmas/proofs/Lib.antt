@@ -20,3 +20,5 @@ pub mod WideFrames
 pub mod WiderQueue
 pub mod Carried
 pub mod EqualPairs
+pub mod WiderBoard
+pub mod WiderTick

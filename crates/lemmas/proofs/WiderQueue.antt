@@ -2,7 +2,7 @@
 -- Readings are by the limits of the call's own clock; due clocks and the order by the schedule. Assumes nothing.
 use Prim.Native.Nat.{ℕ, suc, _+_, _-_, _*_, _≤_, _<_}
 use native.Mathlib.Omega.{arith}
-use native.Mathlib.Nat.{mul-suc}
+use native.Mathlib.Nat.{mul-suc, mul-le-mul-left}
 use mathlib.Core.Path.{_≡_, refl, sym, ap, subst, _∙_}
 use mathlib.Core.Logic.{_⊎_, inl, inr}
 use mathlib.Core.Bool.{Bool, true, false, not, cond}
@@ -23,13 +23,13 @@ use Rattle.model.specs.Order.{readingOf}
 use Rattle.model.specs.Holdback.{sameOrigin, notEarly, encodeFrames}
 use Rattle.model.specs.Question.{Question, firstNo}
 use Rattle.model.specs.Judge.{Asking, askLate, askEarly, askRepeat}
-use Rattle.model.specs.Schedule.{Schedule, steady, widening, modulusOf, ownLimits, dueAlong, comparedAlong}
+use Rattle.model.specs.Schedule.{Schedule, steady, widening, modulusOf, widestOf, ownLimits, dueAlong, comparedAlong}
 use Rattle.model.specs.Wider.{frameHalf, widerReading, widerDecode, countsDownBy, widerKey, widerKeyNear, widerBefore, widerDue, widerHeldBytes, widerHeld, widerPasses, widerNotOverdue, widerSoundHoldback, widerOpeningQueue, widerDueBefore, widerDueNow, notLateAlong, widerAskLate, widerAskCounts, widerFrameQuestions, widerPlaceQuestions, widerObserverPlaceQuestions, widerQuestions, widerObserverQuestions, widerPlace}
 use Rattle.lemmas.proofs.Bounds.{Limits}
 use Rattle.lemmas.proofs.Reading.{near-injective}
 use Rattle.lemmas.proofs.RoundTrip.{none-no}
 use Rattle.lemmas.proofs.Queue.{early-from, early-to, reading-high, origin-to, origin-sym, passed-new}
-use Rattle.lemmas.proofs.Schedules.{Good, limits-good, limits-modulus, limits-widest, widest-good, widest-modulus, due-grows, due-window, Gap, due-gap}
+use Rattle.lemmas.proofs.Schedules.{Good, limits-good, limits-modulus, limits-n, limits-widest, widest-good, widest-modulus, due-grows, due-window, Gap, due-gap}
 use Rattle.lemmas.proofs.WideFrames.{HasWidth, FrameWithin, within-passed, wide-passes, passes-wide, wide-held-bytes, wide-held, length-wide-held}
 
 -- a queue that is sound for the modular clock v, with the least due clock that is allowed
@@ -173,6 +173,18 @@ module _ (g : Schedule) (good : Good g) (v : ℕ) (queue : List Frame) (bytes : 
   observed-along e =
       let t = passed-front (askRepeat queue heardFrame ∷ []) e in
       t .0 (passed-new queue heardFrame [] (t .1))
+
+-- ---- how many frames a shelf is for
+
+-- wider limits leave as much room or more
+pub depth-grows : (a b : Setup) → a .n ≡ b .n → a .epsilon ≤ b .epsilon → a .delta ≤ b .delta → depthOf a ≤ depthOf b
+unfolding depth
+depth-grows a b n epsilon delta =
+    rw n (mul-le-mul-left (b .n) (let more : a .delta + 3 * a .epsilon ≤ b .delta + 3 * b .epsilon = omega arith in more))
+
+pub depth-widest : (g : Schedule) → Good g → depthOf (ownLimits g) ≤ depthOf (widestOf g)
+depth-widest g good =
+    depth-grows (ownLimits g) (widestOf g) (limits-n g good (modulusOf g)) (limits-widest g good (modulusOf g) .0) (limits-widest g good (modulusOf g) .1)
 
 -- ---- a queue
 
