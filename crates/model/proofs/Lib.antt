@@ -7,3 +7,4 @@ pub mod Engines
 pub mod ComputingWider
 pub mod Widening
 pub mod Steady
+pub mod EqualCalls
