@@ -22,3 +22,4 @@ pub mod Carried
 pub mod EqualPairs
 pub mod WiderBoard
 pub mod WiderTick
+pub mod Agreeing
