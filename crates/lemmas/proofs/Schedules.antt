@@ -7,11 +7,11 @@ use mathlib.Core.Path.{_≡_, refl, sym, ap, subst, _∙_}
 use mathlib.Core.Logic.{inl, inr}
 use mathlib.Core.Bool.{Bool, true, false, _&&_, cond}
 use lib.Dec.{ltb, eqb}
-use borrow.Author.Tests.{lt-ltb, le-ltb, ne-eqb}
-use Rattle.laws.proofs.Numbers.{lt-or-ge, ahead-ge}
+use borrow.Author.Tests.{lt-ltb, le-ltb, eq-eqb, ne-eqb}
+use Rattle.laws.proofs.Numbers.{lt-or-ge, eq-or-ne, ahead-ge}
 use Rattle.model.specs.Setup.{Setup}
 use Rattle.model.specs.Timestamp.{ahead, near}
-use Rattle.model.specs.Schedule.{Schedule, steady, widening, limitsAt, modulusOf, widestOf, Wider, widerSetup, isMarked, changeAhead, changeBehind, changeNear, samePairs, along, halfOf, oldDue, dueAlong, comparedAlong}
+use Rattle.model.specs.Schedule.{Schedule, steady, widening, limitsAt, modulusOf, widestOf, Wider, widerSetup, isMarked, changeAhead, changeBehind, changeNear, samePairs, along, ownLimits, sideOf, halfOf, oldDue, dueAlong, comparedAlong}
 use Rattle.lemmas.proofs.Bounds.{Limits}
 use Rattle.lemmas.proofs.Reading.{near-ahead, near-behind}
 
@@ -330,6 +330,26 @@ change-true B v change w pos at = go (isMarked w) refl
     go false e =
         let h = at .unmarked e in
         rw (at .reduced, ahead-true B v change pos (h .0) (h .1)) (omega (arith, h .0))
+
+-- by the mark alone V lies past v or not: "A tick uses the limits of its own clock", by the mark
+pub change-side : (B v : ℕ) (w : Wider) → 0 < B → (isMarked w ≡ false → B < changeNear B v w) × (isMarked w ≡ true → changeNear B v w ≤ B)
+unfolding changeNear changeAhead
+change-side B v w pos = (λ e. rw e (past (ahead B v (w .change))), λ e. rw e (omega arith))
+  where
+    past : (a : ℕ) → B < B + cond (eqb a 0) B a
+    past a =
+        elim (eq-or-ne a 0) [
+          | inl e ↦ rw (eq-eqb a 0 e) (omega arith)
+          | inr e ↦ rw (ne-eqb a 0 e) (omega arith)
+        ]
+
+pub side-own : (s : Setup) (w : Wider) (v : ℕ) → 0 < s .modulus → samePairs s w ≡ false → ownLimits (along s w v) ≡ sideOf s w
+unfolding along
+side-own s w v pos differ = rw differ (go (isMarked w) refl)
+  where
+    go : (b : Bool) → isMarked w ≡ b → cond (ltb (s .modulus) (changeNear (s .modulus) v w)) s (widerSetup s w) ≡ cond b (widerSetup s w) s
+    go true e = rw (le-ltb (s .modulus) (changeNear (s .modulus) v w) (change-side (s .modulus) v w pos .1 e))
+    go false e = rw (lt-ltb (s .modulus) (changeNear (s .modulus) v w) (change-side (s .modulus) v w pos .0 e))
 
 -- the schedule of these pairs among true clocks
 abbrev pub trueSchedule : Setup → Wider → ℕ → Schedule
