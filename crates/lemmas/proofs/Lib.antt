@@ -15,3 +15,11 @@ pub mod OneListening
 pub mod LongTick
 pub mod NextCall
 pub mod Comparing
+pub mod Schedules
+pub mod WideFrames
+pub mod WiderQueue
+pub mod Carried
+pub mod EqualPairs
+pub mod WiderBoard
+pub mod WiderTick
+pub mod Agreeing
