@@ -13,7 +13,7 @@ use lib.Seq.{getD-drop, getD-set-same, getD-set-other}
 use borrow.Author.Tests.{le-leb, lt-leb, leb-true, lt-ltb, ltb-true}
 use Rattle.laws.specs.Lists.{within, tab, placedAt, padded}
 use Rattle.laws.proofs.Numbers.{lt-or-ge, eq-or-ne, and-intro, and-left, and-right}
-use Rattle.laws.proofs.Lists.{length-tab, getD-tab, getD-tab-out, tab-getD, tab-ext, every-index, every-of-index, getD-zeros, getD-append-zeros, getD-padded, length-padded}
+use Rattle.laws.proofs.Lists.{length-tab, getD-tab, getD-tab-out, tab-getD, tab-ext, every-index, every-of-index, getD-zeros, getD-append-zeros, getD-padded}
 use Rattle.model.specs.Setup.{width, widest}
 use Rattle.model.specs.Timestamp.{Timestamp, countAt, countsFrom, sum, atMost, soundTimestamp, clockStep, soundTables, shift, step, replaced, absorb, countOwn, trimmed, widened, fresh, soundClock, soundBeside}
 use Rattle.model.specs.Order.{countsDown}
@@ -212,13 +212,6 @@ trimmed-widened epsilon t h w =
     tab-ext (width epsilon) (λ i. getD (padded widest (t .kn)) i 0) (λ i. getD (t .kn) i 0) (λ i k. getD-padded widest (t .kn) i)
     ∙ tab-getD (width epsilon) (t .kn) 0 w in
     λ i. record { r = t .r; c = t .c; kn = e i }
-
--- a timestamp whose places past the 2ε counts are 0 has all its places
-pub narrow-long : (epsilon : ℕ) (t : Timestamp) → epsilon ≤ 16 → t ≡ widened (trimmed epsilon t) → length (t .kn) ≡ 32
-unfolding widened width
-narrow-long epsilon t small narrow =
-    ap (λ (u : Timestamp). length (u .kn)) narrow
-    ∙ length-padded 32 (trimmed epsilon t .kn) (omega (arith, trimmed-wide epsilon t))
 
 pub trimmed-same : (epsilon : ℕ) (t : Timestamp) → length (t .kn) ≡ width epsilon → trimmed epsilon t ≡ t
 unfolding trimmed

@@ -1,10 +1,10 @@
--- `holdback::compare::older_counts` meets its contract: where ε is at most 8, there are no older counts. Assumes nothing.
+-- `holdback::keys::older_counts` meets its contract: where ε is at most 8, there are no older counts. Assumes nothing.
 use mathlib.Core.Path.{sym}
 use Rattle.model.specs.Frame.{countsOf}
 use Rattle.holdback.proofs.Newest.{none-older}
 use borrow.Author.Needs.{needs}
-use Rattle.holdback.proofs.compare.older_counts.Statement.{statement}
-use Rattle.holdback.proofs.compare.older_counts.Tie as tie
+use Rattle.holdback.proofs.keys.older_counts.Statement.{statement}
+use Rattle.holdback.proofs.keys.older_counts.Tie as tie
 
 returns : tie.Need-returns
 returns c =
