@@ -125,13 +125,13 @@ abbrev pub rewritten : Setup → List ℕ → List ℕ
 rewritten s [] = []
 rewritten s (x ∷ rest) = encode (reducedLong (s .modulus) (longDecode (s .epsilon) (x ∷ rest)))
 
--- "with r modulo B in two bytes and count 3": an engine's frame with its first section so: r has six bytes fewer, and the count, 9, is six less.
--- All else is as it is, byte for byte. No bytes for none
+-- "with r modulo B in two bytes and count 3": an engine's frame with its r so, and its first count six less: 9 comes to 3, and no other does.
+-- All else is as it is, byte for byte; no bytes for none
 unfoldable pub narrowed : ℕ → List ℕ → List ℕ
 narrowed modulus [] = []
 narrowed modulus (count ∷ rest) = (count - 6) ∷ getD rest 0 0 ∷ (twoBytes (numberAt 8 rest 1 % modulus) ++ drop 9 rest)
 
--- and an engine's hand-out: its two-byte count as it is, then each of its frames so
+-- the same of an engine's hand-out: its two-byte count as it is, then each of its frames so
 unfoldable pub narrowedDelivery : Setup → List ℕ → List ℕ
 narrowedDelivery s bytes = take 2 bytes ++ joined (narrowed (s .modulus)) (longHeldBytes (s .epsilon) bytes)
 
