@@ -22,6 +22,7 @@ that is refused shows that a refusal alone proves little, one that is proved tha
 Usage: tests/edits.py [--proved] [all | CRATE...]
 """
 import atexit
+import contextlib
 import datetime
 import os
 import re
@@ -236,7 +237,8 @@ class Checks:
     def end(self, number, _):
         """Ends the run and every check of it."""
         for check in list(self.running):
-            os.killpg(check, signal.SIGKILL)
+            with contextlib.suppress(ProcessLookupError):
+                os.killpg(check, signal.SIGKILL)
         shutil.rmtree(self.room, ignore_errors=True)
         os._exit(128 + number)
 
