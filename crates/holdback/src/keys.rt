@@ -1,5 +1,5 @@
-// What decides the order of two frames of a queue, as numbers that are compared without a branch: how far two frames are alike cannot be
-// foreseen. The order is that of 01's comparison.
+// By what the walk over a queue checks its order: numbers that are compared without a branch, since how far two frames are alike cannot be
+// foreseen. The order is that of 01's comparison, which decides where a place is searched.
 use crate::origins::slot;
 use setup::Setup;
 use timestamp::Rank;
