@@ -95,10 +95,10 @@ unfolding calledStep stepTurn turnAt turn labelled labelledFrom
 tick-halted s group bytes m e h =
     let mine : NodeSetup = record { setup = s; own = stationOf bytes } in
     let player : Player = getD (group .stations) (stationOf bytes) (newPlayer s) in
-    let bundle : List ℕ = tickWith (group .sent) bytes in
-    let turned : stepTurn s group bytes ≡ turnBy (suc m) mine (tablesAt (player .ticks) mine (player .tables) bundle) (player .holdback) bundle
-    = ap (λ (k : ℕ). turnBy k mine (tablesAt (player .ticks) mine (player .tables) bundle) (player .holdback) bundle) h in
-    let is : stepped s group bytes ≡ calledStep s group bytes (turnBy (suc m) mine (tablesAt (player .ticks) mine (player .tables) bundle) (player .holdback) bundle)
+    let made : List ℕ = tickWith (group .sent) bytes in
+    let turned : stepTurn s group bytes ≡ turnBy (suc m) mine (tablesAt (player .ticks) mine (player .tables) made) (player .holdback) made
+    = ap (λ (k : ℕ). turnBy k mine (tablesAt (player .ticks) mine (player .tables) made) (player .holdback) made) h in
+    let is : stepped s group bytes ≡ calledStep s group bytes (turnBy (suc m) mine (tablesAt (player .ticks) mine (player .tables) made) (player .holdback) made)
     = step-called s group bytes e ∙ ap (calledStep s group bytes) turned in
     (ap (λ (one : Stepped). one .number) is, ap (λ (one : Stepped). one .text) is)
 

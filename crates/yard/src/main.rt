@@ -32,7 +32,7 @@ ghost use Rattle.yard.specs.Running.{Usable, Begun, Ran, Ended};
 fn read_step(bytes: &mut [u8]) -> usize
     requires { ⌜ longestStep ≤ length (now bytes) ⌝ }
     ensures { λ r. ⌜ Came stepEnd (now (bytes .entry)) (now (bytes .exit)) r ⌝ }
-    ensures { λ r. ⌜ drop longestStep (now (bytes .exit)) ≡ drop longestStep (now (bytes .entry)) ⌝ }
+    ensures { λ _. ⌜ drop longestStep (now (bytes .exit)) ≡ drop longestStep (now (bytes .entry)) ⌝ }
 {
     let mut used = 0;
     let mut end = step_end(&bytes[..0]);
