@@ -22,4 +22,5 @@ pub mod Carried
 pub mod EqualPairs
 pub mod WiderBoard
 pub mod WiderTick
+pub mod WiderCall
 pub mod Agreeing
