@@ -23,4 +23,5 @@ pub mod EqualPairs
 pub mod WiderBoard
 pub mod WiderTick
 pub mod WiderCall
+pub mod NextWider
 pub mod Agreeing
