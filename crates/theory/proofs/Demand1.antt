@@ -10,8 +10,12 @@ use Rattle.model.specs.Codec.{readQuestions, ReadAnswer, readBy, read, frameOf,
 use Rattle.model.specs.Tick.{Input, Output, callQuestions, refusal, acceptance, tickBy, tick}
 use Rattle.model.specs.Observer.{Listening, Listened, listenQuestions, notListened, listened, listenBy, listen}
 use Rattle.model.specs.Long.{longEncode, longDecode, askLongSetup, longFrameQuestions, longRead, longWriteQuestions, longWriteFrame, longCallQuestions, longAcceptance, longTickBy, longTick}
+use Rattle.model.specs.Schedule.{Wider, along}
+use Rattle.model.specs.Wider.{widerDecode, widerCallQuestions, widerAcceptance, widerTickBy, tickIn}
+use Rattle.model.specs.WiderCalls.{listenInQuestions, widerListened, widerListenBy, listenIn, pairsOf, readInQuestions, ReadInAnswer, isWide, readInBy, readIn, writtenHalf, writeInQuestions, writeIn}
 use Rattle.theory.specs.Demand1.{Checked, Demand1, Demand1Observer, notRead, notWritten, CheckedRead, CheckedWrite, Demand1Read, Demand1Write}
 use Rattle.theory.specs.LongAny.{Demand1Long, Demand1LongRead, Demand1LongWrite}
+use Rattle.theory.specs.WiderAny.{Demand1In, Demand1ListenIn, notReadIn, Demand1ReadIn, Demand1WriteIn}
 
 -- what goes by the number of the first question that gets a no
 checked :
@@ -71,3 +75,31 @@ unfolding longWriteFrame
 demand1-long-write s own station t payload buffer =
     let f = frameOf (s .epsilon) station t payload in
     checked-write (longWriteQuestions s own f buffer) (longEncode f) buffer
+
+-- 02, 2.10: of the calls with both pairs
+pub demand1-in : (w : Wider) (i : Input) → Demand1In w i
+unfolding tickIn widerAcceptance refusal
+demand1-in w i =
+    let g = along (i .setup) w (i .clock) in
+    checked Output (λ (o : Output). o .answer .number) (widerCallQuestions w i) (refusal i) (widerAcceptance g i) (λ k. widerTickBy k g i) refl refl (λ k. refl)
+    (λ k. refl)
+
+pub demand1-listen-in : (w : Wider) (i : Listening) → Demand1ListenIn w i
+unfolding listenIn widerListened notListened
+demand1-listen-in w i =
+    let g = along (i .setup) w (i .clock) in
+    checked Listened (λ (o : Listened). o .number) (listenInQuestions w i) (notListened i) (widerListened g i) (λ k. widerListenBy k g i) refl refl (λ k. refl)
+    (λ k. refl)
+
+pub demand1-read-in : Demand1ReadIn
+unfolding readIn
+demand1-read-in s w own bytes =
+    let f = widerDecode (pairsOf s w) bytes in
+    checked ReadInAnswer (λ (a : ReadInAnswer). a .number) (readInQuestions s w own bytes) notReadIn (readInBy 0 (isWide s (pairsOf s w) f) f)
+    (λ k. readInBy k (isWide s (pairsOf s w) f) f) refl refl (λ k. refl) (λ k. refl)
+
+pub demand1-write-in : Demand1WriteIn
+unfolding writeIn
+demand1-write-in s w own station wide t payload buffer =
+    let f = frameOf (writtenHalf s w wide) station t payload in
+    checked-write (writeInQuestions s w own (writtenHalf s w wide) f buffer) (encode f) buffer

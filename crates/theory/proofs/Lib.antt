@@ -34,3 +34,4 @@ pub mod Demand2
 pub mod LongClocks
 pub mod OneProgram
 pub mod Demand3
+pub mod WiderAny
