@@ -7,8 +7,8 @@ use mathlib.Core.Path.{_≡_, refl, sym, ap, subst, _∙_}
 use mathlib.Core.Bool.{Bool, true, false, cond}
 use mathlib.Core.Logic.{_⊎_, inl, inr}
 use lib.Dec.{leb, eqb}
-use borrow.Author.Tests.{leb-true, leb-false, le-leb, lt-leb, eq-eqb, ne-eqb}
-use Rattle.laws.proofs.Numbers.{lt-or-ge, eq-or-ne, clash}
+use borrow.Author.Tests.{leb-true, leb-false, eq-eqb, ne-eqb}
+use Rattle.laws.proofs.Numbers.{lt-or-ge, eq-or-ne}
 use Rattle.model.specs.Setup.{Setup}
 use Rattle.model.specs.Timestamp.{ahead}
 use Rattle.model.specs.Schedule.{Wider, isMarked, changeAhead, changeBehind, changeNear, along}

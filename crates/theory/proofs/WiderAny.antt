@@ -1,11 +1,11 @@
 -- 02, 2.10: from any state, of an accepted call with both pairs: verdict, mend, figures, hand-out, and bounds for every next clock.
 -- Assumes nothing.
-use Prim.Native.Nat.{ℕ, suc, _+_, _-_, _%_, _≤_, _<_}
+use Prim.Native.Nat.{ℕ, _+_, _-_, _%_, _≤_, _<_}
 use native.Mathlib.Omega.{arith}
 use native.Mathlib.Nat.{mod-eq-of-lt}
 use mathlib.Core.Path.{_≡_, refl, sym, ap, subst, _∙_}
 use mathlib.Core.Bool.{Bool, true, false, cond}
-use mathlib.Core.List.{List, _++_}
+use mathlib.Core.List.{List}
 use lib.Dec.{leb, eqb}
 use lib.ListN.{length, take, getD}
 use Rattle.laws.specs.Lists.{overlay, padded}
@@ -18,13 +18,12 @@ use Rattle.model.specs.Judge.{Asking}
 use Rattle.model.specs.Tick.{Input, Output, holdbackSize, takenCount}
 use Rattle.model.specs.Observer.{Listening, Listened}
 use Rattle.model.specs.Holdback.{encodeFrames, encodeHoldback}
-use Rattle.model.specs.Schedule.{Schedule, steady, widening, limitsAt, modulusOf, widestOf, Wider, widerSetup, isMarked, changeNear, samePairs, along, ownLimits}
+use Rattle.model.specs.Schedule.{Schedule, steady, modulusOf, widestOf, Wider, isMarked, changeNear, samePairs, along, ownLimits}
 use Rattle.model.specs.Wider.{widerHeldBytes, widerSoundHoldback, widerQuestions, widerObserverQuestions, widerTablesSound, widerLeast, widerOpened, widerHeard, widerNewStamp, widerSent, widerDeliveredOf, widerKeptOf, widerShelfSound, widerRepair, widerAcceptance, tickIn}
 use Rattle.model.specs.WiderCalls.{widerLastSound, widerObserverLeast, widerObserverRepair, widerObserverOpened, widerObserverHeard, widerObserverDelivered, widerObserverKept, widerListened, listenIn}
-use Rattle.lemmas.proofs.Bounds.{Limits}
 use Rattle.lemmas.proofs.Reading.{step-true}
 use Rattle.lemmas.proofs.Counts.{clock-sound}
-use Rattle.lemmas.proofs.Schedules.{Good, movedBy, Aligned, limits-aligned, modulus-aligned, limits-good, limits-modulus}
+use Rattle.lemmas.proofs.Schedules.{Good, Aligned, limits-aligned, limits-good, limits-modulus}
 use Rattle.lemmas.proofs.WiderQueue.{LeftAlong}
 use Rattle.lemmas.proofs.WiderBoard.{BoardAlong, heardAlong, verdict-along, front-along, heard-bound, heard-room, bytes-delivered}
 use Rattle.lemmas.proofs.Carried.{moved-follows, holdback-moved}

@@ -7,7 +7,7 @@ use lib.Dec.{leb}
 use lib.ListN.{length, take}
 use Rattle.model.specs.Setup.{Setup}
 use Rattle.model.specs.Timestamp.{Timestamp, soundClock}
-use Rattle.model.specs.Frame.{Frame, encode}
+use Rattle.model.specs.Frame.{encode}
 use Rattle.model.specs.Batch.{batchEntries}
 use Rattle.model.specs.Codec.{noTimestamp, frameOf}
 use Rattle.model.specs.Judge.{Heard}
@@ -15,7 +15,7 @@ use Rattle.model.specs.Tick.{Input, Output, refusal, takenCount}
 use Rattle.model.specs.Observer.{Listening, Listened, notListened}
 use Rattle.model.specs.Schedule.{Schedule, limitsAt, modulusOf, Wider, changeNear, samePairs, along, ownLimits}
 use Rattle.model.specs.Wider.{widerDecode, widerHeldBytes, widerSoundHoldback, widerOpening, widerQuestions, widerObserverQuestions, widerHear, widerTablesSound, widerLeast, widerOpened, widerDeliveredOf, widerSent, widerCallQuestions, widerAcceptance, tickIn}
-use Rattle.model.specs.WiderCalls.{listenInQuestions, widerLastSound, widerObserverLeast, widerObserverOpened, widerObserverDelivered, widerListened, listenIn, pairsOf, readInQuestions, ReadInAnswer, isWide, readInBy, readIn, writtenHalf, writeInQuestions, writeIn}
+use Rattle.model.specs.WiderCalls.{listenInQuestions, widerObserverLeast, widerObserverOpened, widerObserverDelivered, widerListened, listenIn, pairsOf, readInQuestions, ReadInAnswer, isWide, readInBy, readIn, writtenHalf, writeInQuestions, writeIn}
 use Rattle.theory.specs.Demand1.{Checked, CheckedWrite}
 use Rattle.theory.specs.Demand2.{FirstFailed}
 use Rattle.theory.specs.NeverFull.{NeverFull}
