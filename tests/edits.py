@@ -47,6 +47,7 @@ FACT = (
     "`omega`: the goal does not follow", "`omega`: the part `", "`search`: no proof of `", "give a proof of that as the last argument",
     "`rw`: no occurrence of the path's left endpoint in the ", "`rw`: no occurrence of the path's right endpoint in the ",
     "list the missing equation",
+    "on the face `",  # an equation by λ, whose body at one end is not that end
 )
 # what says nothing of a fact: about what a proof rests on, and about names and fields that the changed code no longer has
 NO_FACT = ("` was not admitted", "` that can be named from here", "` has no field `", "` does not unfold here")

@@ -35,3 +35,4 @@ pub mod LongClocks
 pub mod OneProgram
 pub mod Demand3
 pub mod WiderAny
+pub mod WiderReaders

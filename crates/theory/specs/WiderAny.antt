@@ -3,10 +3,11 @@ use Prim.Native.Nat.{ℕ, _+_, _-_, _%_, _≤_, _<_}
 use mathlib.Core.Path.{_≡_}
 use mathlib.Core.Bool.{Bool, true, false, cond}
 use mathlib.Core.List.{List, [], map}
-use lib.Dec.{leb}
+use lib.Dec.{leb, ltb}
 use lib.ListN.{length, take}
+use Rattle.laws.specs.Lists.{overlay}
 use Rattle.model.specs.Setup.{Setup}
-use Rattle.model.specs.Timestamp.{Timestamp, soundClock}
+use Rattle.model.specs.Timestamp.{Timestamp, soundClock, trimmed, widened}
 use Rattle.model.specs.Frame.{encode}
 use Rattle.model.specs.Batch.{batchEntries}
 use Rattle.model.specs.Codec.{noTimestamp, frameOf}
@@ -17,7 +18,7 @@ use Rattle.model.specs.Schedule.{Schedule, limitsAt, modulusOf, Wider, changeNe
 use Rattle.model.specs.Wider.{widerDecode, widerHeldBytes, widerSoundHoldback, widerOpening, widerQuestions, widerObserverQuestions, widerHear, widerTablesSound, widerLeast, widerOpened, widerDeliveredOf, widerSent, widerCallQuestions, widerAcceptance, tickIn}
 use Rattle.model.specs.WiderCalls.{listenInQuestions, widerObserverLeast, widerObserverOpened, widerObserverDelivered, widerListened, listenIn, pairsOf, readInQuestions, ReadInAnswer, isWide, readInBy, readIn, writtenHalf, writeInQuestions, writeIn}
 use Rattle.theory.specs.Demand1.{Checked, CheckedWrite}
-use Rattle.theory.specs.Demand2.{FirstFailed}
+use Rattle.theory.specs.Demand2.{FirstFailed, areBytes}
 use Rattle.theory.specs.NeverFull.{NeverFull}
 
 -- ---- demand 1
@@ -124,3 +125,27 @@ pub record AnyListenIn (w : Wider) (i : Listening) (g : Schedule) : Type 0 where
 
 abbrev pub Demand2ListenIn : Type 0
 Demand2ListenIn = (w : Wider) (i : Listening) → listenIn w i .number ≡ 0 → AnyListenIn w i (along (i .setup) w (i .clock))
+
+-- ---- the codec: reader and writer, for each width
+
+-- "the codec round-trips", with the width as a part of a frame's contents
+pub record RoundTripsIn (s : Setup) (w : Wider) (own : ℕ) : Type 0 where
+  -- a written frame reads back the same, and whether it has more than 2ε counts; the places past its own counts come back 0
+  pub frameRead :
+      (station : ℕ) (wide : Bool) (t : Timestamp) (payload buffer : List ℕ) → writeIn s w own station wide t payload buffer .number ≡ 0
+      → readIn s w own (take (writeIn s w own station wide t payload buffer .size) (writeIn s w own station wide t payload buffer .buffer))
+      ≡ record {
+        number = 0;
+        wide = ltb (s .epsilon) (writtenHalf s w wide);
+        station = station;
+        stamp = widened (trimmed (writtenHalf s w wide) t);
+        payload = payload;
+      }
+  -- an accepted frame is the one that the writer makes of its contents, at its width, in any buffer that is long enough
+  pub frameWritten :
+      (bytes buffer : List ℕ) → areBytes bytes ≡ true → readIn s w own bytes .number ≡ 0 → length bytes ≤ length buffer
+      → writeIn s w own (readIn s w own bytes .station) (readIn s w own bytes .wide) (readIn s w own bytes .stamp) (readIn s w own bytes .payload) buffer
+      ≡ record { number = 0; size = length bytes; buffer = overlay bytes buffer }
+
+abbrev pub Demand2CodecIn : Type 0
+Demand2CodecIn = (s : Setup) (w : Wider) (own : ℕ) → RoundTripsIn s w own
