@@ -35,6 +35,7 @@ const TICK_DELIVERED: Field = Field::new(32, 16);
 const READ_NODE: Field = Field::new(8, 8);
 const READ_PAYLOAD_AT: Field = Field::new(16, 16);
 const READ_PAYLOAD_LEN: Field = Field::new(32, 16);
+const READ_WIDE: Field = Field::new(48, 1);
 
 const WRITE_LEN: Field = Field::new(8, 16);
 
@@ -76,6 +77,11 @@ pub fn unpack_tick(word: u64) -> Answer {
 /// The reader's answer: the sender, and where the payload lies in the frame.
 pub fn pack_read(node: u64, payload_at: u64, payload_len: u64) -> u64 {
     READ_NODE.put(node) | READ_PAYLOAD_AT.put(payload_at) | READ_PAYLOAD_LEN.put(payload_len)
+}
+
+/// The same of a setup with both pairs: also whether the frame has more than 2ε counts.
+pub fn pack_read_in(node: u64, payload_at: u64, payload_len: u64, wide: bool) -> u64 {
+    pack_read(node, payload_at, payload_len) | READ_WIDE.put(wide.into())
 }
 
 /// The writer's answer: the frame's length.
