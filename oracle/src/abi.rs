@@ -79,9 +79,15 @@ pub fn pack_read(node: u64, payload_at: u64, payload_len: u64) -> u64 {
     READ_NODE.put(node) | READ_PAYLOAD_AT.put(payload_at) | READ_PAYLOAD_LEN.put(payload_len)
 }
 
-/// The same of a setup with both pairs: also whether the frame has more than 2ε counts.
-pub fn pack_read_in(node: u64, payload_at: u64, payload_len: u64, wide: bool) -> u64 {
-    pack_read(node, payload_at, payload_len) | READ_WIDE.put(wide.into())
+/// What the reader's answer has besides for a setup with both pairs (02, 2.10): whether the frame has
+/// more than 2ε counts.
+pub fn pack_wide(is_wide: bool) -> u64 {
+    READ_WIDE.put(is_wide.into())
+}
+
+/// Whether it has, from an accepted answer.
+pub fn unpack_wide(word: u64) -> bool {
+    READ_WIDE.get(word) == 1
 }
 
 /// The writer's answer: the frame's length.
@@ -135,6 +141,9 @@ pub fn unpack_poll(word: u64) -> Outlook {
 pub fn pack_refusal(number: u8) -> u64 {
     NUMBER.put(number.into())
 }
+
+#[cfg(feature = "abi")]
+pub mod library_in;
 
 #[cfg(feature = "abi")]
 pub mod library {

@@ -3,6 +3,7 @@
 
 use crate::fault::{planted, skew};
 use crate::holdback::{self, Entry, Holdback};
+use crate::limits::Part;
 use crate::setup::VERDICTS;
 use crate::timestamp::all_at_most;
 use crate::{ask, batch, Frame, Limits, Setup};
@@ -109,7 +110,9 @@ impl<'a, L: Limits> Board<'a, L> {
         let delivered = if planted(16) { [due, early].concat() } else { [early, due].concat() };
         holdback::put(&delivered, buffers.delivery);
         let used = holdback::put(rest, buffers.holdback);
-        buffers.holdback[used + skew(9) as usize..].fill(0);
+        let grown = self.limits.pairs()[0].holdback_len().max(used);
+        let end = if planted(116) { grown } else { buffers.holdback.len() };
+        buffers.holdback[used + skew(9) as usize..end].fill(0);
         delivered.len() as u16
     }
 }
@@ -123,12 +126,12 @@ pub fn judge<'a>(
     holdback: &Holdback,
     bytes: &'a [u8],
 ) -> Result<Entry<'a>, u8> {
-    let setup = limits.own();
+    let (setup, oldest) = (limits.own(), limits.by(Part::Late));
     let entry = Entry::near(limits, v, Frame::parse(limits, bytes)?);
-    ask(-entry.ahead <= setup.delta + setup.epsilon + skew(3), 13)?;
+    ask(-entry.ahead <= oldest.delta + oldest.epsilon + skew(3), 13)?;
     // 02, 2.10: "a frame heard that is due before v gets 13". In a plain call none is that passed so far.
-    ask(entry.due(limits) >= 0, 13)?;
-    ask(entry.sum < setup.epsilon, 14)?;
+    ask(entry.due(limits) >= 0 || planted(91), 13)?;
+    ask(entry.sum < limits.by(Part::Early).epsilon, 14)?;
     if owner == Owner::Node || planted(31) {
         ask(has_possible_counts(setup, &entry), 15)?;
     }

@@ -1,6 +1,7 @@
 //! Frames: the reader and the writer.
 
-use crate::fault::skew;
+use crate::fault::{planted, skew};
+use crate::limits::Part;
 use crate::setup::MAX_PAYLOAD;
 use crate::{ask, section, Both, ClockState, Limits, Pairs, Settings, Setup, Timestamp};
 
@@ -53,7 +54,7 @@ impl<'a> Frame<'a> {
     /// Checks 10 to 12 of bytes that should be one frame.
     pub fn parse(limits: &impl Limits, bytes: &'a [u8]) -> Result<Self, u8> {
         let frame = Self::whole(limits, bytes)?;
-        check_origin(limits.own(), frame.node, &frame.timestamp)?;
+        check_origin(limits.by(Part::C), frame.node, &frame.timestamp)?;
         Ok(frame)
     }
 }
@@ -77,7 +78,8 @@ pub fn read<'a, S: Settings>(setup: &S, bytes: &'a [u8]) -> Result<Frame<'a>, u8
     setup.check()?;
     let frame = Frame::whole(setup, bytes)?;
     let width = frame.timestamp.kn.len();
-    check_origin(&setup.of_width(width), frame.node, &frame.timestamp)?;
+    let judging = if planted(107) { setup.side() } else { setup.of_width(width) };
+    check_origin(&judging, frame.node, &frame.timestamp)?;
     Ok(frame)
 }
 
@@ -104,8 +106,10 @@ pub fn write_in(
     out: &mut [u8],
 ) -> Result<usize, u8> {
     setup.check()?;
+    let wide = if planted(110) { setup.is_marked() } else { wide };
     let pair = if wide { setup.wider() } else { setup.old };
-    write_by(&pair, &setup.of_width(pair.width()), node, state, payload, out)
+    let judging = if planted(108) { setup.side() } else { pair };
+    write_by(&pair, &judging, node, state, payload, out)
 }
 
 /// The writer behind 1, of a frame with the first's width, 12 by the second.

@@ -16,6 +16,16 @@ pub trait Pairs: Copy {
         self.pairs().iter().any(|pair| counts == pair.width())
     }
 
+    /// The limits of a frame with so many counts.
+    fn of_width(&self, counts: usize) -> Setup {
+        let [old, wider] = self.pairs();
+        if counts == old.width() {
+            old
+        } else {
+            wider
+        }
+    }
+
     /// The limits that sizes of queues and buffers go by.
     fn widest(&self) -> Setup {
         self.pairs()[1]
@@ -35,11 +45,25 @@ pub trait Settings: Pairs {
     /// The limits of the side of V on which the mark puts the call.
     fn side(&self) -> Setup;
 
-    /// The limits by which a frame with so many counts is judged alone.
-    fn of_width(&self, counts: usize) -> Setup;
-
     /// The limits around a clock v.
     fn at(&self, v: i64) -> Self::Limits;
+}
+
+/// What a call asks of the limits of its own clock.
+#[derive(Clone, Copy, Debug, PartialEq, Eq)]
+pub enum Part {
+    /// Where r is read near v.
+    Near,
+    /// The longest step.
+    Step,
+    /// Check 12: the largest c.
+    C,
+    /// Check 13: how far r is behind v.
+    Late,
+    /// Check 14: how far the sum is past v.
+    Early,
+    /// How many frames a sound queue has.
+    Count,
 }
 
 /// The limits around a call's clock v. Clocks here are relative to v.
@@ -56,6 +80,16 @@ pub trait Limits: Pairs {
     /// The limits of the call's own clock.
     fn own(&self) -> &Setup {
         self.of(0)
+    }
+
+    /// The limits that a part of the call goes by: those of its own clock.
+    fn by(&self, _part: Part) -> &Setup {
+        self.own()
+    }
+
+    /// Is this a frame or are these tables with fewer counts than the call's own?
+    fn is_narrow(&self, counts: usize) -> bool {
+        counts < self.own().width()
     }
 }
 
@@ -81,10 +115,6 @@ impl Settings for Setup {
     }
 
     fn side(&self) -> Setup {
-        *self
-    }
-
-    fn of_width(&self, _counts: usize) -> Setup {
         *self
     }
 
@@ -132,50 +162,53 @@ impl Both {
         self.marked == 1
     }
 
-    /// Where V lies relative to v: unmarked, (V − v) modulo B ahead, 0 meaning B; marked, (v − V)
-    /// modulo B behind.
+    /// Has a frame with so many counts more than 2ε?
+    pub fn is_wide(&self, counts: usize) -> bool {
+        match planted(109) {
+            true => counts == self.wider().width(),
+            false => counts > self.old.width(),
+        }
+    }
+
+    /// Where V lies relative to v: "unmarked, V lies (V − v) modulo B ahead, 0 meaning B; marked,
+    /// (v − V) modulo B behind".
     fn change_near(&self, v: i64) -> i64 {
         let ahead = (self.change - v).rem_euclid(self.old.modulus);
-        let behind = (v - self.change).rem_euclid(self.old.modulus);
-        match self.is_marked() {
-            true if planted(65) => -(behind + skew(65)),
-            true => -behind,
-            false if ahead == 0 && !planted(64) => self.old.modulus,
+        match self.is_marked() && !planted(77) {
+            true => -(v - self.change).rem_euclid(self.old.modulus),
+            false if ahead == 0 && !planted(76) => self.old.modulus,
             false => ahead,
         }
     }
 
     /// Are both pairs in their limits with n and B? (`is_in` says so of each.)
     fn are_pairs_in(&self, is_in: fn(&Setup) -> bool) -> bool {
-        let new =
-            if planted(66) { Setup { modulus: 65_535, ..self.wider() } } else { self.wider() };
-        is_in(&self.old) && is_in(&new)
+        let mut wider = self.wider();
+        if planted(104) {
+            wider.modulus = 65_535;
+        }
+        is_in(&self.old) && (is_in(&wider) || planted(105))
     }
 
-    /// V below B, and the mark 0 or 1.
+    /// "V below B (else 1)", and the mark 0 or 1.
     fn has_change(&self) -> bool {
-        self.change < self.old.modulus + skew(67) && (self.marked <= 1 || planted(68))
+        self.change < self.old.modulus + skew(102) && (self.marked <= 1 || planted(103))
     }
 
-    /// Number 19: is neither limit smaller than the old?
+    /// "Number 19 when ε′ or δ′ is smaller than the old": is neither?
     fn is_wider(&self) -> bool {
-        let least = skew(69);
-        (self.wider_epsilon >= self.old.epsilon + least || planted(70))
-            && (self.wider_delta >= self.old.delta + least || planted(71))
+        let least = skew(101);
+        (self.wider_epsilon >= self.old.epsilon + least || planted(99))
+            && (self.wider_delta >= self.old.delta + least || planted(100))
     }
 
-    /// 1 and then 19.
+    /// 1, and 19 "asked after 1".
     fn check_by(&self, is_in: fn(&Setup) -> bool) -> Result<(), u8> {
-        if planted(72) {
+        if planted(98) {
             ask(self.is_wider(), 19)?;
         }
         ask(self.are_pairs_in(is_in) && self.has_change(), 1)?;
         ask(self.is_wider(), 19)
-    }
-
-    /// The pairs around a clock.
-    fn schedule(&self, v: i64) -> Schedule {
-        Schedule { old: self.old, new: self.wider(), change: self.change_near(v) }
     }
 }
 
@@ -187,8 +220,8 @@ impl Pairs for Both {
     /// "Shelves and buffers have the new sizes."
     fn widest(&self) -> Setup {
         match () {
-            () if planted(74) => self.side(),
-            () if planted(75) => self.old,
+            () if planted(96) => self.side(),
+            () if planted(97) => self.old,
             () => self.wider(),
         }
     }
@@ -202,7 +235,7 @@ impl Settings for Both {
     }
 
     fn check_observer(&self) -> Result<(), u8> {
-        self.check_by(if planted(73) { Setup::is_valid } else { Setup::is_in_limits })
+        self.check_by(if planted(106) { Setup::is_valid } else { Setup::is_in_limits })
     }
 
     fn side(&self) -> Setup {
@@ -213,17 +246,8 @@ impl Settings for Both {
         }
     }
 
-    /// "Reader and writer alone judge 12 by the frame's width."
-    fn of_width(&self, counts: usize) -> Setup {
-        match counts == self.old.width() {
-            _ if planted(76) => self.side(),
-            true => self.old,
-            false => self.wider(),
-        }
-    }
-
     fn at(&self, v: i64) -> Schedule {
-        self.schedule(v)
+        Schedule { old: self.old, new: self.wider(), change: self.change_near(v) }
     }
 }
 
@@ -239,9 +263,9 @@ pub struct Schedule {
 }
 
 impl Schedule {
-    /// Is the old due clock of a sum before V?
-    fn is_due_before(&self, sum: i64) -> bool {
-        self.old.due(sum) < self.change
+    /// Is the old due clock of a sum before V? With this fault planted it may be V.
+    fn is_due_before(&self, sum: i64, fault: u8) -> bool {
+        self.old.due(sum) < self.change + skew(fault)
     }
 }
 
@@ -249,10 +273,18 @@ impl Pairs for Schedule {
     fn pairs(&self) -> [Setup; 2] {
         [self.old, self.new]
     }
+
+    fn has_width(&self, counts: usize) -> bool {
+        let is_past = self.change <= 0;
+        if planted(92) && is_past || planted(93) && !is_past {
+            return counts == self.own().width();
+        }
+        counts == self.old.width() || counts == self.new.width()
+    }
 }
 
 impl Limits for Schedule {
-    /// "A tick uses the limits of its own clock"; tables are narrow if their r is before V.
+    /// Before V the old ones, later the new ones.
     fn of(&self, clock: i64) -> &Setup {
         if clock < self.change {
             &self.old
@@ -263,19 +295,31 @@ impl Limits for Schedule {
 
     /// "A frame is due at sum + δ + ε if that lies before V, else at sum + δ′ + ε′."
     fn due(&self, sum: i64) -> i64 {
-        if self.is_due_before(sum) {
-            self.old.due(sum)
-        } else {
-            self.new.due(sum)
+        match self.is_due_before(sum, 80) {
+            _ if planted(78) => self.own().due(sum),
+            true => self.old.due(sum),
+            false => self.new.due(sum),
         }
     }
 
     /// "Frames due before V compare ε counts, all others ε′ counts."
     fn depth(&self, sum: i64) -> i64 {
-        if self.is_due_before(sum) {
-            self.old.epsilon
-        } else {
-            self.new.epsilon
+        match self.is_due_before(sum, 85) {
+            _ if planted(81) => self.own().epsilon,
+            true if !planted(84) => self.old.epsilon,
+            false if planted(83) => self.old.epsilon,
+            _ => self.new.epsilon,
+        }
+    }
+
+    /// "A tick uses the limits of its own clock." Each part has two faults: always the old pair, and
+    /// always the wider one.
+    fn by(&self, part: Part) -> &Setup {
+        let fault = 64 + 2 * part as u8;
+        match () {
+            () if planted(fault) => &self.old,
+            () if planted(fault + 1) => &self.new,
+            () => self.own(),
         }
     }
 }

@@ -1,6 +1,8 @@
 //! One node's tick.
 
 use crate::board::{self, Board, Buffers, Owner};
+use crate::fault::{planted, skew};
+use crate::limits::Part;
 use crate::setup::MAX_PAYLOAD;
 use crate::timestamp::LocalTimestamp;
 use crate::{ask, frame, holdback, ClockState, Limits, Settings, Setup, Timestamp};
@@ -80,7 +82,7 @@ fn accepted<S: Settings>(
     });
     local.count_event(setup);
     *state = local.to_state(setup, call.clock);
-    let outgoing = if call.send { send(setup, state, call.payload, outgoing) } else { 0 };
+    let outgoing = if call.send { send(&limits, state, call.payload, outgoing) } else { 0 };
     let repair = state_repair + board.repair;
     Answer { number: 0, repair, taken, delivered: board.deliver(buffers), outgoing }
 }
@@ -89,7 +91,10 @@ fn accepted<S: Settings>(
 /// clock of a sound queue, relative to v.
 fn enter(limits: &impl Limits, v: i64, state: &ClockState) -> (LocalTimestamp, u8, i64) {
     let before = tables(limits, v, state);
-    let step = before.sound_step(limits.own(), v);
+    let mut step = before.sound_step(limits.by(Part::Step), v);
+    if planted(118) && limits.is_narrow(before.kn.len()) {
+        step = None;
+    }
     let local = step.map(|step| LocalTimestamp::step(limits.own(), &before, step));
     let repair = u8::from(step.is_none());
     let least = holdback::least_due(step, [14, 17]);
@@ -99,11 +104,20 @@ fn enter(limits: &impl Limits, v: i64, state: &ClockState) -> (LocalTimestamp, u
 /// The tables at a new clock v. "Tables are narrow if their r is before V" (02, 2.10).
 pub fn tables<'a>(limits: &impl Limits, v: i64, state: &'a ClockState) -> Timestamp<'a> {
     let r = i64::from(u16::from_le_bytes([state[0], state[1]]));
-    Timestamp::of_state(limits.of(-limits.own().step(r, v)), state)
+    let clock = -limits.own().step(r, v) - skew(88);
+    Timestamp::of_state(limits.of(if planted(87) { 0 } else { clock }), state)
 }
 
-/// Step 5: the frame that carries the new timestamp; its length.
-fn send(setup: &Setup, state: &ClockState, payload: &[u8], outgoing: &mut [u8]) -> u8 {
-    let timestamp = Timestamp::of_state(setup, state);
-    frame::put(setup.own, &timestamp, payload, outgoing) as u8
+/// Step 5: the frame that carries the new timestamp; its length. "Stations before V write narrow
+/// frames, later ones wide": it has as many counts as the tables.
+fn send(limits: &impl Limits, state: &ClockState, payload: &[u8], outgoing: &mut [u8]) -> u8 {
+    let own = limits.own().own;
+    let timestamp = Timestamp::of_state(limits.own(), state);
+    let other = match () {
+        () if planted(94) => limits.pairs()[0].epsilon,
+        () if planted(95) => limits.pairs()[1].epsilon,
+        () => return frame::put(own, &timestamp, payload, outgoing) as u8,
+    };
+    let kn: Vec<u8> = (-other..other).map(|offset| timestamp.count(offset)).collect();
+    frame::put(own, &Timestamp { kn: &kn, ..timestamp }, payload, outgoing) as u8
 }

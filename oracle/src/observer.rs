@@ -3,6 +3,7 @@
 
 use crate::board::{self, Board, Buffers, Owner};
 use crate::fault::{planted, skew};
+use crate::limits::Part;
 use crate::{holdback, Answer, Limits, Settings, Setup};
 
 /// What an observer's call is given to read.
@@ -52,7 +53,7 @@ fn accepted<S: Settings>(
     buffers: &mut Buffers,
 ) -> Answer {
     let limits = call.setup.at(call.clock);
-    let step = sound_step(limits.own(), last, call.clock);
+    let step = sound_step(limits.by(Part::Step), last, call.clock);
     let least = holdback::least_due(step, [37, 33]);
     let held = buffers.holdback.to_vec();
     let mut board = Board::open(limits, call.clock, Owner::Observer, least, &held);

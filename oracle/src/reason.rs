@@ -2,7 +2,7 @@
 
 use crate::fault::{planted, skew};
 use crate::holdback::Entry;
-use crate::{ask, Frame, Limits, Settings, Setup};
+use crate::{ask, read, Frame, Limits, Settings, Setup};
 use std::cmp::Ordering;
 use std::fmt;
 
@@ -87,7 +87,10 @@ pub fn compare<S: Settings>(
     ask(clock < setup.widest().modulus, 2)?;
     let limits = &setup.at(clock);
     let near = |frame| Entry::near(limits, clock, frame);
-    let first = near(Frame::parse(limits, first)?);
-    let second = near(Frame::parse(limits, second)?);
+    let parse = |bytes| match planted(114) {
+        true => read(setup, bytes),
+        false => Frame::parse(limits, bytes),
+    };
+    let (first, second) = (near(parse(first)?), near(parse(second)?));
     Ok(decide(limits, clock, &first, &second))
 }

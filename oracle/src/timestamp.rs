@@ -58,7 +58,8 @@ impl<'a> Timestamp<'a> {
         let depth = (depth - skew(5)) as usize;
         let end = self.kn.len() / 2 + self.c as usize + 1;
         let there = &self.kn[end.saturating_sub(depth)..end];
-        there.iter().rev().copied().chain(std::iter::repeat(0)).take(depth)
+        let missing = if planted(86) { there.len() } else { depth };
+        there.iter().rev().copied().chain(std::iter::repeat(0)).take(missing)
     }
 
     /// Is the stamp sound?
@@ -90,7 +91,10 @@ pub fn all_at_most(kn: &[u8], limit: i64) -> bool {
 pub fn start<S: Settings>(setup: &S, clock: i64) -> Result<ClockState, u8> {
     setup.check()?;
     ask(clock < setup.widest().modulus, 2)?;
-    Ok(fresh(setup.at(clock).own(), clock))
+    match planted(113) {
+        true => Ok(fresh(&setup.pairs()[0], clock)),
+        false => Ok(fresh(setup.at(clock).own(), clock)),
+    }
 }
 
 /// Fresh tables at a clock.
@@ -98,6 +102,11 @@ pub fn fresh(setup: &Setup, r: i64) -> ClockState {
     let mut local = LocalTimestamp::blank();
     local.count_event(setup);
     local.to_state(setup, r)
+}
+
+/// How far off counts of another width are if they are taken by their places; only with this fault.
+fn misplaced(setup: &Setup, other: &Timestamp, fault: u8) -> i64 {
+    skew(fault) * (setup.epsilon - other.kn.len() as i64 / 2)
 }
 
 /// The tables during a tick: r is already v.
@@ -119,7 +128,7 @@ impl LocalTimestamp {
         local.c = if planted(7) { before.c } else { (before.c - step).max(0) };
         let offsets = if planted(13) { 1 } else { step };
         for (own, offset) in local.kn.iter_mut().zip(-setup.epsilon..setup.epsilon) {
-            *own = before.count(offset + offsets);
+            *own = before.count(offset + offsets + misplaced(setup, before, 89));
         }
         local
     }
@@ -128,7 +137,8 @@ impl LocalTimestamp {
     pub fn absorb(&mut self, setup: &Setup, ahead: i64, other: &Timestamp) {
         self.c = self.c.max(ahead + other.c);
         for (own, offset) in self.kn.iter_mut().zip(-setup.epsilon..setup.epsilon) {
-            *own = (*own).max(other.count(offset - ahead - skew(8)));
+            let offset = offset - ahead - skew(8);
+            *own = (*own).max(other.count(offset + misplaced(setup, other, 90)));
         }
     }
 

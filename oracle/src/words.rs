@@ -15,7 +15,11 @@ pub fn words<S: Settings>(
     text: &mut [u8],
 ) -> Result<usize, u8> {
     setup.check()?;
-    let setup = &setup.side();
+    let setup = &match () {
+        () if planted(111) => setup.pairs()[0],
+        () if planted(112) => setup.pairs()[1],
+        () => setup.side(),
+    };
     let entries = batch::entries(batch).ok_or(5)?;
     ask(verdicts.len() >= entries.len(), 6)?;
     ask(text.len() >= LINE * entries.len(), 6)?;

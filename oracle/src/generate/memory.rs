@@ -75,7 +75,8 @@ pub fn holdback(rng: &mut Prng, limits: &impl Limits, v: i64, least: i64) -> Vec
     }
     let away = if rng.one_in(8) { rng.pick(&[-1, 1]) } else { 0 };
     let most = limits.own().capacity() + usize::from(rng.one_in(8));
-    let mut frames = frames_up_to(rng, limits, v + away, least, most);
+    let scarcity = scarcity(rng, limits.own());
+    let mut frames = frames_up_to(rng, limits, v + away, least, most, scarcity);
     if rng.one_in(3) {
         damage_frames(rng, limits, v, least, &mut frames);
     }
@@ -93,7 +94,19 @@ pub fn holdback(rng: &mut Prng, limits: &impl Limits, v: i64, least: i64) -> Vec
 /// Frames that make a sound queue for v with this least due clock: few, or as many as there can
 /// be.
 pub fn sound_frames(rng: &mut Prng, limits: &impl Limits, v: i64, least: i64) -> Vec<Vec<u8>> {
-    frames_up_to(rng, limits, v, least, limits.own().capacity())
+    let scarcity = scarcity(rng, limits.own());
+    frames_up_to(rng, limits, v, least, limits.own().capacity(), scarcity)
+}
+
+/// A queue of all frames that can be held at v with this least due clock, but at most so many.
+pub fn crowd(rng: &mut Prng, limits: &impl Limits, v: i64, least: i64, most: usize) -> Vec<u8> {
+    let frames = frames_up_to(rng, limits, v, least, most, 1);
+    assemble(rng, &limits.widest(), &frames)
+}
+
+/// One in how many of the frames that could be held is.
+fn scarcity(rng: &mut Prng, setup: &Setup) -> i64 {
+    rng.pick(&[1, 3, 1 + setup.capacity() as i64 / 4, setup.capacity() as i64])
 }
 
 /// At most so many frames that make a sound queue, but for their number.
@@ -103,9 +116,9 @@ fn frames_up_to(
     v: i64,
     least: i64,
     most: usize,
+    scarcity: i64,
 ) -> Vec<Vec<u8>> {
     let setup = limits.own();
-    let scarcity = rng.pick(&[1, 3, 1 + setup.capacity() as i64 / 4, setup.capacity() as i64]);
     let mut frames = Vec::new();
     for node in 0..setup.n {
         for ahead in held_range(setup, least) {

@@ -144,10 +144,16 @@ pub struct Act {
     pub sources: Vec<Option<usize>>,
     /// The call with both pairs; in another phase with the pair of that phase.
     pub case: TickCase<Both>,
-    is_node: bool,
+    /// Is it a node's call, not an observer's?
+    pub is_node: bool,
 }
 
 impl Act {
+    /// Has the call both pairs?
+    pub fn has_both(&self) -> bool {
+        self.phase == Phase::Both
+    }
+
     /// Calls the oracle.
     pub fn run(&mut self) -> Answer {
         match self.phase {

@@ -1,7 +1,8 @@
 //! Setups with both pairs (02, 2.10), and where V lies to a call.
 
-use super::{Prng, TickCase};
-use crate::{Both, Setup};
+use super::cases::random_state;
+use super::{frames, memory, Prng, TickCase};
+use crate::{batch, Both, ClockState, Limits, Settings, Setup};
 
 /// A valid setup with both pairs: often small, the pairs often equal in one limit and now and then
 /// in both, B often at its least. V and the mark are any.
@@ -51,5 +52,82 @@ impl TickCase<Both> {
     /// The same call with V elsewhere.
     pub fn aimed(&self, rng: &mut Prng) -> Self {
         TickCase { setup: aimed(rng, self.setup, self.clock), ..self.clone() }
+    }
+
+    /// The same call after the longest step, with a queue at its count limit or a little above.
+    pub fn crowded(&self, rng: &mut Prng) -> Self {
+        let (limits, v) = (&self.setup.at(self.clock), self.clock);
+        let step = limits.own().epsilon;
+        let most = limits.own().capacity() + rng.place(3);
+        let state = memory::sound_state(rng, limits, v, step);
+        let holdback = memory::crowd(rng, limits, v, 1 - step, most);
+        TickCase { state, holdback, ..self.clone() }
+    }
+}
+
+/// A node's memory on its way through V with both pairs, in an air of frames that nobody sent.
+pub struct Walk {
+    setup: Both,
+    /// V and the node's clock as true clocks.
+    change: i64,
+    clock: i64,
+    state: ClockState,
+    holdback: Vec<u8>,
+    /// Frames that it heard lately.
+    heard: Vec<Vec<u8>>,
+}
+
+impl Walk {
+    /// From any memory, mostly shortly before V, now and then where calls with both pairs start.
+    pub fn start(rng: &mut Prng) -> Self {
+        let setup = setup(rng);
+        let Both { old: Setup { modulus, .. }, wider_epsilon, wider_delta, .. } = setup;
+        let change = 2 * modulus + setup.change;
+        let close = rng.range(1, wider_delta + 4 * wider_epsilon);
+        let clock = change - rng.pick(&[close, close, close, modulus]);
+        let (state, holdback) = (random_state(rng), Vec::new());
+        let mut walk = Walk { setup, change, clock, state, holdback, heard: Vec::new() };
+        let v = clock + 1;
+        let setup = walk.setup_for(v);
+        let case = TickCase::idle(rng, setup, v % modulus, state, Vec::new()).stepped(rng);
+        (walk.state, walk.holdback) = (case.state, case.holdback);
+        walk
+    }
+
+    /// The setup of a call for this clock.
+    fn setup_for(&self, v: i64) -> Both {
+        Both { marked: i64::from(v >= self.change), ..self.setup }
+    }
+
+    /// The next call, which is not yet made; none once V is B behind.
+    pub fn next_case(&mut self, rng: &mut Prng) -> Option<TickCase<Both>> {
+        let Both { old, wider_epsilon, .. } = self.setup;
+        let any = rng.range(1, wider_epsilon);
+        let v = self.clock + rng.pick(&[1, 1, any, old.epsilon.min(any)]);
+        if v >= self.change + old.modulus {
+            return None;
+        }
+        let (setup, clock) = (self.setup_for(v), v % old.modulus);
+        let mut case = TickCase::idle(rng, setup, clock, self.state, self.holdback.clone());
+        let mut heard: Vec<Vec<u8>> =
+            (0..rng.range(0, 6)).map(|_| frames::any(rng, &setup.at(clock), clock)).collect();
+        for frame in &self.heard {
+            if rng.one_in(4) {
+                heard.insert(rng.place(heard.len() + 1), frame.clone());
+            }
+        }
+        heard.truncate(40);
+        case.batch = batch::encode(&heard);
+        case.send = rng.one_in(2);
+        case.payload = rng.payload();
+        self.heard = heard;
+        self.heard.truncate(12);
+        self.clock = v;
+        Some(case)
+    }
+
+    /// Takes over what an accepted call left.
+    pub fn settle(&mut self, left: TickCase<Both>) {
+        (self.state, self.holdback) = (left.state, left.holdback);
     }
 }
