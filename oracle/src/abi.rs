@@ -149,8 +149,8 @@ pub mod library_in;
 pub mod library {
     //! The calls themselves.
 
-    use crate::generate::{CompareCase, FreshCase, ListenCase, PollCase, ReadCase};
-    use crate::generate::{LongCase, LongReadCase, LongWriteCase};
+    use crate::generate::{CompareCase, FreshCase, FreshLastCase, ListenCase, PollCase, ReadCase};
+    use crate::generate::{LongCase, LongFreshCase, LongReadCase, LongWriteCase};
     use crate::generate::{TickCase, WordsCase, WriteCase};
     use crate::{ClockState, LastClock, LongState, Setup};
 
@@ -164,6 +164,15 @@ pub mod library {
             own: u32,
             clock: u32,
             state: *mut ClockState,
+        ) -> u64;
+
+        fn yarngravel_fresh_last(
+            n: u32,
+            epsilon: u32,
+            delta: u32,
+            modulus: u32,
+            clock: u32,
+            last: *mut LastClock,
         ) -> u64;
 
         fn yarngravel_tick(
@@ -270,6 +279,15 @@ pub mod library {
             delivery_len: usize,
         ) -> u64;
 
+        fn yarngravel_long_fresh(
+            n: u32,
+            epsilon: u32,
+            delta: u32,
+            own: u32,
+            clock: u64,
+            state: *mut LongState,
+        ) -> u64;
+
         fn yarngravel_long_tick(
             n: u32,
             epsilon: u32,
@@ -333,6 +351,14 @@ pub mod library {
         let clock = narrow(case.clock);
         // SAFETY: as in `tick`.
         unsafe { yarngravel_fresh(n, epsilon, delta, modulus, own, clock, &mut case.state) }
+    }
+
+    /// An observer's start.
+    pub fn fresh_last(case: &mut FreshLastCase) -> u64 {
+        let [n, epsilon, delta, modulus, _] = numbers(&case.setup);
+        let clock = narrow(case.clock);
+        // SAFETY: as in `tick`.
+        unsafe { yarngravel_fresh_last(n, epsilon, delta, modulus, clock, &mut case.last) }
     }
 
     /// The tick.
@@ -467,6 +493,13 @@ pub mod library {
                 case.delivery.len(),
             )
         }
+    }
+
+    /// An engine's start.
+    pub fn long_fresh(case: &mut LongFreshCase) -> u64 {
+        let [n, epsilon, delta, _, own] = numbers(&case.setup);
+        // SAFETY: as in `tick`.
+        unsafe { yarngravel_long_fresh(n, epsilon, delta, own, case.clock, &mut case.state) }
     }
 
     /// An engine's tick.

@@ -111,7 +111,7 @@ impl<'a, L: Limits> Board<'a, L> {
         holdback::put(&delivered, buffers.delivery);
         let used = holdback::put(rest, buffers.holdback);
         let grown = self.limits.pairs()[0].holdback_len().max(used);
-        let end = if planted(116) { grown } else { buffers.holdback.len() };
+        let end = if planted(122) { grown } else { buffers.holdback.len() };
         buffers.holdback[used + skew(9) as usize..end].fill(0);
         delivered.len() as u16
     }
@@ -130,7 +130,7 @@ pub fn judge<'a>(
     let entry = Entry::near(limits, v, Frame::parse(limits, bytes)?);
     ask(-entry.ahead <= oldest.delta + oldest.epsilon + skew(3), 13)?;
     // 02, 2.10: "a frame heard that is due before v gets 13". In a plain call none is that passed so far.
-    ask(entry.due(limits) >= 0 || planted(91), 13)?;
+    ask(entry.due(limits) >= 0 || planted(97), 13)?;
     ask(entry.sum < limits.by(Part::Early).epsilon, 14)?;
     if owner == Owner::Node || planted(31) {
         ask(has_possible_counts(setup, &entry), 15)?;

@@ -78,7 +78,7 @@ pub fn read<'a, S: Settings>(setup: &S, bytes: &'a [u8]) -> Result<Frame<'a>, u8
     setup.check()?;
     let frame = Frame::whole(setup, bytes)?;
     let width = frame.timestamp.kn.len();
-    let judging = if planted(107) { setup.side() } else { setup.of_width(width) };
+    let judging = if planted(113) { setup.side() } else { setup.of_width(width) };
     check_origin(&judging, frame.node, &frame.timestamp)?;
     Ok(frame)
 }
@@ -106,9 +106,9 @@ pub fn write_in(
     out: &mut [u8],
 ) -> Result<usize, u8> {
     setup.check()?;
-    let wide = if planted(110) { setup.is_marked() } else { wide };
+    let wide = if planted(116) { setup.is_marked() } else { wide };
     let pair = if wide { setup.wider() } else { setup.old };
-    let judging = if planted(108) { setup.side() } else { pair };
+    let judging = if planted(114) { setup.side() } else { pair };
     write_by(&pair, &judging, node, state, payload, out)
 }
 

@@ -164,7 +164,7 @@ impl Both {
 
     /// Has a frame with so many counts more than 2ε?
     pub fn is_wide(&self, counts: usize) -> bool {
-        match planted(109) {
+        match planted(115) {
             true => counts == self.wider().width(),
             false => counts > self.old.width(),
         }
@@ -174,9 +174,9 @@ impl Both {
     /// (v − V) modulo B behind".
     fn change_near(&self, v: i64) -> i64 {
         let ahead = (self.change - v).rem_euclid(self.old.modulus);
-        match self.is_marked() && !planted(77) {
+        match self.is_marked() && !planted(83) {
             true => -(v - self.change).rem_euclid(self.old.modulus),
-            false if ahead == 0 && !planted(76) => self.old.modulus,
+            false if ahead == 0 && !planted(82) => self.old.modulus,
             false => ahead,
         }
     }
@@ -184,27 +184,27 @@ impl Both {
     /// Are both pairs in their limits with n and B? (`is_in` says so of each.)
     fn are_pairs_in(&self, is_in: fn(&Setup) -> bool) -> bool {
         let mut wider = self.wider();
-        if planted(104) {
+        if planted(110) {
             wider.modulus = 65_535;
         }
-        is_in(&self.old) && (is_in(&wider) || planted(105))
+        is_in(&self.old) && (is_in(&wider) || planted(111))
     }
 
     /// "V below B (else 1)", and the mark 0 or 1.
     fn has_change(&self) -> bool {
-        self.change < self.old.modulus + skew(102) && (self.marked <= 1 || planted(103))
+        self.change < self.old.modulus + skew(108) && (self.marked <= 1 || planted(109))
     }
 
     /// "Number 19 when ε′ or δ′ is smaller than the old": is neither?
     fn is_wider(&self) -> bool {
-        let least = skew(101);
-        (self.wider_epsilon >= self.old.epsilon + least || planted(99))
-            && (self.wider_delta >= self.old.delta + least || planted(100))
+        let least = skew(107);
+        (self.wider_epsilon >= self.old.epsilon + least || planted(105))
+            && (self.wider_delta >= self.old.delta + least || planted(106))
     }
 
     /// 1, and 19 "asked after 1".
     fn check_by(&self, is_in: fn(&Setup) -> bool) -> Result<(), u8> {
-        if planted(98) {
+        if planted(104) {
             ask(self.is_wider(), 19)?;
         }
         ask(self.are_pairs_in(is_in) && self.has_change(), 1)?;
@@ -220,8 +220,8 @@ impl Pairs for Both {
     /// "Shelves and buffers have the new sizes."
     fn widest(&self) -> Setup {
         match () {
-            () if planted(96) => self.side(),
-            () if planted(97) => self.old,
+            () if planted(102) => self.side(),
+            () if planted(103) => self.old,
             () => self.wider(),
         }
     }
@@ -235,7 +235,7 @@ impl Settings for Both {
     }
 
     fn check_observer(&self) -> Result<(), u8> {
-        self.check_by(if planted(106) { Setup::is_valid } else { Setup::is_in_limits })
+        self.check_by(if planted(112) { Setup::is_valid } else { Setup::is_in_limits })
     }
 
     fn side(&self) -> Setup {
@@ -276,7 +276,7 @@ impl Pairs for Schedule {
 
     fn has_width(&self, counts: usize) -> bool {
         let is_past = self.change <= 0;
-        if planted(92) && is_past || planted(93) && !is_past {
+        if planted(98) && is_past || planted(99) && !is_past {
             return counts == self.own().width();
         }
         counts == self.old.width() || counts == self.new.width()
@@ -295,8 +295,8 @@ impl Limits for Schedule {
 
     /// "A frame is due at sum + δ + ε if that lies before V, else at sum + δ′ + ε′."
     fn due(&self, sum: i64) -> i64 {
-        match self.is_due_before(sum, 80) {
-            _ if planted(78) => self.own().due(sum),
+        match self.is_due_before(sum, 86) {
+            _ if planted(84) => self.own().due(sum),
             true => self.old.due(sum),
             false => self.new.due(sum),
         }
@@ -304,10 +304,10 @@ impl Limits for Schedule {
 
     /// "Frames due before V compare ε counts, all others ε′ counts."
     fn depth(&self, sum: i64) -> i64 {
-        match self.is_due_before(sum, 85) {
-            _ if planted(81) => self.own().epsilon,
-            true if !planted(84) => self.old.epsilon,
-            false if planted(83) => self.old.epsilon,
+        match self.is_due_before(sum, 91) {
+            _ if planted(87) => self.own().epsilon,
+            true if !planted(90) => self.old.epsilon,
+            false if planted(89) => self.old.epsilon,
             _ => self.new.epsilon,
         }
     }
@@ -315,7 +315,7 @@ impl Limits for Schedule {
     /// "A tick uses the limits of its own clock." Each part has two faults: always the old pair, and
     /// always the wider one.
     fn by(&self, part: Part) -> &Setup {
-        let fault = 64 + 2 * part as u8;
+        let fault = 70 + 2 * part as u8;
         match () {
             () if planted(fault) => &self.old,
             () if planted(fault + 1) => &self.new,

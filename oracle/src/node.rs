@@ -92,7 +92,7 @@ fn accepted<S: Settings>(
 fn enter(limits: &impl Limits, v: i64, state: &ClockState) -> (LocalTimestamp, u8, i64) {
     let before = tables(limits, v, state);
     let mut step = before.sound_step(limits.by(Part::Step), v);
-    if planted(118) && limits.is_narrow(before.kn.len()) {
+    if planted(124) && limits.is_narrow(before.kn.len()) {
         step = None;
     }
     let local = step.map(|step| LocalTimestamp::step(limits.own(), &before, step));
@@ -104,8 +104,8 @@ fn enter(limits: &impl Limits, v: i64, state: &ClockState) -> (LocalTimestamp, u
 /// The tables at a new clock v. "Tables are narrow if their r is before V" (02, 2.10).
 pub fn tables<'a>(limits: &impl Limits, v: i64, state: &'a ClockState) -> Timestamp<'a> {
     let r = i64::from(u16::from_le_bytes([state[0], state[1]]));
-    let clock = -limits.own().step(r, v) - skew(88);
-    Timestamp::of_state(limits.of(if planted(87) { 0 } else { clock }), state)
+    let clock = -limits.own().step(r, v) - skew(94);
+    Timestamp::of_state(limits.of(if planted(93) { 0 } else { clock }), state)
 }
 
 /// Step 5: the frame that carries the new timestamp; its length. "Stations before V write narrow
@@ -114,8 +114,8 @@ fn send(limits: &impl Limits, state: &ClockState, payload: &[u8], outgoing: &mut
     let own = limits.own().own;
     let timestamp = Timestamp::of_state(limits.own(), state);
     let other = match () {
-        () if planted(94) => limits.pairs()[0].epsilon,
-        () if planted(95) => limits.pairs()[1].epsilon,
+        () if planted(100) => limits.pairs()[0].epsilon,
+        () if planted(101) => limits.pairs()[1].epsilon,
         () => return frame::put(own, &timestamp, payload, outgoing) as u8,
     };
     let kn: Vec<u8> = (-other..other).map(|offset| timestamp.count(offset)).collect();

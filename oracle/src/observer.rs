@@ -4,7 +4,7 @@
 use crate::board::{self, Board, Buffers, Owner};
 use crate::fault::{planted, skew};
 use crate::limits::Part;
-use crate::{holdback, Answer, Limits, Settings, Setup};
+use crate::{ask, holdback, Answer, Limits, Settings, Setup};
 
 /// What an observer's call is given to read.
 #[derive(Clone, Copy, Debug)]
@@ -19,6 +19,14 @@ pub struct Listening<'a, S = Setup> {
 
 /// The clock of an observer's last accepted call, low byte first.
 pub type LastClock = [u8; 2];
+
+/// An observer's start: asks 1 without the own number, and 2; its last clock.
+pub fn start_last(setup: &Setup, clock: i64) -> Result<LastClock, u8> {
+    ask(if planted(68) { setup.is_valid() } else { setup.is_in_limits() }, 1)?;
+    let wide = planted(67) && clock > 65_535;
+    ask(clock < setup.modulus + skew(69) || wide, 2)?;
+    Ok((clock as u16).to_le_bytes())
+}
 
 /// One call of an observer, which sends nothing. A refused one changes nothing.
 pub fn listen<S: Settings>(

@@ -87,7 +87,7 @@ pub fn compare<S: Settings>(
     ask(clock < setup.widest().modulus, 2)?;
     let limits = &setup.at(clock);
     let near = |frame| Entry::near(limits, clock, frame);
-    let parse = |bytes| match planted(114) {
+    let parse = |bytes| match planted(120) {
         true => read(setup, bytes),
         false => Frame::parse(limits, bytes),
     };

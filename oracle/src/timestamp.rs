@@ -58,7 +58,7 @@ impl<'a> Timestamp<'a> {
         let depth = (depth - skew(5)) as usize;
         let end = self.kn.len() / 2 + self.c as usize + 1;
         let there = &self.kn[end.saturating_sub(depth)..end];
-        let missing = if planted(86) { there.len() } else { depth };
+        let missing = if planted(92) { there.len() } else { depth };
         there.iter().rev().copied().chain(std::iter::repeat(0)).take(missing)
     }
 
@@ -91,7 +91,7 @@ pub fn all_at_most(kn: &[u8], limit: i64) -> bool {
 pub fn start<S: Settings>(setup: &S, clock: i64) -> Result<ClockState, u8> {
     setup.check()?;
     ask(clock < setup.widest().modulus, 2)?;
-    match planted(113) {
+    match planted(119) {
         true => Ok(fresh(&setup.pairs()[0], clock)),
         false => Ok(fresh(setup.at(clock).own(), clock)),
     }
@@ -128,7 +128,7 @@ impl LocalTimestamp {
         local.c = if planted(7) { before.c } else { (before.c - step).max(0) };
         let offsets = if planted(13) { 1 } else { step };
         for (own, offset) in local.kn.iter_mut().zip(-setup.epsilon..setup.epsilon) {
-            *own = before.count(offset + offsets + misplaced(setup, before, 89));
+            *own = before.count(offset + offsets + misplaced(setup, before, 95));
         }
         local
     }
@@ -138,7 +138,7 @@ impl LocalTimestamp {
         self.c = self.c.max(ahead + other.c);
         for (own, offset) in self.kn.iter_mut().zip(-setup.epsilon..setup.epsilon) {
             let offset = offset - ahead - skew(8);
-            *own = (*own).max(other.count(offset + misplaced(setup, other, 90)));
+            *own = (*own).max(other.count(offset + misplaced(setup, other, 96)));
         }
     }
 

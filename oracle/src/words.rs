@@ -16,8 +16,8 @@ pub fn words<S: Settings>(
 ) -> Result<usize, u8> {
     setup.check()?;
     let setup = &match () {
-        () if planted(111) => setup.pairs()[0],
-        () if planted(112) => setup.pairs()[1],
+        () if planted(117) => setup.pairs()[0],
+        () if planted(118) => setup.pairs()[1],
         () => setup.side(),
     };
     let entries = batch::entries(batch).ok_or(5)?;

@@ -7,6 +7,7 @@ pub mod AnyState
 pub mod World
 pub mod Reach
 pub mod Stamps
+pub mod Due
 pub mod Event
 pub mod Boards
 pub mod HearLoop

@@ -1,7 +1,24 @@
 //! Calls of observers (02's listeners).
 
-use super::{Prng, TickCase};
+use super::{FreshCase, Prng, TickCase};
 use crate::{Answer, Buffers, LastClock, Limits, Listening, Settings, Setup};
+
+/// A call for an observer's start.
+#[derive(Clone, Debug, PartialEq, Eq)]
+pub struct FreshLastCase {
+    /// The own number is not looked at, and may be any.
+    pub setup: Setup,
+    pub clock: i64,
+    pub last: LastClock,
+}
+
+impl FreshLastCase {
+    /// The call for an observer where a node starts with this one.
+    pub fn of(case: FreshCase) -> Self {
+        let FreshCase { setup, clock, state } = case;
+        FreshLastCase { setup, clock, last: [state[0], state[1]] }
+    }
+}
 
 /// An observer's call.
 #[derive(Clone, Debug, PartialEq, Eq)]

@@ -18,7 +18,7 @@ const TRACES: u64 = 4_000;
 /// `gave` (was a frame sent, was one handed out) 1 is yes. The numbers of `early`, `overdue` and
 /// `step` are kinds: see `nudges`; so are those of `count`: see `reasons`; those of the rows of polls
 /// but the first: see `polls`; and those of the rows of observers: see `observers`.
-const OF_CALLS: [Row; 33] = [
+const OF_CALLS: [Row; 34] = [
     ("call", &[(0, 37_000), (1, 910), (2, 800), (3, 790), (4, 720), (5, 1_300), (6, 1_700)]),
     ("compare", &[(0, 18_000), (1, 2_100), (2, 2_100), (10, 2_200), (11, 710), (12, 660)]),
     ("count", &[(0, 1_000), (1, 3_300), (2, 260)]),
@@ -38,6 +38,7 @@ const OF_CALLS: [Row; 33] = [
         ],
     ),
     ("fresh", &[(0, 860), (1, 320), (2, 230)]),
+    ("fresh last", &[(0, 1_000), (1, 300), (2, 300)]),
     ("gave", &[(0, 25_000), (1, 10_000)]),
     (
         "line",
@@ -91,10 +92,10 @@ const OF_CALLS: [Row; 33] = [
     ("words", &[(0, 18_000), (1, 1_500), (5, 1_500), (6, 4_300)]),
     ("writer", &[(0, 3_300), (1, 500), (4, 970), (6, 810), (11, 1_700), (12, 1_100)]),
 ];
-/// Of calls of engines. The numbers of `long`, `long frame`, `long mend`, `long reader` and `long writer` are
+/// Of calls of engines. The numbers of `long`, `long frame`, `long fresh`, `long mend`, `long reader` and `long writer` are
 /// what they are for other calls; those of `beside` are what ended a run (0: its length); all others are
 /// kinds: see `engines`.
-const OF_ENGINES: [Row; 20] = [
+const OF_ENGINES: [Row; 21] = [
     ("beside", &[(0, 290), (2, 13), (18, 16)]),
     ("beside early", &[(0, 15_000), (1, 660), (2, 1_000), (3, 20_000)]),
     ("beside frame", &[(0, 90_000), (16, 220_000)]),
@@ -119,6 +120,7 @@ const OF_ENGINES: [Row; 20] = [
             (18, 17_000),
         ],
     ),
+    ("long fresh", &[(0, 1_200), (1, 440), (2, 750)]),
     ("long gave", &[(0, 50_000), (1, 49_000)]),
     ("long held", &[(0, 7_400), (1, 70_000), (2, 420), (3, 1_100), (4, 1_700)]),
     ("long mend", &[(0, 81_000), (1, 3_200), (2, 11_000), (3, 8_700)]),

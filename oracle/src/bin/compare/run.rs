@@ -5,8 +5,8 @@ use crate::subject::Subject;
 use crate::{engines, nudges, observers, polls, reasons, yards};
 use oracle::abi;
 use oracle::generate::{self, spoil, Beside, Group, Habits, Pair, Prng, Turn};
-use oracle::generate::{CompareCase, FreshCase, ListenCase, PollCase, ReadCase};
-use oracle::generate::{LongCase, LongReadCase, LongWriteCase};
+use oracle::generate::{CompareCase, FreshCase, FreshLastCase, ListenCase, PollCase, ReadCase};
+use oracle::generate::{LongCase, LongFreshCase, LongReadCase, LongWriteCase};
 use oracle::generate::{TickCase, WordsCase, WriteCase};
 use oracle::playing::hex;
 use oracle::{Answer, Timestamp};
@@ -56,6 +56,20 @@ impl Case for FreshCase {
 
     fn buffers(&self) -> Vec<(&'static str, &[u8])> {
         vec![("tables", &self.state)]
+    }
+}
+
+impl Case for FreshLastCase {
+    fn call(&mut self, subject: &mut dyn Subject) -> u64 {
+        subject.fresh_last(self)
+    }
+
+    fn numbers(&self) -> String {
+        format!("observer's start: {:?} clock {}", self.setup, self.clock)
+    }
+
+    fn buffers(&self) -> Vec<(&'static str, &[u8])> {
+        vec![("last", &self.last)]
     }
 }
 
@@ -146,6 +160,20 @@ impl Case for ListenCase {
             ("verdicts", &self.verdicts),
             ("hand-out", &self.delivery),
         ]
+    }
+}
+
+impl Case for LongFreshCase {
+    fn call(&mut self, subject: &mut dyn Subject) -> u64 {
+        subject.long_fresh(self)
+    }
+
+    fn numbers(&self) -> String {
+        format!("engine's start: {:?} clock {}", self.setup, self.clock)
+    }
+
+    fn buffers(&self) -> Vec<(&'static str, &[u8])> {
+        vec![("tables", &self.state)]
     }
 }
 
@@ -291,7 +319,10 @@ impl<'s> Comparison<'s> {
             self.tick(other)?;
         }
         if rng.one_in(16) {
-            let (_, word) = self.case(FreshCase::random(rng, case.setup))?;
+            let case = FreshCase::random(rng, case.setup);
+            let (_, word) = self.case(FreshLastCase::of(case.clone()))?;
+            self.coverage.meet("fresh last", abi::number(word));
+            let (_, word) = self.case(case)?;
             self.coverage.meet("fresh", abi::number(word));
         }
         if rng.one_in(3) {
@@ -467,6 +498,10 @@ impl<'s> Comparison<'s> {
         if rng.one_in(2) {
             let other = case.stepped(rng).noisy(rng);
             self.long(other)?;
+        }
+        if rng.one_in(16) {
+            let (_, word) = self.case(LongFreshCase::random(rng, case.setup, case.clock))?;
+            self.coverage.meet("long fresh", abi::number(word));
         }
         if rng.one_in(3) {
             let (_, word) = self.case(LongReadCase::random(rng, case.setup, case.clock))?;

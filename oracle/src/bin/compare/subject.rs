@@ -1,14 +1,15 @@
 //! The programs that are compared.
 
 use oracle::abi;
-use oracle::generate::{CompareCase, FreshCase, ListenCase, PollCase, ReadCase};
-use oracle::generate::{LongCase, LongReadCase, LongWriteCase};
+use oracle::generate::{CompareCase, FreshCase, FreshLastCase, ListenCase, PollCase, ReadCase};
+use oracle::generate::{LongCase, LongFreshCase, LongReadCase, LongWriteCase};
 use oracle::generate::{TickCase, WordsCase, WriteCase, WriteInCase};
 use oracle::{fault, long, replay, yard, Both, Frame, Settings};
 
 /// Something that makes the calls and plays traces. Answers are packed as the library's.
 pub trait Subject {
     fn fresh(&mut self, case: &mut FreshCase) -> u64;
+    fn fresh_last(&mut self, case: &mut FreshLastCase) -> u64;
     fn tick(&mut self, case: &mut TickCase) -> u64;
     fn read(&mut self, case: &mut ReadCase) -> u64;
     fn write(&mut self, case: &mut WriteCase) -> u64;
@@ -16,6 +17,7 @@ pub trait Subject {
     fn compare(&mut self, case: &mut CompareCase) -> u64;
     fn poll(&mut self, case: &mut PollCase) -> u64;
     fn listen(&mut self, case: &mut ListenCase) -> u64;
+    fn long_fresh(&mut self, case: &mut LongFreshCase) -> u64;
     fn long_tick(&mut self, case: &mut LongCase) -> u64;
     fn long_read(&mut self, case: &mut LongReadCase) -> u64;
     fn long_write(&mut self, case: &mut LongWriteCase) -> u64;
@@ -47,11 +49,7 @@ impl Oracle {
 
     /// The start, of any setup.
     fn fresh_by<S: Settings>(&self, case: &mut FreshCase<S>) -> u64 {
-        match self.faulty(|| oracle::start(&case.setup, case.clock)) {
-            Ok(state) => case.state = state,
-            Err(number) => return abi::pack_refusal(number),
-        }
-        0
+        started(self.faulty(|| oracle::start(&case.setup, case.clock)), &mut case.state)
     }
 
     /// The words, of any setup.
@@ -76,6 +74,10 @@ impl Oracle {
 impl Subject for Oracle {
     fn fresh(&mut self, case: &mut FreshCase) -> u64 {
         self.fresh_by(case)
+    }
+
+    fn fresh_last(&mut self, case: &mut FreshLastCase) -> u64 {
+        started(self.faulty(|| oracle::start_last(&case.setup, case.clock)), &mut case.last)
     }
 
     fn tick(&mut self, case: &mut TickCase) -> u64 {
@@ -114,6 +116,10 @@ impl Subject for Oracle {
 
     fn listen(&mut self, case: &mut ListenCase) -> u64 {
         abi::pack_tick(&self.faulty(|| case.run()))
+    }
+
+    fn long_fresh(&mut self, case: &mut LongFreshCase) -> u64 {
+        started(self.faulty(|| oracle::long_start(&case.setup, case.clock)), &mut case.state)
     }
 
     fn long_tick(&mut self, case: &mut LongCase) -> u64 {
@@ -193,6 +199,15 @@ impl Subject for Oracle {
     }
 }
 
+/// A start's answer; where it is accepted, what is made of it is kept.
+fn started<T>(made: Result<T, u8>, kept: &mut T) -> u64 {
+    match made {
+        Ok(made) => *kept = made,
+        Err(number) => return abi::pack_refusal(number),
+    }
+    0
+}
+
 /// A reader's answer.
 fn pack_frame(frame: &Frame) -> u64 {
     let payload_at = frame.bytes.len() - frame.payload.len();
@@ -210,6 +225,10 @@ pub struct Proved {
 impl Subject for Proved {
     fn fresh(&mut self, case: &mut FreshCase) -> u64 {
         abi::library::fresh(case)
+    }
+
+    fn fresh_last(&mut self, case: &mut FreshLastCase) -> u64 {
+        abi::library::fresh_last(case)
     }
 
     fn tick(&mut self, case: &mut TickCase) -> u64 {
@@ -238,6 +257,10 @@ impl Subject for Proved {
 
     fn listen(&mut self, case: &mut ListenCase) -> u64 {
         abi::library::listen(case)
+    }
+
+    fn long_fresh(&mut self, case: &mut LongFreshCase) -> u64 {
+        abi::library::long_fresh(case)
     }
 
     fn long_tick(&mut self, case: &mut LongCase) -> u64 {
