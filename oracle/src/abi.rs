@@ -35,6 +35,7 @@ const TICK_DELIVERED: Field = Field::new(32, 16);
 const READ_NODE: Field = Field::new(8, 8);
 const READ_PAYLOAD_AT: Field = Field::new(16, 16);
 const READ_PAYLOAD_LEN: Field = Field::new(32, 16);
+const READ_WIDE: Field = Field::new(48, 1);
 
 const WRITE_LEN: Field = Field::new(8, 16);
 
@@ -76,6 +77,17 @@ pub fn unpack_tick(word: u64) -> Answer {
 /// The reader's answer: the sender, and where the payload lies in the frame.
 pub fn pack_read(node: u64, payload_at: u64, payload_len: u64) -> u64 {
     READ_NODE.put(node) | READ_PAYLOAD_AT.put(payload_at) | READ_PAYLOAD_LEN.put(payload_len)
+}
+
+/// What the reader's answer has besides for a setup with both pairs (02, 2.10): whether the frame has
+/// more than 2ε counts.
+pub fn pack_wide(is_wide: bool) -> u64 {
+    READ_WIDE.put(is_wide.into())
+}
+
+/// Whether it has, from an accepted answer.
+pub fn unpack_wide(word: u64) -> bool {
+    READ_WIDE.get(word) == 1
 }
 
 /// The writer's answer: the frame's length.
@@ -129,6 +141,9 @@ pub fn unpack_poll(word: u64) -> Outlook {
 pub fn pack_refusal(number: u8) -> u64 {
     NUMBER.put(number.into())
 }
+
+#[cfg(feature = "abi")]
+pub mod library_in;
 
 #[cfg(feature = "abi")]
 pub mod library {

@@ -313,7 +313,7 @@ fn held(rng: &mut Prng, setup: &Setup, v: u64, least: i64) -> Vec<Vec<u8>> {
     let mut frames = Vec::new();
     while frames.len() < count && !places.is_empty() {
         let (node, ahead) = places.swap_remove(rng.place(places.len()));
-        let c = memory::held_c(rng, setup, least, ahead);
+        let c = memory::held_c(rng, setup, setup.epsilon, least, ahead).expect("a c");
         frames.push(sound(rng, setup, v, node, ahead, c));
     }
     frames

@@ -11,6 +11,7 @@ type Row = (&'static str, &'static [(u8, u64)]);
 /// differ much, or a kind is rare, half of that or less, so that any seed will do.
 const CALLS: u64 = 200_000;
 const ENGINES: u64 = 200_000;
+const WIDER: u64 = 100_000;
 const TRACES: u64 = 4_000;
 
 /// Of calls. The numbers of `no line` are verdicts for which the words answered 6. For `sent` and
@@ -131,6 +132,47 @@ const OF_ENGINES: [Row; 21] = [
     ("long writer", &[(0, 4_200), (1, 520), (4, 1_500), (6, 2_000), (11, 2_200), (12, 2_700)]),
 ];
 
+/// Of calls with both pairs; what is no number of an answer is a kind: see `wider`.
+const OF_WIDER: [Row; 22] = [
+    ("in 13", &[(0, 17_000), (1, 1_300)]),
+    (
+        "in call",
+        &[(0, 26_000), (1, 350), (2, 400), (3, 370), (4, 360), (5, 640), (6, 820), (19, 33)],
+    ),
+    ("in compare", &[(0, 6_400), (1, 620), (2, 770), (10, 780), (11, 250), (12, 490), (19, 66)]),
+    ("in count", &[(0, 950), (1, 320)]),
+    ("in due", &[(0, 23_000), (1, 16_000)]),
+    (
+        "in frame",
+        &[
+            (0, 35_000),
+            (10, 23_000),
+            (11, 4_900),
+            (12, 7_900),
+            (13, 19_000),
+            (14, 1_900),
+            (15, 5_400),
+            (16, 20_000),
+        ],
+    ),
+    ("in fresh", &[(0, 650), (1, 220), (2, 200), (19, 21)]),
+    ("in listen", &[(0, 9_100), (1, 330), (2, 400), (3, 370), (5, 680), (6, 580), (19, 33)]),
+    ("in listen mend", &[(0, 4_900), (1, 900), (2, 1_600), (3, 1_400)]),
+    ("in mend", &[(0, 20_000), (1, 1_200), (2, 2_900), (3, 1_800)]),
+    ("in poll", &[(0, 8_500), (1, 370), (2, 360), (3, 300), (19, 34)]),
+    ("in poll next", &[(0, 3_200), (1, 5_000)]),
+    ("in reader", &[(0, 2_700), (1, 230), (10, 1_200), (11, 200), (12, 190), (19, 22)]),
+    ("in reader wide", &[(0, 1_700), (1, 930)]),
+    ("in reason", &[(0, 2_200), (1, 2_200), (2, 1_300), (3, 240), (4, 190)]),
+    ("in side", &[(0, 11_000), (1, 14_000)]),
+    ("in tables", &[(0, 7_500), (1, 1_600), (2, 7_300), (3, 5_000)]),
+    ("in width", &[(0, 11_000), (1, 2_700), (2, 11_000), (3, 8_900)]),
+    ("in widths", &[(0, 4_200), (1, 2_000)]),
+    ("in words", &[(0, 4_500), (1, 290), (5, 350), (6, 1_000), (19, 32)]),
+    ("in writer", &[(0, 1_500), (1, 220), (4, 530), (6, 350), (11, 950), (12, 960), (19, 21)]),
+    ("in writer wide", &[(0, 800), (1, 730)]),
+];
+
 /// Of traces. 3 and 6 are not among them: the program's own buffers are right.
 const OF_TRACES: [Row; 4] = [
     ("trace", &[(0, 2_200), (1, 160), (2, 66), (4, 69), (5, 570)]),
@@ -205,14 +247,15 @@ impl Coverage {
         self.0.get(&(what, number)).copied().unwrap_or(0)
     }
 
-    /// The numbers that were met too rarely in a run of this many calls, calls of engines, traces and
-    /// rehearsals.
-    pub fn gaps(&self, calls: u64, engines: u64, traces: u64, rehearsals: u64) -> Vec<String> {
+    /// The numbers that were met too rarely in a run of this many calls, calls of engines, calls with
+    /// both pairs, traces and rehearsals.
+    pub fn gaps(&self, [calls, engines, wider, traces, rehearsals]: [u64; 5]) -> Vec<String> {
         let of_calls = self.below(&OF_CALLS, calls, CALLS);
         let of_engines = self.below(&OF_ENGINES, engines, ENGINES);
+        let of_wider = self.below(&OF_WIDER, wider, WIDER);
         let of_traces = self.below(&OF_TRACES, traces, TRACES);
         let of_yards = self.below(&OF_YARDS, rehearsals, TRACES);
-        [of_calls, of_engines, of_traces, of_yards].concat()
+        [of_calls, of_engines, of_wider, of_traces, of_yards].concat()
     }
 
     /// The numbers of some rows that a run of this length met less often than it should.

@@ -15,7 +15,7 @@ use oracle::{Answer, Timestamp};
 const SHOWN: usize = 1_000;
 
 /// A call that any subject can make.
-trait Case: Clone {
+pub trait Case: Clone {
     fn call(&mut self, subject: &mut dyn Subject) -> u64;
     /// The arguments that are not buffers.
     fn numbers(&self) -> String;
@@ -236,6 +236,8 @@ pub struct Comparison<'s> {
     pub calls: u64,
     /// Those that were made for engines, the nodes beside them included.
     pub engine_calls: u64,
+    /// Those with both pairs (02, 2.10).
+    pub wider_calls: u64,
     /// Calls that a node and its engine made side by side.
     pub pairs: u64,
     pub traces: u64,
@@ -245,8 +247,18 @@ pub struct Comparison<'s> {
 impl<'s> Comparison<'s> {
     pub fn new(left: &'s mut dyn Subject, right: &'s mut dyn Subject) -> Self {
         let coverage = Coverage::default();
-        let [calls, engine_calls, pairs, traces, rehearsals] = [0; 5];
-        Comparison { left, right, coverage, calls, engine_calls, pairs, traces, rehearsals }
+        let [calls, engine_calls, wider_calls, pairs, traces, rehearsals] = [0; 6];
+        Comparison {
+            left,
+            right,
+            coverage,
+            calls,
+            engine_calls,
+            wider_calls,
+            pairs,
+            traces,
+            rehearsals,
+        }
     }
 
     /// Plays groups until at least this many calls are made.
@@ -407,7 +419,7 @@ impl<'s> Comparison<'s> {
     }
 
     /// Makes one call to both; what it left, and the answer.
-    fn case<C: Case>(&mut self, case: C) -> Result<(C, u64), String> {
+    pub fn case<C: Case>(&mut self, case: C) -> Result<(C, u64), String> {
         let (mut left, mut right) = (case.clone(), case.clone());
         let answers = [left.call(self.left), right.call(self.right)];
         self.calls += 1;

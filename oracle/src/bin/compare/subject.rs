@@ -3,8 +3,8 @@
 use oracle::abi;
 use oracle::generate::{CompareCase, FreshCase, FreshLastCase, ListenCase, PollCase, ReadCase};
 use oracle::generate::{LongCase, LongFreshCase, LongReadCase, LongWriteCase};
-use oracle::generate::{TickCase, WordsCase, WriteCase};
-use oracle::{fault, long, replay, yard, Frame};
+use oracle::generate::{TickCase, WordsCase, WriteCase, WriteInCase};
+use oracle::{fault, long, replay, yard, Both, Frame, Settings};
 
 /// Something that makes the calls and plays traces. Answers are packed as the library's.
 pub trait Subject {
@@ -21,6 +21,14 @@ pub trait Subject {
     fn long_tick(&mut self, case: &mut LongCase) -> u64;
     fn long_read(&mut self, case: &mut LongReadCase) -> u64;
     fn long_write(&mut self, case: &mut LongWriteCase) -> u64;
+    fn fresh_in(&mut self, case: &mut FreshCase<Both>) -> u64;
+    fn tick_in(&mut self, case: &mut TickCase<Both>) -> u64;
+    fn read_in(&mut self, case: &mut ReadCase<Both>) -> u64;
+    fn write_in(&mut self, case: &mut WriteInCase) -> u64;
+    fn words_in(&mut self, case: &mut WordsCase<Both>) -> u64;
+    fn compare_in(&mut self, case: &mut CompareCase<Both>) -> u64;
+    fn poll_in(&mut self, case: &mut PollCase<Both>) -> u64;
+    fn listen_in(&mut self, case: &mut ListenCase<Both>) -> u64;
     fn replay(&mut self, trace: &[u8]) -> Result<String, String>;
     fn yard(&mut self, trace: &[u8]) -> Result<String, String>;
 }
@@ -38,11 +46,34 @@ impl Oracle {
         fault::plant(0);
         result
     }
+
+    /// The start, of any setup.
+    fn fresh_by<S: Settings>(&self, case: &mut FreshCase<S>) -> u64 {
+        started(self.faulty(|| oracle::start(&case.setup, case.clock)), &mut case.state)
+    }
+
+    /// The words, of any setup.
+    fn words_by<S: Settings>(&self, case: &mut WordsCase<S>) -> u64 {
+        let WordsCase { setup, batch, verdicts, text } = case;
+        match self.faulty(|| oracle::words(setup, batch, verdicts, text)) {
+            Ok(length) => abi::pack_words(length as u64),
+            Err(number) => abi::pack_refusal(number),
+        }
+    }
+
+    /// The comparison, of any setup.
+    fn compare_by<S: Settings>(&self, case: &CompareCase<S>) -> u64 {
+        let CompareCase { setup, clock, first, second } = case;
+        match self.faulty(|| oracle::compare(setup, *clock, first, second)) {
+            Ok((order, reason)) => abi::pack_compare(order, reason),
+            Err(number) => abi::pack_refusal(number),
+        }
+    }
 }
 
 impl Subject for Oracle {
     fn fresh(&mut self, case: &mut FreshCase) -> u64 {
-        started(self.faulty(|| oracle::start(&case.setup, case.clock)), &mut case.state)
+        self.fresh_by(case)
     }
 
     fn fresh_last(&mut self, case: &mut FreshLastCase) -> u64 {
@@ -72,19 +103,11 @@ impl Subject for Oracle {
     }
 
     fn words(&mut self, case: &mut WordsCase) -> u64 {
-        let WordsCase { setup, batch, verdicts, text } = case;
-        match self.faulty(|| oracle::words(setup, batch, verdicts, text)) {
-            Ok(length) => abi::pack_words(length as u64),
-            Err(number) => abi::pack_refusal(number),
-        }
+        self.words_by(case)
     }
 
     fn compare(&mut self, case: &mut CompareCase) -> u64 {
-        let CompareCase { setup, clock, first, second } = case;
-        match self.faulty(|| oracle::compare(setup, *clock, first, second)) {
-            Ok((order, reason)) => abi::pack_compare(order, reason),
-            Err(number) => abi::pack_refusal(number),
-        }
+        self.compare_by(case)
     }
 
     fn poll(&mut self, case: &mut PollCase) -> u64 {
@@ -119,6 +142,52 @@ impl Subject for Oracle {
             Ok(length) => abi::pack_write(length as u64),
             Err(number) => abi::pack_refusal(number),
         }
+    }
+
+    fn fresh_in(&mut self, case: &mut FreshCase<Both>) -> u64 {
+        self.fresh_by(case)
+    }
+
+    fn tick_in(&mut self, case: &mut TickCase<Both>) -> u64 {
+        abi::pack_tick(&self.faulty(|| case.run()))
+    }
+
+    fn read_in(&mut self, case: &mut ReadCase<Both>) -> u64 {
+        let read = self.faulty(|| {
+            let frame = oracle::read(&case.setup, &case.frame)?;
+            Ok((frame, case.setup.is_wide(frame.timestamp.kn.len())))
+        });
+        match read {
+            Ok((frame, is_wide)) => {
+                case.state = frame.timestamp.to_state();
+                pack_frame(&frame) | abi::pack_wide(is_wide)
+            }
+            Err(number) => abi::pack_refusal(number),
+        }
+    }
+
+    fn write_in(&mut self, case: &mut WriteInCase) -> u64 {
+        let WriteInCase { setup, wide, node, state, payload, out } = case;
+        match self.faulty(|| oracle::write_in(setup, *node, *wide, state, payload, out)) {
+            Ok(length) => abi::pack_write(length as u64),
+            Err(number) => abi::pack_refusal(number),
+        }
+    }
+
+    fn words_in(&mut self, case: &mut WordsCase<Both>) -> u64 {
+        self.words_by(case)
+    }
+
+    fn compare_in(&mut self, case: &mut CompareCase<Both>) -> u64 {
+        self.compare_by(case)
+    }
+
+    fn poll_in(&mut self, case: &mut PollCase<Both>) -> u64 {
+        abi::pack_poll(self.faulty(|| case.run()))
+    }
+
+    fn listen_in(&mut self, case: &mut ListenCase<Both>) -> u64 {
+        abi::pack_tick(&self.faulty(|| case.run()))
     }
 
     fn replay(&mut self, trace: &[u8]) -> Result<String, String> {
@@ -204,6 +273,38 @@ impl Subject for Proved {
 
     fn long_write(&mut self, case: &mut LongWriteCase) -> u64 {
         abi::library::long_write(case)
+    }
+
+    fn fresh_in(&mut self, case: &mut FreshCase<Both>) -> u64 {
+        abi::library_in::fresh(case)
+    }
+
+    fn tick_in(&mut self, case: &mut TickCase<Both>) -> u64 {
+        abi::library_in::tick(case)
+    }
+
+    fn read_in(&mut self, case: &mut ReadCase<Both>) -> u64 {
+        abi::library_in::read(case)
+    }
+
+    fn write_in(&mut self, case: &mut WriteInCase) -> u64 {
+        abi::library_in::write(case)
+    }
+
+    fn words_in(&mut self, case: &mut WordsCase<Both>) -> u64 {
+        abi::library_in::words(case)
+    }
+
+    fn compare_in(&mut self, case: &mut CompareCase<Both>) -> u64 {
+        abi::library_in::compare(case)
+    }
+
+    fn poll_in(&mut self, case: &mut PollCase<Both>) -> u64 {
+        abi::library_in::poll(case)
+    }
+
+    fn listen_in(&mut self, case: &mut ListenCase<Both>) -> u64 {
+        abi::library_in::listen(case)
     }
 
     fn replay(&mut self, trace: &[u8]) -> Result<String, String> {
