@@ -224,6 +224,12 @@ def room():
     return made
 
 
+def unwrapped(log):
+    """The log with each message that says nothing of a fact on one line: the prover breaks a long line, and how long one is depends on
+    the name of a folder too."""
+    return re.sub(r"\n  (?=has no field `|was not admitted|that can be named from here|does not unfold here)", " ", log)
+
+
 class Checks:
     """The checks of this run: where their temporary files go, and those that are running, which end with it."""
 
@@ -249,7 +255,7 @@ class Checks:
         with subprocess.Popen(command, cwd=work, env=self.settings, start_new_session=True, **heard) as check:
             self.running.add(check.pid)
             try:
-                return check.communicate(timeout=limit)[0]
+                return unwrapped(check.communicate(timeout=limit)[0])
             except subprocess.TimeoutExpired:
                 os.killpg(check.pid, signal.SIGKILL)
                 return f"no verdict in {limit} seconds"
