@@ -183,7 +183,7 @@ int main(int argc, char **argv) {
         struct place *p = &places[k];
         p->clock = START + draw(EPSILON + 1);
         expect_accepted("start", yarngravel_fresh(N, EPSILON, DELTA, B, (uint32_t)k, (uint32_t)(p->clock % B), p->tables));
-        yarngravel_long_fresh(EPSILON, p->clock, p->long_tables);
+        expect_accepted("engine's start", yarngravel_long_fresh(N, EPSILON, DELTA, (uint32_t)k, p->clock, p->long_tables));
     }
     for (unsigned made = 0; made < CALLS;) {
         int who = (int)draw(N);

@@ -95,7 +95,7 @@ static void start(int who, int clock) {
     struct board *s = &boards[who];
     uint32_t reduced = (uint32_t)(clock % MODULUS);
     s->clock = clock;
-    if (who == OBSERVER) yarngravel_fresh_last(reduced, s->last);
+    if (who == OBSERVER) expect_accepted("start", yarngravel_fresh_last(N, EPSILON, DELTA, MODULUS, reduced, s->last));
     else expect_accepted("start", yarngravel_fresh(N, EPSILON, DELTA, MODULUS, (uint32_t)who, reduced, s->tables));
     memset(s->shelf, 0, sizeof s->shelf);
 }

@@ -55,9 +55,34 @@ void try_fresh() {
     wanted[1] = 0xff;
     wanted[3 + epsilon] = 1;
     expect(tables == wanted, "the form of fresh tables");
-    uint8_t last[YARNGRAVEL_LAST];
-    yarngravel_fresh_last(65534, last);
-    expect(yarngravel_last_clock(last) == 65534, "an observer's last clock");
+}
+
+// an observer's last clock is its two bytes, low first, whatever own number there would be; 65541 is no clock, and not 5
+void try_fresh_last() {
+    uint8_t last[YARNGRAVEL_LAST] = {7, 7};
+    expect(yarngravel_fresh_last(n, epsilon, delta, modulus - 1, 0, last) == YARNGRAVEL_BAD_SETUP, "1 for an observer's small B");
+    expect(yarngravel_fresh_last(n, 0, delta, modulus, modulus, last) == YARNGRAVEL_BAD_SETUP, "1 before 2 of an observer");
+    expect(yarngravel_fresh_last(n, epsilon, delta, modulus, modulus, last) == YARNGRAVEL_BAD_CLOCK, "2 for a last clock of B");
+    expect(yarngravel_fresh_last(n, epsilon, delta, 65535, 65536 + 5, last) == YARNGRAVEL_BAD_CLOCK, "2 for a last clock of 65541");
+    expect(last[0] == 7 && last[1] == 7, "that a refused start of an observer changes nothing");
+    expect(yarngravel_fresh_last(n, epsilon, delta, 65535, 65534, last) == 0, "an observer's start at the largest clock");
+    expect(last[0] == 0xfe && last[1] == 0xff && yarngravel_last_clock(last) == 65534, "an observer's last clock");
+}
+
+// an engine's fresh tables are as the header says, up to the last clock before 2^63
+void try_long_fresh() {
+    std::vector<uint8_t> tables(YARNGRAVEL_LONG_TABLES, 7), wanted(YARNGRAVEL_LONG_TABLES, 0);
+    const std::vector<uint8_t> given = tables;
+    const uint64_t past = YARNGRAVEL_LONG_CLOCKS;
+    expect(yarngravel_long_fresh(n, 17, delta, own, 0, tables.data()) == YARNGRAVEL_BAD_SETUP, "1 for an epsilon of 17");
+    expect(yarngravel_long_fresh(n, epsilon, delta, n, past, tables.data()) == YARNGRAVEL_BAD_SETUP, "1 before 2 of an engine");
+    expect(yarngravel_long_fresh(n, epsilon, delta, own, past, tables.data()) == YARNGRAVEL_BAD_CLOCK, "2 for a start at 2^63");
+    expect(yarngravel_long_fresh(n, epsilon, delta, own, UINT64_MAX, tables.data()) == YARNGRAVEL_BAD_CLOCK, "2 for a start past it");
+    expect(tables == given, "that an engine's refused start changes nothing");
+    expect(yarngravel_long_fresh(n, epsilon, delta, own, past - 2, tables.data()) == 0, "an engine's start");
+    for (unsigned i = 0; i < 8; i++) wanted[i] = i == 0 ? 0xfe : i == 7 ? 0x7f : 0xff;
+    wanted[9 + epsilon] = 1;
+    expect(tables == wanted && yarngravel_long_last_clock(tables.data()) == past - 2, "the form of an engine's fresh tables");
 }
 
 // a bundle takes 255 frames of at most 255 bytes each, and no byte more than there is room for
@@ -92,8 +117,7 @@ std::vector<uint8_t> long_frame(uint32_t stations, uint32_t station, uint64_t cl
     uint8_t tables[YARNGRAVEL_LONG_TABLES], stamp[YARNGRAVEL_LONG_TABLES];
     std::vector<uint8_t> frame(yarngravel_long_frame_size(epsilon));
     const uint8_t ticket[] = {'x', 'y'};
-    yarngravel_long_fresh(epsilon, clock, tables);
-    expect(yarngravel_long_last_clock(tables) == clock && tables[8] == 0 && tables[9 + epsilon] == 1, "an engine's fresh tables");
+    expect(yarngravel_long_fresh(stations, epsilon, delta, 0, clock, tables) == 0, "the start of an engine that sends");
     const uint64_t wrote = yarngravel_long_write(stations, epsilon, delta, 0, station, tables, ticket, sizeof ticket, frame.data(),
                                                  frame.size());
     expect(yarngravel_number(wrote) == 0 && yarngravel_written(wrote) == 13 + 2 * epsilon + 2, "the length of an engine's frame");
@@ -118,7 +142,7 @@ void try_engine() {
         const std::vector<uint8_t> frame = long_frame(all, which % all, clock - delta - epsilon + which / all);
         expect(yarngravel_bundle_add(bundle.data(), bundle.size(), &len, frame.data(), frame.size()), "room for a frame");
     }
-    yarngravel_long_fresh(epsilon, clock - 1, tables);
+    expect(yarngravel_long_fresh(all, epsilon, delta, 0, clock - 1, tables) == 0, "an engine's start before the last clock");
     const auto tick = [&](uint64_t at) {
         return yarngravel_long_tick(all, epsilon, delta, 0, at, tables, shelf.data(), shelf.size(), bundle.data(), len, false, nullptr,
                                     0, outgoing.data(), outgoing.size(), verdicts, sizeof verdicts, handout.data(), handout.size());
@@ -134,7 +158,8 @@ void try_engine() {
     while (yarngravel_long_walk_next(&walk, epsilon)) expect(walk.frame[1] == station++, "the order of stations");
     expect(station == all, "that all stations are shown");
     uint8_t frame[77];
-    yarngravel_long_fresh(epsilon, YARNGRAVEL_LONG_CLOCKS, tables);
+    std::memset(tables, 0, 7); // r is 2^63
+    tables[7] = 0x80;
     expect(yarngravel_long_write(all, epsilon, delta, 0, 0, tables, nullptr, 0, frame, sizeof frame) == YARNGRAVEL_BAD_RANGE,
            "11 for an r of 2^63");
 }
@@ -196,7 +221,7 @@ void play() {
     uint8_t tables[YARNGRAVEL_TABLES], last[YARNGRAVEL_LAST];
     std::vector<uint8_t> outgoing(yarngravel_frame_size(epsilon));
     expect(yarngravel_fresh(n, epsilon, delta, modulus, own, modulus - 1, tables) == 0, "a start at the clock before 0");
-    yarngravel_fresh_last(modulus - 1, last);
+    expect(yarngravel_fresh_last(n, epsilon, delta, modulus, modulus - 1, last) == 0, "the observer's start there");
     for (uint32_t clock = 0; clock < 26; clock++) {
         const uint8_t letter = static_cast<uint8_t>('a' + clock);
         const uint64_t ticked = yarngravel_tick(
@@ -225,6 +250,8 @@ int main() {
     try_version();
     try_texts();
     try_fresh();
+    try_fresh_last();
+    try_long_fresh();
     try_bundle();
     try_sizes();
     try_frames();

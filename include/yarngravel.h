@@ -20,8 +20,8 @@ extern "C" {
 #endif
 
 /* The version of this header: major * 65536 + minor * 256 + patch, and as a text. */
-#define YARNGRAVEL_VERSION (2u * 65536u + 9u * 256u + 0u)
-#define YARNGRAVEL_VERSION_TEXT "2.9.0"
+#define YARNGRAVEL_VERSION (2u * 65536u + 9u * 256u + 1u)
+#define YARNGRAVEL_VERSION_TEXT "2.9.1"
 
 /* The version of the archive that is linked, in the form of YARNGRAVEL_VERSION. */
 uint32_t yarngravel_version(void);
@@ -232,23 +232,12 @@ static inline bool yarngravel_long_walk_next(struct yarngravel_walk *walk, uint3
 
 /* The clock of the last accepted call, modulo B: from a station's tables, or from an observer's last clock. */
 static inline unsigned yarngravel_last_clock(const uint8_t *kept) { return kept[0] + 256u * kept[1]; }
-/* An observer's last clock at its start: the clock before its first call, modulo B. */
-static inline void yarngravel_fresh_last(uint32_t clock, uint8_t last[YARNGRAVEL_LAST]) {
-    last[0] = (uint8_t)(clock & 0xffu);
-    last[1] = (uint8_t)(clock >> 8 & 0xffu);
-}
 
 /* The clock of an engine's last accepted call, from its tables. */
 static inline uint64_t yarngravel_long_last_clock(const uint8_t tables[YARNGRAVEL_LONG_TABLES]) {
     uint64_t clock = 0;
     for (unsigned i = 8; i > 0; i--) clock = clock << 8 | tables[i - 1];
     return clock;
-}
-/* An engine's fresh tables at a clock; epsilon is in its limits. Its first tick is for a clock 1 to epsilon later, and its shelf
-   starts as zeros. */
-static inline void yarngravel_long_fresh(uint32_t epsilon, uint64_t clock, uint8_t tables[YARNGRAVEL_LONG_TABLES]) {
-    for (unsigned i = 0; i < YARNGRAVEL_LONG_TABLES; i++) tables[i] = i < 8 ? (uint8_t)(clock >> 8 * i & 0xffu) : 0;
-    if (epsilon <= 16) tables[9 + epsilon] = 1;
 }
 
 /* Fresh tables at a clock (modulo B), for a station that starts there: its first tick is for a clock 1 to epsilon later. Its shelf
@@ -257,6 +246,13 @@ static inline void yarngravel_long_fresh(uint32_t epsilon, uint64_t clock, uint8
  */
 uint64_t yarngravel_fresh(uint32_t n, uint32_t epsilon, uint32_t delta, uint32_t modulus, uint32_t own, uint32_t clock,
                           uint8_t tables[YARNGRAVEL_TABLES]);
+
+/* The last clock of an observer that starts at a clock (modulo B): its first call, yarngravel_listen, is for a clock 1 to epsilon later.
+ * Its shelf starts as zeros.
+ * Refusals: 1 (no own number is asked for), 2; then the last clock stays as it was.
+ */
+uint64_t yarngravel_fresh_last(uint32_t n, uint32_t epsilon, uint32_t delta, uint32_t modulus, uint32_t clock,
+                               uint8_t last[YARNGRAVEL_LAST]);
 
 /* One tick at the clock (modulo B): judges the frames of the bundle, sends if asked to, and hands out what is due. A frame is due
  * at its r + c + delta + epsilon; it is handed out in the station's first tick at or past that clock.
@@ -341,8 +337,9 @@ uint64_t yarngravel_poll(uint32_t n, uint32_t epsilon, uint32_t delta, uint32_t 
 /* One call of an observer, a board that only listens, at its clock (modulo B): judges the frames of the bundle and hands out what is
  * due, as a tick does. An observer has no own number, is not counted in n, sends nothing and keeps no counts: between its calls it
  * keeps two bytes and a shelf. Its clock stays within epsilon of the stations' and moves by 1 to epsilon a call, as theirs do.
- *   last      in and out: the clock of the observer's last accepted call, at the start that before the first. Sound if it is below
- *             B and lies 1 to epsilon before this clock; else damaged, which is mend 1. After an accepted call it is this clock
+ *   last      in and out: the clock of the observer's last accepted call, at the start that before the first
+ *             (yarngravel_fresh_last). Sound if it is below B and lies 1 to epsilon before this clock; else damaged, which is
+ *             mend 1. After an accepted call it is this clock
  *   shelf     in and out, exactly YARNGRAVEL_SHELF bytes; zeros at the start. Sound only if every frame on it is due after the last
  *             clock, or, where that is damaged, at this clock or later; else emptied
  *   bundle, verdicts, handout
@@ -376,6 +373,13 @@ uint64_t yarngravel_long_tick(uint32_t n, uint32_t epsilon, uint32_t delta, uint
                               size_t bundle_len, bool send, const uint8_t *ticket, size_t ticket_len, uint8_t *outgoing,
                               size_t outgoing_len, uint8_t *verdicts, size_t verdicts_len, uint8_t *handout,
                               size_t handout_len);
+
+/* An engine's fresh tables at a clock, as yarngravel_fresh makes a station's: its first tick is for a clock 1 to epsilon later, and its
+ * shelf starts as zeros. r is that clock, byte 9 + epsilon is 1, all else 0.
+ * Refusals: 1, 2 (a clock from 2^63 up); then the tables stay as they were.
+ */
+uint64_t yarngravel_long_fresh(uint32_t n, uint32_t epsilon, uint32_t delta, uint32_t own, uint64_t clock,
+                               uint8_t tables[YARNGRAVEL_LONG_TABLES]);
 
 /* Reads an engine's frame, as yarngravel_read does a station's. Refusals: 1, 10, 11 (r from 2^63 up too), 12. */
 uint64_t yarngravel_long_read(uint32_t n, uint32_t epsilon, uint32_t delta, uint32_t own, const uint8_t *frame, size_t frame_len,

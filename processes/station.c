@@ -119,8 +119,11 @@ static void map_memory(void) {
 /* fresh tables, or an observer's fresh last clock, at the clock before a first call */
 static void start_afresh(uint32_t clock) {
     uint32_t before = (clock + setup.modulus - 1) % setup.modulus;
-    yarngravel_fresh_last(before, memory->last);
-    if (!observer) yarngravel_fresh(setup.n, setup.epsilon, setup.delta, setup.modulus, own(), before, memory->tables);
+    uint64_t answer =
+        observer ? yarngravel_fresh_last(setup.n, setup.epsilon, setup.delta, setup.modulus, before, memory->last)
+                 : yarngravel_fresh(setup.n, setup.epsilon, setup.delta, setup.modulus, own(), before, memory->tables);
+    unsigned number = yarngravel_number(answer);
+    if (number != 0) die(NAME, 1, "the start at clock %u is refused by %u: %s", before, number, yarngravel_number_text(number));
     fresh = false;
 }
 

@@ -1,8 +1,9 @@
 #!/usr/bin/env python3
-"""Tries the edits of the definitions (tests/mutants) and of the theorems' statements (crates/theory/must-fail).
+"""Tries the mutants, edits of the definitions, and the edits of the theorems' statements (crates/theory/must-fail); see tests/README.md.
 
-A mutant leaves the definitions well-formed but another protocol, so what is proved of them (lemmas, theory) must be refused. `rt ci`
-tries that of the statements' edits. A refusal alone says little, since a proof fits a text. So each mutant and each edit of a statement
+A mutant leaves the definitions well-formed but another protocol, so what is proved of them (lemmas, theory) must be refused. Mutants
+are the edits of tests/mutants, and those of crates/model/must-fail that have a violation: `rt ci` holds these to model's own samples
+too. `rt ci` also tries the edits of the statements. A refusal alone says little, since a proof fits a text. So each mutant and each edit of a statement
 has a violation, tests/violations/NAME.proof: a refutation of one of the demands, or of 2.9's theorem, by computation on a concrete list of
 calls. Under the edit, and without the proofs of theory, it must be proved. What the same lists come to without an edit is proved in
 crates/violations/proofs/Unedited.antt. The harmless edits of crates/model/must-fail/controls are held to what is expected of them, and
@@ -12,14 +13,14 @@ import re
 import shutil
 import sys
 import tempfile
-from concurrent.futures import ThreadPoolExecutor
+from concurrent.futures import ThreadPoolExecutor, as_completed
 from pathlib import Path
 
-from edits import ROOT, Edit, controls_of, first_fact, run, summary, unknown_message
+from edits import JOBS, ROOT, Checks, Edit, controls_of, first_fact, summary, unknown_message, wording
 
 VIOLATIONS = ROOT / "tests" / "violations"
 # what a violation states; without an edit it has no proof, since the demands and 2.9's theorem (LongClocks) are proved
-STATED = re.compile(r"^violated : (Demand(3|3Fresh|2Any|2Observer|2Fresh|2Ones|2Codec|2Long|2LongCodec)|LongClocks) → ⊥$", re.M)
+STATED = re.compile(r"^violated : (Demand(3|3Fresh|1Read|1Write|2Any|2Observer|2Fresh|2Ones|2Codec|2Long|2LongCodec)|LongClocks) → ⊥$", re.M)
 UNEDITED = "violations/proofs/Unedited.antt"
 # what is computed from the definitions of model, and may come to something else under a mutant
 SAMPLES = [f"model/proofs/{path.name}" for path in sorted((ROOT / "crates" / "model" / "proofs").glob("*.antt")) if path.stem not in ("Lib", "Computing")]
@@ -28,8 +29,8 @@ SAMPLES = [f"model/proofs/{path.name}" for path in sorted((ROOT / "crates" / "mo
 class Copy:
     """A copy of some crates, without some of their modules or folders, proved once; edits are tried in copies of it."""
 
-    def __init__(self, crates, without):
-        self.work, self.last = Path(tempfile.mkdtemp()), crates[-1]
+    def __init__(self, checks, crates, without):
+        self.checks, self.work, self.last = checks, Path(tempfile.mkdtemp()), crates[-1]
         for crate in crates:
             shutil.copytree(ROOT / "crates" / crate, self.work / "crates" / crate, ignore=shutil.ignore_patterns("must-fail"))
         listed = [line.split() for line in (ROOT / "crates.txt").read_text(encoding="utf-8").splitlines()]
@@ -41,7 +42,7 @@ class Copy:
             sys.exit(f"mutants: {self.last} is not proved without an edit")
 
     def check(self, work):
-        return run(["rt", "check", self.last], work)
+        return self.checks.run(["rt", "check", self.last], work)
 
     def under(self, crate, edit, module=None):
         """What the check says under an edit of a crate, with a module of tests beside it."""
@@ -105,15 +106,19 @@ def try_tests(copy, crate, edit, module):
 
 def main():
     model, theory = ROOT / "crates" / "model", ROOT / "crates" / "theory"
-    mutants = [Edit(path, model) for path in sorted((ROOT / "tests" / "mutants").glob("*.edit"))]
+    violations = {path.stem: path for path in VIOLATIONS.glob("*.proof") if path.stem != "Head"}
+    shared = [path for path in (model / "must-fail").glob("*.edit") if path.stem in violations]
+    mutants = [Edit(path, model) for path in sorted([*(ROOT / "tests" / "mutants").glob("*.edit"), *shared])]
     controls = controls_of(model)
     statements = [Edit(path, theory) for path in sorted((theory / "must-fail").glob("*.edit"))]
-    strange = [path.stem for path in VIOLATIONS.glob("*.proof") if path.stem != "Head" and not STATED.search(path.read_text(encoding="utf-8"))]
-    alone = {path.stem for path in VIOLATIONS.glob("*.proof")} - {"Head", *(edit.name for edit in mutants + statements)}
+    strange = [name for name, path in violations.items() if not STATED.search(path.read_text(encoding="utf-8"))]
+    alone = set(violations) - {edit.name for edit in mutants + statements}
     if strange or alone:
         sys.exit(f"mutants: violations that refute no demand: {strange}; without an edit: {sorted(alone)}")
-    with ThreadPoolExecutor(2) as pool:
-        theorems, tests = pool.map(lambda parts: Copy(*parts), (
+    checks = Checks()
+    wording(checks)
+    with ThreadPoolExecutor(JOBS) as pool:
+        theorems, tests = pool.map(lambda parts: Copy(checks, *parts), (
             (("laws", "model", "lemmas", "theory"), SAMPLES),
             (("laws", "model", "theory", "violations"), (*SAMPLES, "theory/proofs", UNEDITED)),
         ))
@@ -121,11 +126,7 @@ def main():
         answers += [pool.submit(try_tests, tests, "model", edit, "Unedited") for edit in controls]
         answers += [pool.submit(try_tests, tests, "model", edit, edit.name) for edit in mutants]
         answers += [pool.submit(try_tests, tests, "theory", edit, edit.name) for edit in statements]
-        try:
-            summary("mutants, controls and their tests", (answer.result() for answer in answers))
-        finally:
-            shutil.rmtree(theorems.work)
-            shutil.rmtree(tests.work)
+        summary("mutants, controls and their tests", (answer.result() for answer in as_completed(answers)))
 
 
 main()

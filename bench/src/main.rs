@@ -25,7 +25,7 @@ fn main() {
     }
     // The empty tick's shelves, as the ticks before left them.
     let polls = [workloads::polls(&shelves[0][0]), workloads::polls(&shelves[1][0])];
-    for case in polls.iter().flat_map(|workload| &workload.cases) {
+    for case in polls.iter().flatten().flat_map(|workload| &workload.cases) {
         let (answer, _) = agreement::agree(case);
         assert!(answer & 0xffff == 0x100, "a workload's poll is refused or finds nothing");
     }
@@ -45,14 +45,14 @@ fn main() {
     agreement::agree_on_random(RANDOM);
     println!("all agree on the workloads' calls and on {RANDOM} random ones\n");
     let mut rows: Vec<Row> = table.iter().map(Row::of).collect();
-    rows.push(Row::of(&polls[1]));
+    rows.extend(polls[1].iter().map(Row::of));
     rows.extend(observers.iter().map(Row::of));
     print_table(&rows);
     print_observers(&rows);
     print_engines(&rows, &engines);
     println!("\ngrowth              frames    proved    oracle      twin");
     shelves[0].iter().zip(&shelves[1]).for_each(|(half, full)| print_growth(half, full));
-    print_growth(&polls[0], &polls[1]);
+    polls[0].iter().zip(&polls[1]).for_each(|(half, full)| print_growth(half, full));
 }
 
 /// A workload's times.

@@ -98,16 +98,22 @@ pub fn on_shelf(full: bool) -> [Workload<TickCase>; 3] {
     ]
 }
 
-/// Polls after the ticks before these, of the shelves that they left, each for some ticks up to the last due clock that there can be.
-pub fn polls(ticks: &Workload<TickCase>) -> Workload<PollCase> {
-    let mut rng = Prng::new(4);
-    let poll = |case: &TickCase| PollCase {
-        setup: case.setup,
-        clock: Timestamp::of_state(&case.setup, &case.state).r,
-        within: rng.below(case.setup.delta + 2 * case.setup.epsilon) as u16,
-        holdback: case.holdback.clone(),
+/// Polls after the ticks before these, of the shelves that they left: for ε + δ ticks, and for the most that a poll can ask for, by
+/// which every frame is due.
+pub fn polls(ticks: &Workload<TickCase>) -> [Workload<PollCase>; 2] {
+    let polls_for = |name, within: fn(&Setup) -> u16| {
+        let poll = |case: &TickCase| PollCase {
+            setup: case.setup,
+            clock: Timestamp::of_state(&case.setup, &case.state).r,
+            within: within(&case.setup),
+            holdback: case.holdback.clone(),
+        };
+        Workload { name, cases: ticks.cases.iter().map(poll).collect() }
     };
-    Workload { name: "poll", cases: ticks.cases.iter().map(poll).collect() }
+    [
+        polls_for("poll, ε + δ", |setup| (setup.epsilon + setup.delta) as u16),
+        polls_for("poll, all", |_| u16::MAX),
+    ]
 }
 
 /// An observer's calls on the shelves of these ticks, with what they hear.

@@ -2,9 +2,8 @@
 //! and everybody hears each frame one to three ticks later. Its ticks step by one, or all clocks are nudged: then those of a round
 //! step by 2 to ε.
 
-use oracle::generate::engines::fresh_tables;
 use oracle::generate::{LongCase, Prng, TickCase};
-use oracle::long::holdback_len;
+use oracle::long::{fresh_tables, holdback_len};
 use oracle::timestamp::fresh;
 use oracle::{batch, ClockState, LongState, Setup};
 

@@ -35,6 +35,7 @@ const TICK_DELIVERED: Field = Field::new(32, 16);
 const READ_NODE: Field = Field::new(8, 8);
 const READ_PAYLOAD_AT: Field = Field::new(16, 16);
 const READ_PAYLOAD_LEN: Field = Field::new(32, 16);
+const READ_WIDE: Field = Field::new(48, 1);
 
 const WRITE_LEN: Field = Field::new(8, 16);
 
@@ -76,6 +77,17 @@ pub fn unpack_tick(word: u64) -> Answer {
 /// The reader's answer: the sender, and where the payload lies in the frame.
 pub fn pack_read(node: u64, payload_at: u64, payload_len: u64) -> u64 {
     READ_NODE.put(node) | READ_PAYLOAD_AT.put(payload_at) | READ_PAYLOAD_LEN.put(payload_len)
+}
+
+/// What the reader's answer has besides for a setup with both pairs (02, 2.10): whether the frame has
+/// more than 2ε counts.
+pub fn pack_wide(is_wide: bool) -> u64 {
+    READ_WIDE.put(is_wide.into())
+}
+
+/// Whether it has, from an accepted answer.
+pub fn unpack_wide(word: u64) -> bool {
+    READ_WIDE.get(word) == 1
 }
 
 /// The writer's answer: the frame's length.
@@ -131,11 +143,14 @@ pub fn pack_refusal(number: u8) -> u64 {
 }
 
 #[cfg(feature = "abi")]
+pub mod library_in;
+
+#[cfg(feature = "abi")]
 pub mod library {
     //! The calls themselves.
 
-    use crate::generate::{CompareCase, FreshCase, ListenCase, PollCase, ReadCase};
-    use crate::generate::{LongCase, LongReadCase, LongWriteCase};
+    use crate::generate::{CompareCase, FreshCase, FreshLastCase, ListenCase, PollCase, ReadCase};
+    use crate::generate::{LongCase, LongFreshCase, LongReadCase, LongWriteCase};
     use crate::generate::{TickCase, WordsCase, WriteCase};
     use crate::{ClockState, LastClock, LongState, Setup};
 
@@ -149,6 +164,15 @@ pub mod library {
             own: u32,
             clock: u32,
             state: *mut ClockState,
+        ) -> u64;
+
+        fn yarngravel_fresh_last(
+            n: u32,
+            epsilon: u32,
+            delta: u32,
+            modulus: u32,
+            clock: u32,
+            last: *mut LastClock,
         ) -> u64;
 
         fn yarngravel_tick(
@@ -255,6 +279,15 @@ pub mod library {
             delivery_len: usize,
         ) -> u64;
 
+        fn yarngravel_long_fresh(
+            n: u32,
+            epsilon: u32,
+            delta: u32,
+            own: u32,
+            clock: u64,
+            state: *mut LongState,
+        ) -> u64;
+
         fn yarngravel_long_tick(
             n: u32,
             epsilon: u32,
@@ -318,6 +351,14 @@ pub mod library {
         let clock = narrow(case.clock);
         // SAFETY: as in `tick`.
         unsafe { yarngravel_fresh(n, epsilon, delta, modulus, own, clock, &mut case.state) }
+    }
+
+    /// An observer's start.
+    pub fn fresh_last(case: &mut FreshLastCase) -> u64 {
+        let [n, epsilon, delta, modulus, _] = numbers(&case.setup);
+        let clock = narrow(case.clock);
+        // SAFETY: as in `tick`.
+        unsafe { yarngravel_fresh_last(n, epsilon, delta, modulus, clock, &mut case.last) }
     }
 
     /// The tick.
@@ -452,6 +493,13 @@ pub mod library {
                 case.delivery.len(),
             )
         }
+    }
+
+    /// An engine's start.
+    pub fn long_fresh(case: &mut LongFreshCase) -> u64 {
+        let [n, epsilon, delta, _, own] = numbers(&case.setup);
+        // SAFETY: as in `tick`.
+        unsafe { yarngravel_long_fresh(n, epsilon, delta, own, case.clock, &mut case.state) }
     }
 
     /// An engine's tick.

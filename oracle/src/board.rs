@@ -3,9 +3,10 @@
 
 use crate::fault::{planted, skew};
 use crate::holdback::{self, Entry, Holdback};
+use crate::limits::Part;
 use crate::setup::VERDICTS;
 use crate::timestamp::all_at_most;
-use crate::{ask, batch, Frame, Setup};
+use crate::{ask, batch, Frame, Limits, Setup};
 
 /// What a call may write for its board.
 #[derive(Debug)]
@@ -35,8 +36,8 @@ pub enum Verdict {
 }
 
 /// A board during an accepted call.
-pub struct Board<'a> {
-    setup: Setup,
+pub struct Board<'a, L: Limits> {
+    limits: L,
     /// The new clock v, modulo B.
     clock: i64,
     owner: Owner,
@@ -60,15 +61,15 @@ pub fn check<'a>(
     Ok(entries)
 }
 
-impl<'a> Board<'a> {
+impl<'a, L: Limits> Board<'a, L> {
     /// Opens the queue that the bytes hold, whose due clocks may not be below the least, relative
     /// to v.
-    pub fn open(setup: Setup, clock: i64, owner: Owner, least: i64, bytes: &'a [u8]) -> Self {
-        let found = Holdback::decode(&setup, clock, least, bytes);
+    pub fn open(limits: L, clock: i64, owner: Owner, least: i64, bytes: &'a [u8]) -> Self {
+        let found = Holdback::decode(&limits, clock, least, bytes);
         let repair = if found.is_some() { 0 } else { 2 };
         let mut holdback = found.unwrap_or_else(Holdback::empty);
-        let early = holdback.take_early(&setup);
-        Board { setup, clock, owner, repair, early, holdback }
+        let early = holdback.take_early(&limits);
+        Board { limits, clock, owner, repair, early, holdback }
     }
 
     /// Judges the frames of a batch in turn and writes their verdicts; a taken one is queued and
@@ -95,8 +96,8 @@ impl<'a> Board<'a> {
 
     /// Judges one frame, and queues it if it is taken.
     fn hear(&mut self, bytes: &'a [u8]) -> Verdict {
-        match judge(&self.setup, self.clock, self.owner, &self.holdback, bytes) {
-            Ok(entry) => Verdict::Taken(self.holdback.place(&self.setup, entry)),
+        match judge(&self.limits, self.clock, self.owner, &self.holdback, bytes) {
+            Ok(entry) => Verdict::Taken(self.holdback.place(self.limits.own(), entry)),
             Err(number) => Verdict::Refused(number),
         }
     }
@@ -104,12 +105,14 @@ impl<'a> Board<'a> {
     /// Writes what was due before v and what is due at v to the delivery, the rest back to the
     /// queue; how many are delivered.
     pub fn deliver(self, buffers: &mut Buffers) -> u16 {
-        let (due, rest) = self.holdback.split_due(&self.setup);
+        let (due, rest) = self.holdback.split_due(&self.limits);
         let early = &self.early[..];
         let delivered = if planted(16) { [due, early].concat() } else { [early, due].concat() };
         holdback::put(&delivered, buffers.delivery);
         let used = holdback::put(rest, buffers.holdback);
-        buffers.holdback[used + skew(9) as usize..].fill(0);
+        let grown = self.limits.pairs()[0].holdback_len().max(used);
+        let end = if planted(122) { grown } else { buffers.holdback.len() };
+        buffers.holdback[used + skew(9) as usize..end].fill(0);
         delivered.len() as u16
     }
 }
@@ -117,15 +120,18 @@ impl<'a> Board<'a> {
 /// Checks 10 to 16 of one frame, for an observer without 15. A frame that passes finds room: no due
 /// clock is before v here, so a node's r has δ + 3ε − 1 values at most.
 pub fn judge<'a>(
-    setup: &Setup,
+    limits: &impl Limits,
     v: i64,
     owner: Owner,
     holdback: &Holdback,
     bytes: &'a [u8],
 ) -> Result<Entry<'a>, u8> {
-    let entry = Entry::near(setup, v, Frame::parse(setup, bytes)?);
-    ask(-entry.ahead <= setup.delta + setup.epsilon + skew(3), 13)?;
-    ask(entry.sum < setup.epsilon, 14)?;
+    let (setup, oldest) = (limits.own(), limits.by(Part::Late));
+    let entry = Entry::near(limits, v, Frame::parse(limits, bytes)?);
+    ask(-entry.ahead <= oldest.delta + oldest.epsilon + skew(3), 13)?;
+    // 02, 2.10: "a frame heard that is due before v gets 13". In a plain call none is that passed so far.
+    ask(entry.due(limits) >= 0 || planted(97), 13)?;
+    ask(entry.sum < limits.by(Part::Early).epsilon, 14)?;
     if owner == Owner::Node || planted(31) {
         ask(has_possible_counts(setup, &entry), 15)?;
     }

@@ -66,7 +66,8 @@ fn accepted(
     let (setup, before) = (&call.setup, *state);
     let tables = long::of_state(setup, &before);
     let step = sound_step(setup, &tables, v);
-    let mut local = step.map_or_else(LocalTimestamp::blank, |k| LocalTimestamp::step(&tables, k));
+    let mut local =
+        step.map_or_else(LocalTimestamp::blank, |k| LocalTimestamp::step(setup, &tables, k));
     let given = buffers.holdback.to_vec();
     let found = decode(setup, v, holdback::least_due(step, [59, 60]), &given);
     let repair = u8::from(step.is_none()) + 2 * u8::from(found.is_none());
@@ -125,7 +126,7 @@ pub fn decode<'a>(setup: &Setup, v: i64, least: i64, bytes: &'a [u8]) -> Option<
 fn at<'a>(setup: &Setup, v: i64, frame: crate::Frame<'a>) -> Entry<'a> {
     let ahead = frame.timestamp.r.saturating_sub(v);
     let behind = planted(58) && ahead >= setup.epsilon;
-    Entry::at(if behind { -ahead - setup.delta } else { ahead }, frame)
+    Entry::at(setup, if behind { -ahead - setup.delta } else { ahead }, frame)
 }
 
 /// Is a frame of that node and r held?

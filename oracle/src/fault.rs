@@ -1,4 +1,4 @@
-//! Sixty-three small faults that can be planted in the oracle, to show that a comparison finds them.
+//! A hundred and twenty-four small faults that can be planted in the oracle, to show that a comparison finds them.
 //! Without the feature `plant` nothing of this is left in the code.
 //!
 //!  1. the writer alone refuses a buffer of exactly the frame's length
@@ -64,15 +64,78 @@
 //! 61. an engine's tables pass as sound after a step of ε + 1
 //! 62. an engine's writer refuses a buffer of exactly the frame's length
 //! 63. the byte after an engine's last held frame is not cleared
+//! 64. an engine's start at 2^63 is taken
+//! 65. the count of an engine's fresh tables stands one offset too low
+//! 66. an engine's start is asked for a B
+//! 67. an observer's start is taken at a clock of more than two bytes, of which it keeps two: 5 of 65,541
+//! 68. an observer's start is asked for an own number
+//! 69. an observer's start at B is taken
+//! 70. with both pairs r is read near v by the old pair, also past V
+//! 71. with both pairs r is read near v by the wider pair, also before V
+//! 72. the longest step is that of the old pair, also past V
+//! 73. the longest step is that of the wider pair, also before V
+//! 74. check 12 asks for c at most ε − 1 of the old pair, also past V
+//! 75. check 12 asks for c at most ε′ − 1, also before V
+//! 76. check 13 counts back from v by the old pair, also past V
+//! 77. check 13 counts back from v by the wider pair, also before V
+//! 78. check 14 has the old pair's limit, also past V
+//! 79. check 14 has the wider pair's limit, also before V
+//! 80. the queue's count limit is that of the old pair, also past V
+//! 81. the queue's count limit is that of the wider pair, also before V
+//! 82. unmarked, a V that reads as v is there, and not B ahead
+//! 83. the place of V is read as if there were no mark
+//! 84. a frame is due by the pair of the tick's clock
+//! 85. a frame is due by its width, which is its sender's side of V
+//! 86. a frame that would be due at V by the old pair is due there
+//! 87. the order compares as many counts as the tick's clock has
+//! 88. past V the order compares as many counts as the frame's width has
+//! 89. the order compares ε counts, also past V
+//! 90. the order compares ε′ counts, also of frames due before V
+//! 91. the order compares ε counts of frames due at V by the old pair
+//! 92. a count that a narrow frame lacks comes before 0 in the order
+//! 93. tables are read at the width of the tick's clock
+//! 94. tables whose r is V are read as narrow
+//! 95. narrow tables that become wide keep their counts in their places, and so at wrong offsets
+//! 96. a frame of the other width is counted in by places, and so at wrong offsets
+//! 97. check 13 is without its second half: a frame due before v is taken
+//! 98. past V wide frames alone are read
+//! 99. before V narrow frames alone are read
+//! 100. a node past V writes narrow frames
+//! 101. a node before V writes wide frames
+//! 102. shelf and buffers have the sizes of the mark's side
+//! 103. shelf and buffers have the old sizes
+//! 104. 19 is asked before 1
+//! 105. 19 is not asked of ε′
+//! 106. 19 is not asked of δ′
+//! 107. 19 where a pair is not larger than the old
+//! 108. a V of B passes 1
+//! 109. a mark above 1 passes 1
+//! 110. B is asked about for the old pair alone
+//! 111. the wider pair's limits are not asked about
+//! 112. an observer with both pairs is asked for an own number
+//! 113. the reader judges 12 by the mark's side
+//! 114. the writer judges 12 by the mark's side
+//! 115. the reader says wide where both pairs have one width
+//! 116. the writer writes the width of the mark's side
+//! 117. the words have the old pair's limits
+//! 118. the words have the wider pair's limits
+//! 119. fresh tables past V are narrow
+//! 120. the comparison judges 12 by the frames' width
+//! 121. frames behind the count of a queue are read too
+//! 122. the bytes by which a queue grew are not cleared
+//! 123. a queue with a narrow frame in it is emptied past V
+//! 124. narrow tables are replaced past V
 
 use std::ops::RangeInclusive;
 
 /// How many faults there are.
-pub const COUNT: u8 = 63;
+pub const COUNT: u8 = 124;
 /// Those that are in the program `yard` alone.
 pub const OF_YARD: RangeInclusive<u8> = 39..=47;
 /// Those that are in engines (02, 2.9) alone.
-pub const OF_ENGINES: RangeInclusive<u8> = 48..=63;
+pub const OF_ENGINES: RangeInclusive<u8> = 48..=66;
+/// Those that are in calls with both pairs (02, 2.10) alone.
+pub const OF_WIDER: RangeInclusive<u8> = 70..=124;
 
 #[cfg(feature = "plant")]
 mod switch {

@@ -1,8 +1,9 @@
 //! Frames: the reader and the writer.
 
-use crate::fault::skew;
+use crate::fault::{planted, skew};
+use crate::limits::Part;
 use crate::setup::MAX_PAYLOAD;
-use crate::{ask, section, ClockState, Setup, Timestamp};
+use crate::{ask, section, Both, ClockState, Limits, Pairs, Settings, Setup, Timestamp};
 
 /// A frame whose three counts are right.
 #[derive(Clone, Copy, Debug, PartialEq, Eq)]
@@ -19,13 +20,13 @@ pub struct Frame<'a> {
 
 impl<'a> Frame<'a> {
     /// The frame at the front of some bytes, ending where its counts say, and what follows.
-    pub fn split(setup: &Setup, bytes: &'a [u8]) -> Option<(Self, &'a [u8])> {
-        Self::split_by(setup, origin, bytes)
+    pub fn split(pairs: &impl Pairs, bytes: &'a [u8]) -> Option<(Self, &'a [u8])> {
+        Self::split_by(pairs, origin, bytes)
     }
 
     /// The same, with what reads the first section: the sender and r, if it has the right length.
     pub fn split_by(
-        setup: &Setup,
+        pairs: &impl Pairs,
         origin: fn(&[u8]) -> Option<(u8, i64)>,
         bytes: &'a [u8],
     ) -> Option<(Self, &'a [u8])> {
@@ -34,7 +35,7 @@ impl<'a> Frame<'a> {
         let (payload, rest) = section(rest)?;
         let (node, r) = origin(first)?;
         let (&c, kn) = clocks.split_first()?;
-        if kn.len() != setup.width() || payload.len() > MAX_PAYLOAD {
+        if !pairs.has_width(kn.len()) || payload.len() > MAX_PAYLOAD {
             return None;
         }
         let timestamp = Timestamp { r, c: c.into(), kn };
@@ -43,11 +44,17 @@ impl<'a> Frame<'a> {
         Some((Frame { node: node.into(), timestamp, payload, bytes }, rest))
     }
 
-    /// Checks 10 to 12 of bytes that should be one frame.
-    pub fn parse(setup: &Setup, bytes: &'a [u8]) -> Result<Self, u8> {
-        let (frame, rest) = Self::split(setup, bytes).ok_or(10)?;
+    /// Check 10 of bytes that should be one frame.
+    fn whole(pairs: &impl Pairs, bytes: &'a [u8]) -> Result<Self, u8> {
+        let (frame, rest) = Self::split(pairs, bytes).ok_or(10)?;
         ask(rest.is_empty(), 10)?;
-        check_origin(setup, frame.node, &frame.timestamp)?;
+        Ok(frame)
+    }
+
+    /// Checks 10 to 12 of bytes that should be one frame.
+    pub fn parse(limits: &impl Limits, bytes: &'a [u8]) -> Result<Self, u8> {
+        let frame = Self::whole(limits, bytes)?;
+        check_origin(limits.by(Part::C), frame.node, &frame.timestamp)?;
         Ok(frame)
     }
 }
@@ -60,16 +67,20 @@ fn origin(section: &[u8]) -> Option<(u8, i64)> {
     Some((node, u16::from_le_bytes([low, high]).into()))
 }
 
-/// Checks 11 and 12.
+/// Checks 11 and 12. How many counts the timestamp has does not matter: those that it lacks are 0.
 pub fn check_origin(setup: &Setup, node: i64, timestamp: &Timestamp) -> Result<(), u8> {
     ask(node < setup.n && timestamp.r < setup.modulus, 11)?;
     ask(timestamp.is_sound(setup), 12)
 }
 
-/// The reader alone: asks 1, 10, 11, 12.
-pub fn read<'a>(setup: &Setup, bytes: &'a [u8]) -> Result<Frame<'a>, u8> {
-    ask(setup.is_valid(), 1)?;
-    Frame::parse(setup, bytes)
+/// The reader alone: asks 1, 10, 11, and 12 by the frame's width.
+pub fn read<'a, S: Settings>(setup: &S, bytes: &'a [u8]) -> Result<Frame<'a>, u8> {
+    setup.check()?;
+    let frame = Frame::whole(setup, bytes)?;
+    let width = frame.timestamp.kn.len();
+    let judging = if planted(113) { setup.side() } else { setup.of_width(width) };
+    check_origin(&judging, frame.node, &frame.timestamp)?;
+    Ok(frame)
 }
 
 /// The writer alone: asks 1, 4, 11, 12, 6, and answers the frame's length.
@@ -81,9 +92,38 @@ pub fn write(
     out: &mut [u8],
 ) -> Result<usize, u8> {
     ask(setup.is_valid(), 1)?;
+    write_by(setup, setup, node, state, payload, out)
+}
+
+/// The writer of a setup with both pairs, which makes a wide frame or a narrow one, and judges 12 by
+/// that.
+pub fn write_in(
+    setup: &Both,
+    node: i64,
+    wide: bool,
+    state: &ClockState,
+    payload: &[u8],
+    out: &mut [u8],
+) -> Result<usize, u8> {
+    setup.check()?;
+    let wide = if planted(116) { setup.is_marked() } else { wide };
+    let pair = if wide { setup.wider() } else { setup.old };
+    let judging = if planted(114) { setup.side() } else { pair };
+    write_by(&pair, &judging, node, state, payload, out)
+}
+
+/// The writer behind 1, of a frame with the first's width, 12 by the second.
+fn write_by(
+    setup: &Setup,
+    judging: &Setup,
+    node: i64,
+    state: &ClockState,
+    payload: &[u8],
+    out: &mut [u8],
+) -> Result<usize, u8> {
     ask(payload.len() <= MAX_PAYLOAD, 4)?;
     let timestamp = Timestamp::of_state(setup, state);
-    check_origin(setup, node, &timestamp)?;
+    check_origin(judging, node, &timestamp)?;
     let length = 7 + setup.width() + payload.len();
     ask(out.len() >= length + skew(1) as usize, 6)?;
     Ok(put(node, &timestamp, payload, out))

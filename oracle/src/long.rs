@@ -4,7 +4,7 @@
 
 use crate::fault::{planted, skew};
 use crate::setup::MAX_PAYLOAD;
-use crate::timestamp::MAX_WIDTH;
+use crate::timestamp::{LocalTimestamp, MAX_WIDTH};
 use crate::{ask, frame, Frame, Setup, Timestamp};
 
 /// How many messages an engine may hold.
@@ -26,6 +26,21 @@ pub fn longest_frame(setup: &Setup) -> usize {
 /// The exact length of the hold-back queue's buffer.
 pub fn holdback_len(setup: &Setup) -> usize {
     2 + CAPACITY * longest_frame(setup)
+}
+
+/// An engine's start: asks 1 and 2; fresh tables at a clock.
+pub fn long_start(setup: &Setup, clock: u64) -> Result<LongState, u8> {
+    ask(is_valid(setup) && (!planted(66) || setup.is_in_limits()), 1)?;
+    let first_past = i64::MIN as u64 + skew(64) as u64;
+    ask(clock < first_past, 2)?;
+    Ok(fresh_tables(setup, clock))
+}
+
+/// Fresh tables of an engine at a clock.
+pub fn fresh_tables(setup: &Setup, clock: u64) -> LongState {
+    let mut local = LocalTimestamp::blank();
+    local.count_event(&Setup { epsilon: setup.epsilon - skew(65), ..*setup });
+    to_state(&local.timestamp(setup, clock as i64))
 }
 
 /// The timestamp that the bytes of an engine hold.

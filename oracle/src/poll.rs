@@ -2,7 +2,7 @@
 
 use crate::fault::{planted, skew};
 use crate::holdback::{self, Holdback};
-use crate::{ask, Setup};
+use crate::{Limits, Settings};
 
 /// What a poll answers.
 #[derive(Clone, Copy, Debug, Default, PartialEq, Eq)]
@@ -15,16 +15,17 @@ pub struct Outlook {
 
 /// The poll after a tick at this clock: asks 1, 2, 3. The queue is judged for that clock, with every
 /// due clock past it; an unsound one answers as an empty one. All its frames are looked at.
-pub fn poll(setup: &Setup, clock: i64, within: u16, bytes: &[u8]) -> Result<Outlook, u8> {
-    ask(setup.is_valid(), 1)?;
-    holdback::check(setup, clock, bytes)?;
-    let dues: Vec<i64> = match Holdback::decode(setup, clock, 1 - skew(24), bytes) {
-        Some(queue) => queue.entries().iter().map(|entry| entry.due(setup)).collect(),
-        None if planted(26) => holdback::dues(setup, clock, bytes).collect(),
+pub fn poll<S: Settings>(setup: &S, clock: i64, within: u16, bytes: &[u8]) -> Result<Outlook, u8> {
+    setup.check()?;
+    holdback::check(&setup.widest(), clock, bytes)?;
+    let limits = setup.at(clock);
+    let dues: Vec<i64> = match Holdback::decode(&limits, clock, 1 - skew(24), bytes) {
+        Some(queue) => queue.entries().iter().map(|entry| entry.due(&limits)).collect(),
+        None if planted(26) => holdback::dues(&limits, clock, bytes).collect(),
         None => Vec::new(),
     };
     let soonest = if planted(30) { dues.last() } else { dues.iter().min() };
-    let next = soonest.map(|due| setup.reduced(clock + due, 27));
+    let next = soonest.map(|due| limits.own().reduced(clock + due, 27));
     Ok(Outlook { next, within: count_within(&dues, within) })
 }
 

@@ -2,7 +2,7 @@
 
 use crate::fault::{planted, skew};
 use crate::holdback::Entry;
-use crate::{ask, Frame, Setup};
+use crate::{ask, read, Frame, Limits, Settings, Setup};
 use std::cmp::Ordering;
 use std::fmt;
 
@@ -53,11 +53,11 @@ impl fmt::Display for Reason {
 }
 
 /// The order of two entries near v, and what decided it.
-pub fn decide(setup: &Setup, v: i64, first: &Entry, second: &Entry) -> (Ordering, Reason) {
+pub fn decide(limits: &impl Limits, v: i64, first: &Entry, second: &Entry) -> (Ordering, Reason) {
     let (node, r) = if planted(21) { (Reason::R, Reason::Node) } else { (Reason::Node, Reason::R) };
     let counts = |entry: &Entry, k: i64| entry.frame.timestamp.count(entry.frame.timestamp.c - k);
-    let compared = (0..setup.epsilon)
-        .map(|k| (counts(first, k).cmp(&counts(second, k)), count_at(setup, v + first.sum - k)));
+    let clock = |k: i64| count_at(limits.own(), v + first.sum - k);
+    let compared = (0..first.depth).map(|k| (counts(first, k).cmp(&counts(second, k)), clock(k)));
     std::iter::once((first.sum.cmp(&second.sum), Reason::Sum))
         .chain(compared)
         .chain([
@@ -77,16 +77,20 @@ fn count_at(setup: &Setup, clock: i64) -> Reason {
 }
 
 /// The comparison alone: asks 1, 2, then 10 to 12 of the first frame and of the second.
-pub fn compare(
-    setup: &Setup,
+pub fn compare<S: Settings>(
+    setup: &S,
     clock: i64,
     first: &[u8],
     second: &[u8],
 ) -> Result<(Ordering, Reason), u8> {
-    ask(setup.is_valid(), 1)?;
-    ask(clock < setup.modulus, 2)?;
-    let near = |frame| Entry::near(setup, clock, frame);
-    let first = near(Frame::parse(setup, first)?);
-    let second = near(Frame::parse(setup, second)?);
-    Ok(decide(setup, clock, &first, &second))
+    setup.check()?;
+    ask(clock < setup.widest().modulus, 2)?;
+    let limits = &setup.at(clock);
+    let near = |frame| Entry::near(limits, clock, frame);
+    let parse = |bytes| match planted(120) {
+        true => read(setup, bytes),
+        false => Frame::parse(limits, bytes),
+    };
+    let (first, second) = (near(parse(first)?), near(parse(second)?));
+    Ok(decide(limits, clock, &first, &second))
 }

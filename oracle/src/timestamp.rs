@@ -1,7 +1,7 @@
 //! Timestamps (01's stamps) and the local one of a node (01's tables).
 
 use crate::fault::{planted, skew};
-use crate::{ask, Setup};
+use crate::{ask, Limits, Settings, Setup};
 
 /// The most counts a timestamp can have.
 pub const MAX_WIDTH: usize = 32;
@@ -53,10 +53,13 @@ impl<'a> Timestamp<'a> {
         &self.kn[place as usize..]
     }
 
-    /// The counts that the order compares, from offset c − ε + 1 up to c.
-    pub fn recent(&self) -> &'a [u8] {
-        let (epsilon, c) = (self.kn.len() / 2, self.c as usize);
-        &self.kn[c + 1 + skew(5) as usize..=c + epsilon]
+    /// The counts that the order compares: so many, from offset c down; missing ones are 0.
+    pub fn recent(&self, depth: i64) -> impl Iterator<Item = u8> + 'a {
+        let depth = (depth - skew(5)) as usize;
+        let end = self.kn.len() / 2 + self.c as usize + 1;
+        let there = &self.kn[end.saturating_sub(depth)..end];
+        let missing = if planted(92) { there.len() } else { depth };
+        there.iter().rev().copied().chain(std::iter::repeat(0)).take(missing)
     }
 
     /// Is the stamp sound?
@@ -85,10 +88,13 @@ pub fn all_at_most(kn: &[u8], limit: i64) -> bool {
 }
 
 /// A node's start: asks 1 and 2; fresh tables at a clock.
-pub fn start(setup: &Setup, clock: i64) -> Result<ClockState, u8> {
-    ask(setup.is_valid(), 1)?;
-    ask(clock < setup.modulus, 2)?;
-    Ok(fresh(setup, clock))
+pub fn start<S: Settings>(setup: &S, clock: i64) -> Result<ClockState, u8> {
+    setup.check()?;
+    ask(clock < setup.widest().modulus, 2)?;
+    match planted(119) {
+        true => Ok(fresh(&setup.pairs()[0], clock)),
+        false => Ok(fresh(setup.at(clock).own(), clock)),
+    }
 }
 
 /// Fresh tables at a clock.
@@ -96,6 +102,11 @@ pub fn fresh(setup: &Setup, r: i64) -> ClockState {
     let mut local = LocalTimestamp::blank();
     local.count_event(setup);
     local.to_state(setup, r)
+}
+
+/// How far off counts of another width are if they are taken by their places; only with this fault.
+fn misplaced(setup: &Setup, other: &Timestamp, fault: u8) -> i64 {
+    skew(fault) * (setup.epsilon - other.kn.len() as i64 / 2)
 }
 
 /// The tables during a tick: r is already v.
@@ -110,12 +121,15 @@ impl LocalTimestamp {
         LocalTimestamp { c: 0, kn: [0; MAX_WIDTH] }
     }
 
-    /// Sound tables moved to a new clock: c drops by the step, counts move down by it.
-    pub fn step(before: &Timestamp, step: i64) -> Self {
+    /// Sound tables moved to a new clock: c drops by the step, counts move down by it. The tables
+    /// may be narrower than what is made of them (02, 2.10); counts that they lack are 0.
+    pub fn step(setup: &Setup, before: &Timestamp, step: i64) -> Self {
         let mut local = Self::blank();
         local.c = if planted(7) { before.c } else { (before.c - step).max(0) };
-        let offsets = if planted(13) { 1 } else { step as usize };
-        local.kn[..before.kn.len() - offsets].copy_from_slice(&before.kn[offsets..]);
+        let offsets = if planted(13) { 1 } else { step };
+        for (own, offset) in local.kn.iter_mut().zip(-setup.epsilon..setup.epsilon) {
+            *own = before.count(offset + offsets + misplaced(setup, before, 95));
+        }
         local
     }
 
@@ -123,7 +137,8 @@ impl LocalTimestamp {
     pub fn absorb(&mut self, setup: &Setup, ahead: i64, other: &Timestamp) {
         self.c = self.c.max(ahead + other.c);
         for (own, offset) in self.kn.iter_mut().zip(-setup.epsilon..setup.epsilon) {
-            *own = (*own).max(other.count(offset - ahead - skew(8)));
+            let offset = offset - ahead - skew(8);
+            *own = (*own).max(other.count(offset + misplaced(setup, other, 96)));
         }
     }
 

@@ -1,15 +1,25 @@
 //! 02's 2.1: a line of words beside each verdict.
 
 use crate::fault::{planted, skew};
-use crate::{ask, batch, Setup};
+use crate::{ask, batch, Settings, Setup};
 
 /// The most bytes that a line has.
 pub const LINE: usize = 29;
 
 /// Writes a line for each frame of a batch into the text; how long the lines are, or the number
 /// of the question that got a no, with nothing written.
-pub fn words(setup: &Setup, batch: &[u8], verdicts: &[u8], text: &mut [u8]) -> Result<usize, u8> {
-    ask(setup.is_valid(), 1)?;
+pub fn words<S: Settings>(
+    setup: &S,
+    batch: &[u8],
+    verdicts: &[u8],
+    text: &mut [u8],
+) -> Result<usize, u8> {
+    setup.check()?;
+    let setup = &match () {
+        () if planted(117) => setup.pairs()[0],
+        () if planted(118) => setup.pairs()[1],
+        () => setup.side(),
+    };
     let entries = batch::entries(batch).ok_or(5)?;
     ask(verdicts.len() >= entries.len(), 6)?;
     ask(text.len() >= LINE * entries.len(), 6)?;

@@ -1,4 +1,4 @@
-//! The twin's poll (02, 2.5). It walks over the queue as the tick does, and keeps no starts.
+//! The twin's poll (02, 2.5). It walks over the queue as the tick does, keeps no starts, and then counts from the front.
 
 use super::frame::part;
 use super::queue::Origins;
@@ -20,21 +20,33 @@ pub fn poll(call: &Poll) -> u64 {
         return number.into();
     }
     let group = Group::of(call.setup, call.clock);
-    match group.count_to(call.holdback, call.within.into()) {
-        Some(count) if call.holdback[..2] != [0, 0] => {
-            1 << 8 | group.front_due(call.holdback) << 16 | count << 32
+    let mut origins = Origins::NONE;
+    if !group.walk_over(call.holdback, &mut origins, |_, _| ()) {
+        return 0;
+    }
+    match u16::from_le_bytes(*part(call.holdback, 0)) {
+        0 => 0,
+        count => {
+            let number = group.count_within(call.holdback, count.into(), call.within.into());
+            1 << 8 | group.front_due(call.holdback) << 16 | number << 32
         }
-        _ => 0,
     }
 }
 
 impl Group {
-    /// How many frames have a smaller sum than the bound; none if the queue is unsound.
-    fn count_to(&self, buf: &[u8], bound: usize) -> Option<u64> {
-        let (mut origins, mut within) = (Origins::NONE, 0);
-        let count = |sum, _| within += u64::from(sum < bound);
-        let sound = self.walk_over(buf, &mut origins, count);
-        sound.then_some(within)
+    /// How many frames of a sound queue are due at most so many ticks after v: from the front, up to the first one past that.
+    fn count_within(&self, buf: &[u8], count: u64, within: usize) -> u64 {
+        let (mut number, mut at) = (0, 2);
+        while number < count {
+            let w = part(buf, at);
+            // The sum of a frame that is due one tick after v is 0.
+            if self.sum(w, self.reading(w)) >= within {
+                break;
+            }
+            at += self.frame_len(w);
+            number += 1;
+        }
+        number
     }
 
     /// The due clock of the front frame, modulo B.

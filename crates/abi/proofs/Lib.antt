@@ -1,4 +1,7 @@
--- `Words` has the laws of tables in bytes and of answers in one number, `LongWords` those of an engine's, `Fresh` those of the tables with which a station starts.
+-- `Words` has the laws of tables in bytes and of answers in one number, `LongWords` those of an engine's, `Fresh` those of a start.
+-- `Refusals` says that a refused call changes no byte, `Narrowing` that an engine's tables come to the station's bytes.
 mod Words
 mod LongWords
 mod Fresh
+pub mod Refusals
+pub mod Narrowing

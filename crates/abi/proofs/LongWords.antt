@@ -60,7 +60,7 @@ unfolding longTick longAcceptance refusal
 tick-number i zero q = rw q
 tick-number i (suc k) q = rw q
 
-tick-refused : (i : Input) (k : ℕ) → firstNo (longCallQuestions i) ≡ suc k → longTick i ≡ refusal i (suc k)
+pub tick-refused : (i : Input) (k : ℕ) → firstNo (longCallQuestions i) ≡ suc k → longTick i ≡ refusal i (suc k)
 unfolding longTick
 tick-refused i k q = rw q
 

@@ -1,3 +1,6 @@
--- `Packing` says how numbers and tables stand in bytes and bits at the boundary to C, `Fresh` with which tables a station starts.
+-- `Packing` says how numbers and tables stand in bytes and bits at the boundary to C, `Fresh` with what a station, an observer and an engine start,
+-- `Refusals` what a refused call gives back, `Narrowing` which bytes of an engine's tables are the station's.
 pub mod Packing
 pub mod Fresh
+pub mod Refusals
+pub mod Narrowing

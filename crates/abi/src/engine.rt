@@ -6,9 +6,13 @@ use crate::packing::pack_reading;
 use crate::packing::pack_written;
 use crate::packing::put_long_tables;
 use long::tick;
+use longframe::BOUND;
+use longframe::valid_for;
 use setup::Setup;
+use timestamp::Timestamp;
 ghost use mathlib.Core.Path.{_≡_};
 ghost use Rattle.model.specs.Long.{longTick, longRead, longWrite};
+ghost use Rattle.abi.specs.Fresh.{longFreshNumber, longFreshBytes};
 ghost use Rattle.abi.specs.Packing.{longSetupBy, longInputBy, longTablesIn, returned, longPacked, longReadWord, longReadTables, writeWord};
 
 // One tick of an engine. The answer is as of `yarngravel_tick`. A refusal is the number alone, and changes nothing.
@@ -117,4 +121,36 @@ pub extern "C" fn yarngravel_long_write(
     let stamp = long_tables_of(tables);
     let written = longframe::write(setup, own, station as usize, stamp, payload, out);
     pack_written(written.number, written.size)
+}
+
+// The tables of an engine that starts fresh at a clock: the tick after it is for a clock 1 to epsilon later. Answers 0, or the number of
+// the check that fails, 1 or 2, and then changes nothing.
+#[no_mangle]
+pub extern "C" fn yarngravel_long_fresh(
+    n: u32,
+    epsilon: u32,
+    delta: u32,
+    own: u32,
+    clock: u64,
+    tables: &mut [u8; 41],
+) -> u64
+    ensures { λ r. ⌜ r ≡ longFreshNumber (longSetupBy n epsilon delta) own clock ⌝ }
+    ensures { λ _. ⌜ now (tables .exit) ≡ longFreshBytes (longSetupBy n epsilon delta) own clock (now (tables .entry)) ⌝ }
+{
+    let setup = Setup {
+        n,
+        epsilon,
+        delta,
+        modulus: 0,
+    };
+    if !valid_for(setup, own) {
+        return 1;
+    }
+    let v = clock as usize;
+    if BOUND <= v {
+        return 2;
+    }
+    let stamp = Timestamp::fresh(epsilon as usize, v);
+    put_long_tables(tables, stamp);
+    0
 }

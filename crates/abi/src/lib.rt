@@ -1,6 +1,6 @@
-// The boundary to C: the tick, the reader, the writer, the words, the comparison, the poll and an observer's call over numbers and byte slices. A slice is a
-// pointer and a length; the tables are a pointer to 35 bytes (r low, r high, c, 32 counts); the answer is one number. Any arguments get
-// an answer.
+// The boundary to C: the tick, the reader, the writer, the words, the comparison, the poll, an observer's call and what station and observer start
+// with, over numbers and byte slices. A slice is a pointer and a length; the tables are a pointer to 35 bytes (r low, r high, c, 32 counts); the answer
+// is one number. Any arguments get an answer.
 mod engine;
 mod packing;
 
@@ -16,6 +16,7 @@ use packing::pack_written;
 use packing::put_tables;
 use packing::tables_of;
 use setup::Setup;
+use setup::in_limits;
 use setup::valid_for;
 use timestamp::Timestamp;
 use words::write_words;
@@ -26,7 +27,7 @@ ghost use Rattle.model.specs.Comparison.{compareCall};
 ghost use Rattle.model.specs.Poll.{poll};
 ghost use Rattle.model.specs.Observer as observers;
 ghost use Rattle.words.specs.Words.{words};
-ghost use Rattle.abi.specs.Fresh.{freshNumber, freshBytes, version};
+ghost use Rattle.abi.specs.Fresh.{freshNumber, freshBytes, freshLastNumber, freshLastBytes, version};
 ghost use Rattle.abi.specs.Packing.{setupBy, inputBy, tablesIn, returned, packed, readWord, readTables, writeWord, wordsWord, compareWord, pollWord, listeningBy, returnedListening, packedListening};
 
 // One tick. The number in bits 0 to 7, 01's mend in 8 to 15, frames taken in 16 to 23, the outgoing length in 24 to 31,
@@ -286,10 +287,40 @@ pub extern "C" fn yarngravel_fresh(
     0
 }
 
+// 02, 2.6: the last clock of an observer that starts at a clock, in two bytes, the low one first: its first call is for a clock 1 to epsilon
+// later. Answers 0, or the number of the check that fails, 1 or 2, and then changes nothing.
+#[no_mangle]
+pub extern "C" fn yarngravel_fresh_last(
+    n: u32,
+    epsilon: u32,
+    delta: u32,
+    modulus: u32,
+    clock: u32,
+    last: &mut [u8; 2],
+) -> u64
+    ensures { λ r. ⌜ r ≡ freshLastNumber (setupBy n epsilon delta modulus) clock ⌝ }
+    ensures { λ _. ⌜ now (last .exit) ≡ freshLastBytes (setupBy n epsilon delta modulus) clock (now (last .entry)) ⌝ }
+{
+    let setup = Setup {
+        n,
+        epsilon,
+        delta,
+        modulus,
+    };
+    if !in_limits(setup) {
+        return 1;
+    }
+    if setup.modulus <= clock {
+        return 2;
+    }
+    splice::put_u16(last, 0, clock as usize);
+    0
+}
+
 // The version of the library: major, minor and patch in a byte each, the patch lowest.
 #[no_mangle]
 pub extern "C" fn yarngravel_version() -> u32
     ensures { λ r. ⌜ r ≡ version ⌝ }
 {
-    0x020900
+    0x020901
 }

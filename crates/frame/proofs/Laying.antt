@@ -8,7 +8,7 @@ use lib.ListN.{length, take, drop, getD, set, length-append, length-drop, drop-o
 use lib.Seq.{length-take-le, take-all, take-add, drop-drop}
 use borrow.Rule.Slice.PartMut.{putMid, midOf}
 use Rattle.laws.specs.Lists.{overlay, tab}
-use Rattle.laws.proofs.Lists.{length-tab, tab-take}
+use Rattle.laws.proofs.Lists.{length-tab, tab-take, take-overlay}
 use Rattle.model.specs.Setup.{width}
 use Rattle.model.specs.Timestamp.{Timestamp, trimmed}
 use Rattle.model.specs.Frame.{section, twoBytes, laterSections, encode}
@@ -104,3 +104,21 @@ pub frame-laid : (l : List ℕ) (epsilon station : ℕ) (t : Timestamp) (payload
 unfolding encode frameOf trimmed section twoBytes
 frame-laid l epsilon station t payload l1 l2 e1 e2 =
     behind-laid l (section (station ∷ twoBytes (t .r))) (laterSections (frameOf epsilon 0 t payload)) l1 l2 4 refl e1 e2
+
+-- what stands at the front of bytes of its own, laid down whole at the front of others: it is all there, fits them, and stands there
+pub record Whole (l s own : List ℕ) (size : ℕ) : Type 0 where
+  pub there : size ≤ length own
+  pub taken : size ≡ length (take size own)
+  pub fits : 0 + length (take size own) ≤ length l
+  pub laid : pasted l 0 (take size own) ≡ overlay s l
+
+pub whole : (l s own₀ own : List ℕ) (size : ℕ) → size ≡ length s → own ≡ overlay s own₀ → length s ≤ length own → length s ≤ length l → Whole l s own size
+whole l s own₀ own size a e h k =
+    let there : size ≤ length own = omega arith in
+    let taken : length (take size own) ≡ size = length-take-le size own there in
+    record {
+      there = there;
+      taken = sym taken;
+      fits = omega arith;
+      laid = ap (λ (x : List ℕ). pasted l 0 x) (ap₂ (λ (n : ℕ) (x : List ℕ). take n x) a e ∙ take-overlay s own₀) ∙ front s l;
+    }

@@ -29,13 +29,13 @@ pub record LaterLaid (end : ℕ) (left : List ℕ) (f : Frame) (buffer : List �
   pub long : end ≡ 4 + length (laterSections f)
   pub bytes : left ≡ pasted buffer 4 (laterSections f)
 
--- of a frame: each number fits its bytes, and the frame fits the buffer
+-- of a frame: each number fits its bytes, the payload has at most 32, and the frame fits the buffer
 pub record Room (epsilon station : ℕ) (t : Timestamp) (payload buffer : List ℕ) : Type 0 where
   pub narrow : epsilon ≤ 16
   pub station-fits : station < 256
   pub r-fits : t .r < 65536
   pub c-fits : t .c < 256
-  pub payload-fits : length payload < 256
+  pub payload-fits : length payload ≤ 32
   pub room : 7 + 2 * epsilon + length payload ≤ length buffer
 
 -- the frame's bytes stand at the front of the buffer, and the rest of it is as it was

@@ -26,6 +26,9 @@ ghost use Rattle.timestamp.specs.Views.{stampOf};
 ghost use Rattle.frame.specs.Lay.{Room, Laid, LaterRoom, LaterLaid, contentsQuestions};
 ghost use Rattle.frame.specs.Answers.{writeAnswer};
 
+// 01: "A frame being built has 71 bytes of its own": the longest, 39 + 2ε at ε 16, fits in them.
+const OWN_BYTES: usize = 71;
+
 // 01: the first section, "3 (station, r in two bytes)", laid down at the front.
 fn put_node(out: &mut [u8], station: usize, r: usize)
     requires { ⌜ (4 ≤ length (now out)) × ((station < 256) × (r < 65536)) ⌝ }
@@ -68,7 +71,17 @@ pub fn lay_later(epsilon: usize, stamp: Timestamp, payload: &[u8], out: &mut [u8
     at + 1 + payload.len()
 }
 
-// The writer with no questions asked, for callers that have answered them: lays the frame down and says how long it is.
+// The three sections, one behind the other: says how long the frame is.
+fn build(epsilon: usize, station: usize, stamp: Timestamp, payload: &[u8], out: &mut [u8]) -> usize
+    requires { ⌜ Room epsilon station (stampOf stamp) (now payload) (now out) ⌝ }
+    ensures { λ r. ⌜ Laid r (now (out .exit)) (frameOf epsilon station (stampOf stamp) (now (payload .entry))) (now (out .entry)) ⌝ }
+{
+    put_node(out, station, stamp.r);
+    lay_later(epsilon, stamp, payload, out)
+}
+
+// The writer with no questions asked, for callers that have answered them: builds the frame in bytes of its own, lays it down whole and says
+// how long it is.
 pub fn lay(
     epsilon: usize,
     station: usize,
@@ -79,8 +92,10 @@ pub fn lay(
     requires { ⌜ Room epsilon station (stampOf stamp) (now payload) (now out) ⌝ }
     ensures { λ r. ⌜ Laid r (now (out .exit)) (frameOf epsilon station (stampOf stamp) (now (payload .entry))) (now (out .entry)) ⌝ }
 {
-    put_node(out, station, stamp.r);
-    lay_later(epsilon, stamp, payload, out)
+    let mut built = [0u8; OWN_BYTES];
+    let size = build(epsilon, station, stamp, payload, &mut built);
+    splice::copy_into(out, 0, &built[..size]);
+    size
 }
 
 // What the writer answers.

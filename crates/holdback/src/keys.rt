@@ -1,6 +1,5 @@
-// What decides the order of two frames of a queue, as numbers that are compared without a branch: how far two frames are alike cannot be
-// foreseen. The order is that of 01's comparison.
-use crate::compare::older_counts;
+// By what the walk over a queue checks its order: numbers that are compared without a branch, since how far two frames are alike cannot be
+// foreseen. The order is that of 01's comparison, which decides where a place is searched.
 use crate::origins::slot;
 use setup::Setup;
 use timestamp::Rank;
@@ -12,6 +11,7 @@ ghost use lib.ListN.{length};
 ghost use Rattle.model.specs.Setup.{inLimits};
 ghost use Rattle.model.specs.Frame.{countsOf, payloadCountAt};
 ghost use Rattle.setup.specs.Views.{setupOf};
+ghost use Rattle.frame.specs.Newest.{newestFrom};
 ghost use Rattle.holdback.specs.Keys.{keyAt, noKey, keyLess, Roomy};
 ghost use Rattle.holdback.specs.Seen.{Within};
 
@@ -35,6 +35,18 @@ pub fn no_key() -> Key
         older: 0,
         slot: 0,
     }
+}
+
+// The ε counts behind the eight newest, as one number: 0 where there are none.
+fn older_counts(epsilon: usize, c: usize, frame: &[u8]) -> u64
+    requires { ⌜ (epsilon ≤ 16) × (payloadCountAt epsilon ≤ length (now frame)) ⌝ }
+    requires { ⌜ c < epsilon ⌝ }
+    ensures { λ r. ⌜ r ≡ newestFrom epsilon c 8 (countsOf epsilon (now (frame .entry))) ⌝ }
+{
+    if epsilon <= 8 {
+        return 0;
+    }
+    frame::newest_counts(epsilon, c, 8, frame)
 }
 
 // The key of the frame at the front of some bytes, by its rank.

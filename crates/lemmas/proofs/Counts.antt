@@ -13,10 +13,11 @@ use lib.Seq.{getD-drop, getD-set-same, getD-set-other}
 use borrow.Author.Tests.{le-leb, lt-leb, leb-true, lt-ltb, ltb-true}
 use Rattle.laws.specs.Lists.{within, tab, placedAt, padded}
 use Rattle.laws.proofs.Numbers.{lt-or-ge, eq-or-ne, and-intro, and-left, and-right}
-use Rattle.laws.proofs.Lists.{length-tab, getD-tab, getD-tab-out, tab-getD, tab-ext, every-index, every-of-index, getD-zeros, getD-append-zeros, getD-padded, length-padded}
+use Rattle.laws.proofs.Lists.{length-tab, getD-tab, getD-tab-out, tab-getD, tab-ext, every-index, every-of-index, getD-zeros, getD-append-zeros, getD-padded}
 use Rattle.model.specs.Setup.{width, widest}
 use Rattle.model.specs.Timestamp.{Timestamp, countAt, countsFrom, sum, atMost, soundTimestamp, clockStep, soundTables, shift, step, replaced, absorb, countOwn, trimmed, widened, fresh, soundClock, soundBeside}
 use Rattle.model.specs.Order.{countsDown}
+use Rattle.model.specs.Wider.{absorbWide, stepInto}
 use Rattle.lemmas.proofs.Bounds.{Sound, Opened}
 
 -- counts outside the window read 0
@@ -212,13 +213,6 @@ trimmed-widened epsilon t h w =
     ∙ tab-getD (width epsilon) (t .kn) 0 w in
     λ i. record { r = t .r; c = t .c; kn = e i }
 
--- a timestamp whose places past the 2ε counts are 0 has all its places
-pub narrow-long : (epsilon : ℕ) (t : Timestamp) → epsilon ≤ 16 → t ≡ widened (trimmed epsilon t) → length (t .kn) ≡ 32
-unfolding widened width
-narrow-long epsilon t small narrow =
-    ap (λ (u : Timestamp). length (u .kn)) narrow
-    ∙ length-padded 32 (trimmed epsilon t .kn) (omega (arith, trimmed-wide epsilon t))
-
 pub trimmed-same : (epsilon : ℕ) (t : Timestamp) → length (t .kn) ≡ width epsilon → trimmed epsilon t ≡ t
 unfolding trimmed
 trimmed-same epsilon t w = ap (λ (l : List ℕ). record { r = t .r; c = t .c; kn = l }) (tab-getD (width epsilon) (t .kn) 0 w)
@@ -249,7 +243,7 @@ shift-at k kn i =
     count-zero (drop k kn ++ replicate k 0) i
     ∙ (getD-append-zeros (drop k kn) k i ∙ (getD-drop k kn i 0 ∙ sym (count-zero kn (k + i))))
 
-length-shift : (k : ℕ) (kn : List ℕ) → k ≤ length kn → length (shift k kn) ≡ length kn
+pub length-shift : (k : ℕ) (kn : List ℕ) → k ≤ length kn → length (shift k kn) ≡ length kn
 unfolding shift
 length-shift k kn h =
     omega (arith, length-append (drop k kn) (replicate k 0), length-drop k kn, length-replicate {A = ℕ} k 0)
@@ -283,6 +277,41 @@ opened-step n epsilon k v t n-pos pos most left =
       above = λ i h. shift-at k (t .kn) i ∙ s .above (k + i) (omega arith);
     }
 
+-- the same into another half width, of tables that have fewer counts or as many (02, 2.10): what is missing is 0
+pub into-at :
+    (epsilon half k v : ℕ) (t : Timestamp) (i : ℕ) → length (t .kn) ≡ width half → half ≤ epsilon
+    → placedAt 0 (stepInto epsilon half k v t .kn) i ≡ placedAt epsilon (t .kn) (k + i + half)
+unfolding stepInto countAt width
+into-at epsilon half k v t i wide more =
+    count-zero (tab (width epsilon) (λ j. placedAt epsilon (t .kn) (k + j + half))) i
+    ∙ elim (lt-or-ge i (width epsilon)) [
+      | inl h ↦ getD-tab (width epsilon) (λ j. placedAt epsilon (t .kn) (k + j + half)) i 0 h
+      | inr h ↦
+          getD-tab-out (width epsilon) (λ j. placedAt epsilon (t .kn) (k + j + half)) i 0 h
+          ∙ sym (count-past epsilon (t .kn) (k + i + half) (omega arith))
+    ]
+
+pub opened-into : (n epsilon half k v : ℕ) (t : Timestamp) → 1 ≤ n → 1 ≤ k → half ≤ epsilon → Left n half t → Opened n epsilon (stepInto epsilon half k v t)
+unfolding stepInto countAt
+opened-into n epsilon half k v t n-pos pos more left =
+    let s : Sound n half t = left .sound in
+    let at : (i : ℕ) → placedAt 0 (stepInto epsilon half k v t .kn) i ≡ placedAt epsilon (t .kn) (k + i + half) = λ i. into-at epsilon half k v t i (s .wide) more in
+    record {
+      wide = length-tab (width epsilon) (λ j. placedAt epsilon (t .kn) (k + j + half));
+      close = omega (arith, s .close);
+      most = λ i. rw (at i) (sound-most n half epsilon t s (k + i + half));
+      room = λ i h.
+          rw (at i, count-index epsilon (t .kn) (k + i + half) (k + i + half - epsilon) (omega arith))
+          (let z : placedAt 0 (t .kn) (k + i + half - epsilon) ≤ n - 1 = left .room (k + i + half - epsilon) (omega arith) in omega arith);
+      top =
+          elim (lt-or-ge k (t .c)) [
+            | inl h ↦
+                inr (rw (at (epsilon + (t .c - k)), count-index epsilon (t .kn) (k + (epsilon + (t .c - k)) + half) (half + t .c) (omega arith)) (s .top))
+            | inr h ↦ inl (omega arith)
+          ];
+      above = λ i h. at i ∙ sound-past n half epsilon t s (k + i + half) (omega arith);
+    }
+
 count-zeros : (width i : ℕ) → placedAt 0 (replicate width 0) i ≡ 0
 count-zeros width i = count-zero (replicate width 0) i ∙ getD-zeros width i
 
@@ -314,29 +343,122 @@ replaced-count epsilon R v w =
           count-index R (replicate (width epsilon) 0) w (w - R) (omega arith) ∙ count-zeros (width epsilon) (w - R)
     ]
 
-pub absorb-at : (epsilon B reading : ℕ) (t f : Timestamp) (i : ℕ) → i < width epsilon → placedAt 0 (absorb epsilon B t reading f .kn) i ≡ max (placedAt 0 (t .kn) i) (placedAt reading (f .kn) (B + i))
-unfolding absorb countAt
-absorb-at epsilon B reading t f i h =
-    count-zero (tab (width epsilon) (λ j. max (placedAt (B + epsilon) (t .kn) (B + j + epsilon)) (placedAt (reading + epsilon) (f .kn) (B + j + epsilon)))) i
-    ∙ (getD-tab (width epsilon) (λ j. max (placedAt (B + epsilon) (t .kn) (B + j + epsilon)) (placedAt (reading + epsilon) (f .kn) (B + j + epsilon))) i 0 h
-    ∙ rw (
-      count-moved (B + epsilon) 0 (t .kn) (B + i + epsilon) i (omega arith),
-      count-moved (reading + epsilon) reading (f .kn) (B + i + epsilon) (B + i) (omega arith),
-    ))
+-- tick 3, of a frame with counts of its own half width (02, 2.10); with one width for both it is `absorb`
+module _ (epsilon half B reading : ℕ) (t f : Timestamp) where
+  -- what the frame says of the clock at a place
+  abbrev pub heardCount : ℕ → ℕ
+  heardCount i = placedAt (reading + epsilon) (f .kn) (B + i + half)
 
-pub absorb-out : (epsilon B reading : ℕ) (t f : Timestamp) (i : ℕ) → width epsilon ≤ i → placedAt 0 (absorb epsilon B t reading f .kn) i ≡ 0
-unfolding absorb countAt
-absorb-out epsilon B reading t f i h =
-    count-zero (tab (width epsilon) (λ j. max (placedAt (B + epsilon) (t .kn) (B + j + epsilon)) (placedAt (reading + epsilon) (f .kn) (B + j + epsilon)))) i
-    ∙ getD-tab-out (width epsilon) (λ j. max (placedAt (B + epsilon) (t .kn) (B + j + epsilon)) (placedAt (reading + epsilon) (f .kn) (B + j + epsilon))) i 0 h
+  abbrev pub absorbed : Timestamp
+  absorbed = absorbWide epsilon half B t reading f
 
--- a bound on both is one on the larger
-pub absorb-bound : (bound epsilon B reading : ℕ) (t f : Timestamp) (i : ℕ) → placedAt 0 (t .kn) i ≤ bound → placedAt reading (f .kn) (B + i) ≤ bound → placedAt 0 (absorb epsilon B t reading f .kn) i ≤ bound
-absorb-bound bound epsilon B reading t f i p q =
-    elim (lt-or-ge i (width epsilon)) [
-      | inl h ↦ rw (absorb-at epsilon B reading t f i h) (omega arith)
-      | inr h ↦ rw (absorb-out epsilon B reading t f i h) (omega arith)
-    ]
+  pub absorbed-at : (i : ℕ) → i < width epsilon → placedAt 0 (absorbed .kn) i ≡ max (placedAt 0 (t .kn) i) (heardCount i)
+  unfolding absorbWide countAt
+  absorbed-at i h =
+      count-zero (tab (width epsilon) (λ j. max (placedAt (B + epsilon) (t .kn) (B + j + epsilon)) (heardCount j))) i
+      ∙ (getD-tab (width epsilon) (λ j. max (placedAt (B + epsilon) (t .kn) (B + j + epsilon)) (heardCount j)) i 0 h
+      ∙ rw (count-moved (B + epsilon) 0 (t .kn) (B + i + epsilon) i (omega arith)))
+
+  absorbed-out : (i : ℕ) → width epsilon ≤ i → placedAt 0 (absorbed .kn) i ≡ 0
+  unfolding absorbWide countAt
+  absorbed-out i h =
+      count-zero (tab (width epsilon) (λ j. max (placedAt (B + epsilon) (t .kn) (B + j + epsilon)) (heardCount j))) i
+      ∙ getD-tab-out (width epsilon) (λ j. max (placedAt (B + epsilon) (t .kn) (B + j + epsilon)) (heardCount j)) i 0 h
+
+  -- a bound on both is one on the larger
+  absorbed-bound : (bound i : ℕ) → placedAt 0 (t .kn) i ≤ bound → heardCount i ≤ bound → placedAt 0 (absorbed .kn) i ≤ bound
+  absorbed-bound bound i p q =
+      elim (lt-or-ge i (width epsilon)) [
+        | inl h ↦ rw (absorbed-at i h) (omega arith)
+        | inr h ↦ rw (absorbed-out i h) (omega arith)
+      ]
+
+  -- with the frame's reading at its true clock R and v at the true clock v; the clock w is named by w + ε in the stamp, by w + half in the frame
+  pub absorbed-count :
+      (v R : ℕ) → reading + v ≡ B + R → (w : ℕ) → v ≤ w + epsilon → w < v + epsilon
+      → countAt epsilon v (absorbed .kn) w ≡ max (countAt epsilon v (t .kn) w) (countAt half R (f .kn) w)
+  unfolding countAt width
+  absorbed-count v R e w lo hi =
+      let i : ℕ = w + epsilon - v in
+      count-index v (absorbed .kn) (w + epsilon) i (omega arith)
+      ∙ absorbed-at i (omega arith)
+      ∙ rw (count-index v (t .kn) (w + epsilon) i (omega arith), count-moved (reading + epsilon) R (f .kn) (B + i + half) (w + half) (omega arith))
+
+  pub absorbed-sum : (v R : ℕ) → reading + v ≡ B + R → v + absorbed .c ≡ max (v + t .c) (max v (R + f .c))
+  unfolding absorbWide sum
+  absorbed-sum v R e = omega arith
+
+  pub absorbed-wide : length (absorbed .kn) ≡ width epsilon
+  unfolding absorbWide countAt
+  absorbed-wide = length-tab (width epsilon) (λ j. max (placedAt (B + epsilon) (t .kn) (B + j + epsilon)) (heardCount j))
+
+  absorbed-close : 1 ≤ epsilon → t .c < epsilon → sum reading (f .c) ≤ B + (epsilon - 1) → absorbed .c < epsilon
+  unfolding absorbWide sum
+  absorbed-close e close early = omega arith
+
+  absorbed-above : (i : ℕ) → epsilon + absorbed .c < i → max (t .c) (reading + f .c - B) < i - epsilon
+  unfolding absorbWide sum
+  absorbed-above i h = omega arith
+
+  -- the larger of the two sums still has a count, if it is past v
+  absorbed-top :
+      (n : ℕ) → 1 ≤ epsilon → Opened n epsilon t → Sound n half f → sum reading (f .c) ≤ B + (epsilon - 1)
+      → (absorbed .c ≡ 0) ⊎ (1 ≤ placedAt 0 (absorbed .kn) (epsilon + absorbed .c))
+  unfolding sum width
+  absorbed-top n e o s early =
+      elim (lt-or-ge (t .c) (reading + f .c - B)) [
+        | inl h ↦
+            let q : absorbed .c ≡ reading + f .c - B = unfold absorbWide sum in (omega arith) in
+            inr (rw (q, absorbed-at (epsilon + (reading + f .c - B)) (omega arith))
+            (let z : 1 ≤ heardCount (epsilon + (reading + f .c - B)) =
+            rw (count-index (reading + epsilon) (f .kn) (B + (epsilon + (reading + f .c - B)) + half) (half + f .c) (omega arith)) (s .top) in
+            omega arith))
+        | inr h ↦
+            let q : absorbed .c ≡ t .c = unfold absorbWide sum in (omega arith) in
+            elim (o .top) [
+              | inl k ↦ inl (q ∙ k)
+              | inr k ↦ inr (rw (q, absorbed-at (epsilon + t .c) (omega arith)) (omega arith))
+            ]
+      ]
+
+  -- questions 12, 14 and 15 keep the stamp open (reading is near v, which reads B)
+  pub absorbed-opened :
+      (n : ℕ) → 1 ≤ n → 1 ≤ epsilon → Opened n epsilon t → Sound n half f → sum reading (f .c) ≤ B + (epsilon - 1)
+      → atMost (n - 1) (countsFrom half reading (f .kn) B) ≡ true → Opened n epsilon absorbed
+  absorbed-opened n n-pos e o s early full =
+      record {
+        wide = absorbed-wide;
+        close = absorbed-close e (o .close) early;
+        most = λ i. absorbed-bound n i (o .most i) (sound-most n half (reading + epsilon) f s (B + i + half));
+        room = λ i k.
+            let own : placedAt 0 (t .kn) i < n = o .room i k in
+            let heard : placedAt reading (f .kn) (B + (i - epsilon) + half) ≤ n - 1 =
+            at-most-past (n - 1) half reading (f .kn) B full (B + (i - epsilon) + half) (omega arith) in
+            let here : heardCount i ≡ placedAt reading (f .kn) (B + (i - epsilon) + half) =
+            count-moved (reading + epsilon) reading (f .kn) (B + i + half) (B + (i - epsilon) + half) (omega arith) in
+            let z : placedAt 0 (absorbed .kn) i ≤ n - 1 = absorbed-bound (n - 1) i (omega arith) (omega arith) in
+            omega arith;
+        top = absorbed-top n e o s early;
+        above = λ i k.
+            let c : max (t .c) (reading + f .c - B) < i - epsilon = absorbed-above i k in
+            let z : placedAt 0 (absorbed .kn) i ≤ 0 =
+            absorbed-bound 0 i
+            (rw (o .above i (omega arith)) (omega arith))
+            (rw (sound-past n half (reading + epsilon) f s (B + i + half) (omega arith)) (omega arith)) in
+            omega arith;
+      }
+
+-- with one width for both
+module _ (epsilon B reading : ℕ) (t f : Timestamp) where
+  pub absorb-at : (i : ℕ) → i < width epsilon → placedAt 0 (absorb epsilon B t reading f .kn) i ≡ max (placedAt 0 (t .kn) i) (placedAt reading (f .kn) (B + i))
+  unfolding absorb absorbWide
+  absorb-at i h =
+      absorbed-at epsilon epsilon B reading t f i h
+      ∙ ap (λ (x : ℕ). max (placedAt 0 (t .kn) i) x) (count-moved (reading + epsilon) reading (f .kn) (B + i + epsilon) (B + i) (omega arith))
+
+  pub absorb-wide : length (absorb epsilon B t reading f .kn) ≡ width epsilon
+  unfolding absorb absorbWide
+  absorb-wide = absorbed-wide epsilon epsilon B reading t f
 
 -- tick 3, with the frame's reading at its true clock R and v at the true clock v
 pub absorb-count : (epsilon B v R reading : ℕ) (t f : Timestamp) → length (t .kn) ≡ width epsilon → reading + v ≡ B + R → (w : ℕ) → v ≤ w → w < v + width epsilon → placedAt v (absorb epsilon B t reading f .kn) w ≡ max (placedAt v (t .kn) w) (placedAt R (f .kn) w)
@@ -346,66 +468,12 @@ absorb-count epsilon B v R reading t f wide e w lo hi =
     ∙ rw (count-index v (t .kn) w (w - v) (omega arith), count-moved reading R (f .kn) (B + (w - v)) w (omega arith))
 
 pub absorb-sum : (epsilon B v R reading : ℕ) (t f : Timestamp) → reading + v ≡ B + R → v + absorb epsilon B t reading f .c ≡ max (v + t .c) (max v (R + f .c))
-unfolding absorb sum
-absorb-sum epsilon B v R reading t f e = omega arith
+unfolding absorb absorbWide
+absorb-sum epsilon B v R reading t f e = absorbed-sum epsilon epsilon B reading t f v R e
 
-pub absorb-wide : (epsilon B reading : ℕ) (t f : Timestamp) → length (absorb epsilon B t reading f .kn) ≡ width epsilon
-unfolding absorb countAt
-absorb-wide epsilon B reading t f = length-tab (width epsilon) (λ j. max (placedAt (B + epsilon) (t .kn) (B + j + epsilon)) (placedAt (reading + epsilon) (f .kn) (B + j + epsilon)))
-
-absorb-close : (epsilon B reading : ℕ) (t f : Timestamp) → 1 ≤ epsilon → t .c < epsilon → sum reading (f .c) ≤ B + (epsilon - 1) → absorb epsilon B t reading f .c < epsilon
-unfolding absorb sum
-absorb-close epsilon B reading t f e close early = omega arith
-
-absorb-above : (epsilon B reading : ℕ) (t f : Timestamp) (i : ℕ) → epsilon + absorb epsilon B t reading f .c < i → max (t .c) (reading + f .c - B) < i - epsilon
-unfolding absorb sum
-absorb-above epsilon B reading t f i h = omega arith
-
--- the larger of the two sums still has a count, if it is past v
-absorb-top :
-    (n epsilon B reading : ℕ) (t f : Timestamp) → 1 ≤ epsilon → Opened n epsilon t → Sound n epsilon f
-    → sum reading (f .c) ≤ B + (epsilon - 1)
-    → (absorb epsilon B t reading f .c ≡ 0) ⊎ (1 ≤ placedAt 0 (absorb epsilon B t reading f .kn) (epsilon + absorb epsilon B t reading f .c))
-unfolding sum width
-absorb-top n epsilon B reading t f e o s early =
-    elim (lt-or-ge (t .c) (reading + f .c - B)) [
-      | inl h ↦
-          let q : absorb epsilon B t reading f .c ≡ reading + f .c - B = unfold absorb sum in (omega arith) in
-          inr (rw (q, absorb-at epsilon B reading t f (epsilon + (reading + f .c - B)) (omega arith))
-          (let z : 1 ≤ placedAt reading (f .kn) (B + (epsilon + (reading + f .c - B))) =
-          rw (count-index reading (f .kn) (B + (epsilon + (reading + f .c - B))) (epsilon + f .c) (omega arith)) (s .top) in
-          omega arith))
-      | inr h ↦
-          let q : absorb epsilon B t reading f .c ≡ t .c = unfold absorb sum in (omega arith) in
-          elim (o .top) [
-            | inl k ↦ inl (q ∙ k)
-            | inr k ↦ inr (rw (q, absorb-at epsilon B reading t f (epsilon + t .c) (omega arith)) (omega arith))
-          ]
-    ]
-
--- questions 12, 14 and 15 keep the stamp open (reading is near v, which reads B)
 pub opened-absorb : (n epsilon B reading : ℕ) (t f : Timestamp) → 1 ≤ n → 1 ≤ epsilon → Opened n epsilon t → Sound n epsilon f → reading < B + epsilon → sum reading (f .c) ≤ B + (epsilon - 1) → atMost (n - 1) (countsFrom epsilon reading (f .kn) B) ≡ true → Opened n epsilon (absorb epsilon B t reading f)
-opened-absorb n epsilon B reading t f n-pos e o s hi early full =
-    record {
-      wide = absorb-wide epsilon B reading t f;
-      close = absorb-close epsilon B reading t f e (o .close) early;
-      most = λ i. absorb-bound n epsilon B reading t f i (o .most i) (sound-most n epsilon reading f s (B + i));
-      room = λ i k.
-          let own : placedAt 0 (t .kn) i < n = o .room i k in
-          let heard : placedAt reading (f .kn) (B + i) ≤ n - 1 =
-          at-most-past (n - 1) epsilon reading (f .kn) B full (B + i) (omega arith) in
-          let z : placedAt 0 (absorb epsilon B t reading f .kn) i ≤ n - 1 =
-          absorb-bound (n - 1) epsilon B reading t f i (omega arith) heard in
-          omega arith;
-      top = absorb-top n epsilon B reading t f e o s early;
-      above = λ i k.
-          let c : max (t .c) (reading + f .c - B) < i - epsilon = absorb-above epsilon B reading t f i k in
-          let z : placedAt 0 (absorb epsilon B t reading f .kn) i ≤ 0 =
-          absorb-bound 0 epsilon B reading t f i
-          (rw (o .above i (omega arith)) (omega arith))
-          (rw (sound-past n epsilon reading f s (B + i) (omega arith)) (omega arith)) in
-          omega arith;
-    }
+unfolding absorb absorbWide
+opened-absorb n epsilon B reading t f n-pos e o s hi early full = absorbed-opened epsilon epsilon B reading t f n n-pos e o s early full
 
 -- the list with the count at a place one higher: the others, and that one
 pub own-at : (kn : List ℕ) (i j : ℕ) → (j ≡ i → ⊥) → placedAt 0 (set kn i (getD kn i 0 + 1)) j ≡ placedAt 0 kn j

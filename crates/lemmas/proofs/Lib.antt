@@ -13,5 +13,15 @@ pub mod Board
 pub mod OneTick
 pub mod OneListening
 pub mod LongTick
-pub mod NextTick
+pub mod NextCall
 pub mod Comparing
+pub mod Schedules
+pub mod WideFrames
+pub mod WiderQueue
+pub mod Carried
+pub mod EqualPairs
+pub mod WiderBoard
+pub mod WiderTick
+pub mod WiderCall
+pub mod NextWider
+pub mod Agreeing

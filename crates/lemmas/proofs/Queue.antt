@@ -428,6 +428,10 @@ left-none s v k =
       later = λ f m. absurd (List·Memᴰ·not-nil m);
     }
 
+pub left-due : (s : Setup) (v k : ℕ) (queue : List Frame) → QueueLeft s v k queue → (f : Frame) → List·Memᴰ f queue → s .modulus < dueNear s v f + k
+unfolding dueNear due sum
+left-due s v k queue left f m = left .later f m
+
 -- what a tick leaves: the queue without what is due
 pub queue-left : (s : Setup) (v : ℕ) (queue : List Frame) → QueueOk s v (s .modulus) queue → QueueLeft s v 0 (select (λ f. not (dueNow s v f)) queue)
 queue-left s v queue ok =

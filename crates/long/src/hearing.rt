@@ -25,9 +25,7 @@ fn absorb_frame(setup: Setup, clock: usize, stamp: Timestamp, s: &[u8]) -> Times
 {
     let later = six_on(s);
     let r = r_of(s);
-    let mut kn = stamp.kn;
-    let c = absorb_counts(setup, clock, &mut kn, stamp.c, later, r);
-    Timestamp { r: stamp.r, c, kn }
+    absorb_counts(setup, clock, stamp, later, r)
 }
 
 // What hearing answers beside the buffers.

@@ -8,12 +8,12 @@ use Rattle.model.specs.Timestamp.{Timestamp}
 use Rattle.model.specs.Frame.{Frame}
 use Rattle.model.specs.Long.{longEncode}
 
--- each number but r fits its byte, and the frame fits the buffer
+-- each number but r fits its byte, the payload has at most 32, and the frame fits the buffer
 pub record LongRoom (epsilon station : ℕ) (t : Timestamp) (payload buffer : List ℕ) : Type 0 where
   pub narrow : epsilon ≤ 16
   pub station-fits : station < 256
   pub c-fits : t .c < 256
-  pub payload-fits : length payload < 256
+  pub payload-fits : length payload ≤ 32
   pub room : 13 + 2 * epsilon + length payload ≤ length buffer
 
 -- the frame's bytes stand at the front of the buffer, and the rest of it is as it was

@@ -25,6 +25,9 @@ ghost use Rattle.timestamp.specs.Views.{stampOf};
 ghost use Rattle.frame.specs.Answers.{writeAnswer};
 ghost use Rattle.longframe.specs.Lay.{LongRoom, LongLaid};
 
+// 01: "A frame being built has 71 bytes of its own"; 02: "lengths follow": six bytes more.
+const OWN_BYTES: usize = 77;
+
 // 02: the first section, "9 (station, r in eight bytes, low first)", laid down at the front.
 fn put_node(out: &mut [u8], station: usize, r: usize)
     requires { ⌜ (10 ≤ length (now out)) × (station < 256) ⌝ }
@@ -35,8 +38,17 @@ fn put_node(out: &mut [u8], station: usize, r: usize)
     splice::put_u64(out, R_AT, r);
 }
 
-// The writer with no questions asked, for callers that have answered them: lays the frame down and says how long it is. The later
-// sections stand as a station's, six bytes on.
+// The three sections, one behind the other: says how long the frame is. The later ones stand as a station's, six bytes on.
+fn build(epsilon: usize, station: usize, stamp: Timestamp, payload: &[u8], out: &mut [u8]) -> usize
+    requires { ⌜ LongRoom epsilon station (stampOf stamp) (now payload) (now out) ⌝ }
+    ensures { λ r. ⌜ LongLaid r (now (out .exit)) (frameOf epsilon station (stampOf stamp) (now (payload .entry))) (now (out .entry)) ⌝ }
+{
+    put_node(out, station, stamp.r);
+    LONGER + lay_later(epsilon, stamp, payload, &mut out[LONGER..])
+}
+
+// The writer with no questions asked, for callers that have answered them: builds the frame in bytes of its own, lays it down whole and says
+// how long it is.
 pub fn lay(
     epsilon: usize,
     station: usize,
@@ -47,8 +59,10 @@ pub fn lay(
     requires { ⌜ LongRoom epsilon station (stampOf stamp) (now payload) (now out) ⌝ }
     ensures { λ r. ⌜ LongLaid r (now (out .exit)) (frameOf epsilon station (stampOf stamp) (now (payload .entry))) (now (out .entry)) ⌝ }
 {
-    put_node(out, station, stamp.r);
-    LONGER + lay_later(epsilon, stamp, payload, &mut out[LONGER..])
+    let mut built = [0u8; OWN_BYTES];
+    let size = build(epsilon, station, stamp, payload, &mut built);
+    splice::copy_into(out, 0, &built[..size]);
+    size
 }
 
 // 01: "the writer asks 1, 4, 11, 12, then 6 if its buffer is shorter than this frame": the number of the first no, or 0.

@@ -4,3 +4,7 @@ pub mod Comparisons
 pub mod Polls
 pub mod Observers
 pub mod Engines
+pub mod ComputingWider
+pub mod Widening
+pub mod Steady
+pub mod EqualCalls

@@ -12,5 +12,8 @@ pub mod Tick
 pub mod Poll
 pub mod Observer
 pub mod Long
+pub mod Schedule
+pub mod Wider
+pub mod WiderCalls
 pub mod Published
 pub mod Run

@@ -14,7 +14,7 @@ use Rattle.model.specs.Frame.{Frame, countsOf, payloadCountAt, decode}
 use Rattle.model.specs.Batch.{exactBatch, batchEntries}
 use Rattle.model.specs.Judge.{absorbBy, absorbAll, absorbEach}
 use Rattle.lemmas.proofs.Counts.{trimmed-wide, trimmed-widened, absorb-wide}
-use Rattle.timestamp.specs.Views.{stampBy, ofCounts}
+use Rattle.timestamp.specs.Views.{ofCounts}
 use Rattle.batch.specs.Walk.{countOf, entryAt, nextAt}
 use Rattle.batch.proofs.Walk.{walked, batch-walked}
 use Rattle.node.specs.States.{absorbedFor}
@@ -31,11 +31,6 @@ pub counts-absorbed : (epsilon at reading : ℕ) (t : Timestamp) (bytes : List �
     → absorb epsilon at t reading (ofCounts c counts) ≡ absorb epsilon at t reading (decode epsilon bytes .stamp)
 unfolding absorb decode
 counts-absorbed epsilon at reading t bytes c counts ec e = rw (ec, e)
-
--- r is not looked at where the places past the 2ε counts are asked to be 0
-pub narrow-any : (epsilon r c : ℕ) (kn : List ℕ) → stampBy r c kn ≡ widened (trimmed epsilon (stampBy r c kn)) → ofCounts c kn ≡ widened (trimmed epsilon (ofCounts c kn))
-unfolding widened trimmed
-narrow-any epsilon r c kn e = ap (λ (t : Timestamp). ofCounts (t .c) (t .kn)) e
 
 -- ---- the loop
 

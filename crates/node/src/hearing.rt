@@ -18,13 +18,12 @@ use setup::Setup;
 use timestamp::Timestamp;
 ghost use mathlib.Core.Path.{_≡_};
 ghost use mathlib.Core.Bool.{cond};
-ghost use Prim.Native.Nat.{ℕ};
 ghost use Rattle.model.specs.Timestamp.{trimmed, widened, absorb};
 ghost use Rattle.model.specs.Frame.{decode};
 ghost use Rattle.model.specs.Order.{readingOf};
 ghost use Rattle.model.specs.Judge.{absorbBy};
 ghost use Rattle.setup.specs.Views.{setupOf};
-ghost use Rattle.timestamp.specs.Views.{stampOf, stampBy, ofCounts};
+ghost use Rattle.timestamp.specs.Views.{stampOf};
 ghost use Rattle.node.specs.States.{Timed, Readable, Askable, Queued, Extent, Taking, Enqueued, Hearing, HeardQueue, HeardStamp};
 
 // "A taken frame goes on the shelf". Its origin is marked, and the starts of the larger sums move. The queue has `count` frames,
@@ -56,24 +55,22 @@ fn enqueue(
 }
 
 // "c and each count become the larger of own and frame's, both placed relative to v": of a frame whose r is read already, and v at its own
-// reading: B at a station, and v itself where clocks are long (02, 2.9). The frame's counts are read and the own ones raised where they
-// stand; the answer is c.
+// reading: B at a station, and v itself where clocks are long (02, 2.9). Its counts are read where they stand.
 pub fn absorb_counts(
     setup: Setup,
     at: usize,
-    kn: &mut [u8],
-    lead: usize,
+    stamp: Timestamp,
     s: &[u8],
     reading: usize,
-) -> usize
-    requires { ⌜ Askable (setupOf setup) at reading (now s) × (ofCounts lead (now kn) ≡ widened (trimmed (setup .epsilon) (ofCounts lead (now kn)))) ⌝ }
-    ensures { λ d. ⌜ ((r : ℕ) → stampBy r d (now (kn .exit))
-        ≡ widened (absorb (setup .epsilon) at (trimmed (setup .epsilon) (stampBy r lead (now (kn .entry)))) reading (decode (setup .epsilon) (now (s .entry)) .stamp))) ⌝ }
+) -> Timestamp
+    requires { ⌜ Askable (setupOf setup) at reading (now s) × (stampOf stamp ≡ widened (trimmed (setup .epsilon) (stampOf stamp))) ⌝ }
+    ensures { λ r. ⌜ stampOf r
+        ≡ widened (absorb (setup .epsilon) at (trimmed (setup .epsilon) (stampOf stamp)) reading (decode (setup .epsilon) (now (s .entry)) .stamp)) ⌝ }
 {
     let epsilon = setup.epsilon as usize;
     let c = c_of(s);
     let counts = counts_part(epsilon, s);
-    Timestamp::absorb(kn, lead, epsilon, at, reading, c, counts)
+    stamp.absorb(epsilon, at, reading, c, counts)
 }
 
 // The same of a taken frame at a station. 02, 2.6: one that only listens keeps "no counts", and its stamp stays.
@@ -81,21 +78,20 @@ fn absorb_frame(
     setup: Setup,
     clock: usize,
     listens: bool,
-    kn: &mut [u8],
-    lead: usize,
+    stamp: Timestamp,
     s: &[u8],
     reading: usize,
-) -> usize
+) -> Timestamp
     requires { ⌜ Readable (setupOf setup) clock (now s) × (reading ≡ readingOf (setupOf setup) clock (decode (setup .epsilon) (now s))) ⌝ }
-    requires { ⌜ ofCounts lead (now kn) ≡ widened (trimmed (setup .epsilon) (ofCounts lead (now kn))) ⌝ }
-    ensures { λ d. ⌜ ((r : ℕ) → stampBy r d (now (kn .exit)) ≡ cond listens (stampBy r lead (now (kn .entry)))
-        (widened (absorbBy 0 (setupOf setup) clock (decode (setup .epsilon) (now (s .entry))) (trimmed (setup .epsilon) (stampBy r lead (now (kn .entry))))))) ⌝ }
+    requires { ⌜ stampOf stamp ≡ widened (trimmed (setup .epsilon) (stampOf stamp)) ⌝ }
+    ensures { λ r. ⌜ stampOf r ≡ cond listens (stampOf stamp)
+        (widened (absorbBy 0 (setupOf setup) clock (decode (setup .epsilon) (now (s .entry))) (trimmed (setup .epsilon) (stampOf stamp)))) ⌝ }
 {
     if listens {
-        return lead;
+        return stamp;
     }
     let modulus = setup.modulus as usize;
-    absorb_counts(setup, modulus, kn, lead, s, reading)
+    absorb_counts(setup, modulus, stamp, s, reading)
 }
 
 // What hearing answers beside the buffers.
@@ -111,7 +107,6 @@ pub struct Heard {
 
 // The hearing loop. The batch's walker says where each entry stands. A verdict is taken apart for its place; of a refused
 // frame the number is recorded, and it goes on. A taken one is one frame more for the queue, and moves its end by the frame's length.
-// `kn` and `lead` are the counts and the c of the own stamp.
 // 02, 2.6: one that only listens judges frames "not" by 15, and absorbs none.
 pub fn hear(
     setup: Setup,
@@ -135,8 +130,7 @@ pub fn hear(
     ensures { λ r. ⌜ HeardStamp listens (setupOf setup) clock (stampOf stamp) (now (batch .entry)) (now (holdback .entry)) (stampOf (r .stamp)) ⌝ }
 {
     let entries = count_of(batch);
-    let mut kn = stamp.kn;
-    let mut lead = stamp.c;
+    let mut absorbed = stamp;
     let mut taken = 0;
     let mut held = count;
     let mut stop = end;
@@ -154,18 +148,13 @@ pub fn hear(
             continue;
         };
         enqueue(setup, clock, placed, held, stop, s, holdback, seen, starts);
-        lead = absorb_frame(setup, clock, listens, &mut kn, lead, s, placed.reading);
+        absorbed = absorb_frame(setup, clock, listens, absorbed, s, placed.reading);
         held += 1;
         stop += s.len();
         verdicts[i] = 0;
         taken += 1;
         i += 1;
     }
-    let absorbed = Timestamp {
-        r: stamp.r,
-        c: lead,
-        kn,
-    };
     Heard {
         stamp: absorbed,
         taken,

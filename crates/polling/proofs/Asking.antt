@@ -22,7 +22,6 @@ use Rattle.model.specs.Poll.{pollQuestions, polledQueue, soonestDue, nextDue, d
 use Rattle.lemmas.proofs.Bounds.{Limits}
 use Rattle.lemmas.proofs.Questions.{limits-from, first-yes, other-yes, yes-cons, no-cons, shelf-passed}
 use Rattle.lemmas.proofs.Queue.{opening-queue, queue-room, depth-small}
-use Rattle.holdback.specs.Starts.{startsOf, allFront}
 use Rattle.polling.specs.Answers.{SmallNext}
 use Rattle.polling.proofs.Fronts.{next-none}
 
@@ -86,11 +85,6 @@ polled-sound s v shelf e = rw e refl
 pub polled-count : (s : Setup) (v : ℕ) (shelf : List ℕ) {count : ℕ} → soundHoldback s v (s .modulus + 1) shelf ≡ true
     → count ≡ cond (soundHoldback s v (s .modulus + 1) shelf) (twoAt shelf 0) 0 → count ≡ twoAt shelf 0
 polled-count s v shelf e count-is = count-is ∙ rw e refl
-
--- and the table of starts that it leaves
-pub polled-starts : (s : Setup) (v : ℕ) (shelf : List ℕ) {starts : List ℕ} → soundHoldback s v (s .modulus + 1) shelf ≡ true
-    → starts ≡ cond (soundHoldback s v (s .modulus + 1) shelf) (startsOf s v shelf) allFront → starts ≡ startsOf s v shelf
-polled-starts s v shelf e starts-is = starts-is ∙ rw e refl
 
 -- ---- the answer's numbers are below 65,536
 

@@ -1,9 +1,10 @@
--- The poll is about all that a tick has left, and foretells the next tick. Assumes nothing.
+-- The poll is about all that a call has left, and foretells the next one: one proof for a station's ticks and for an observer's calls.
+-- Assumes nothing.
 use Prim.Native.Nat.{ℕ, _+_, _-_, _%_, _≤_, _<_}
 use native.Mathlib.Omega.{arith}
 use native.Mathlib.Nat.{mod-eq-of-lt, add-zero}
 use mathlib.Core.Path.{_≡_, refl, sym, ap, subst, _∙_}
-use mathlib.Core.Bool.{Bool, true, false, _||_, not}
+use mathlib.Core.Bool.{true, _||_, not}
 use mathlib.Core.Logic.{_⊎_, inl, inr}
 use mathlib.Core.List.{List, List·Memᴰ}
 use lib.Dec.{leb, ltb, eqb}
@@ -12,42 +13,34 @@ use borrow.Author.Tests.{le-leb, lt-leb, lt-ltb, le-ltb, eq-eqb, ne-eqb}
 use Rattle.laws.specs.Lists.{select}
 use Rattle.laws.proofs.Numbers.{lt-or-ge}
 use Rattle.laws.proofs.Lists.{select-either}
-use Rattle.model.specs.Setup.{Setup, inLimits, isMember}
-use Rattle.model.specs.Timestamp.{sum}
+use Rattle.model.specs.Setup.{Setup}
+use Rattle.model.specs.Timestamp.{Timestamp, sum}
 use Rattle.model.specs.Frame.{Frame}
 use Rattle.model.specs.Order.{readingOf, due, dueNear}
-use Rattle.model.specs.Question.{firstNo}
-use Rattle.model.specs.Holdback.{held, soundHoldback}
-use Rattle.model.specs.Tick.{Input, leastDue, openingQueue, openedQueue, dueBefore, dueNow, keptOf, tick}
+use Rattle.model.specs.Batch.{batchEntries}
+use Rattle.model.specs.Holdback.{held, soundHoldback, encodeHoldback}
+use Rattle.model.specs.Judge.{Asking, judgeQuestions, observerQuestions}
+use Rattle.model.specs.Tick.{Input, Output, holdbackSize, leastDue, openingQueue, openedQueue, earlyOf, heardOf, deliveredOf, keptOf, takenCount, dueBefore, dueNow, acceptance, tick}
+use Rattle.model.specs.Observer.{Listening, Listened, lastSound, observerLeast, observerOpened, observerHeard, observerDelivered, observerKept, listened, listen}
 use Rattle.model.specs.Poll.{PollAnswer, dueWithin, numberWithin, pollBy, poll}
-use Rattle.lemmas.proofs.OneTick.{Accepted, accepted-call, kept-left, kept-held, shelf-sound, shelf-size}
-use Rattle.lemmas.proofs.NextTick.{opened-next, delivered-quiet}
+use Rattle.lemmas.proofs.Board.{Board, boardOpened, boardHeard, boardDelivered, boardKept, board-kept, board-held, board-size, board-sound}
+use Rattle.lemmas.proofs.OneTick.{accepted-call, tick-board, holdback-is}
+use Rattle.lemmas.proofs.OneListening.{listen-accepted, listen-board, listen-holdback}
+use Rattle.lemmas.proofs.NextCall.{least-next, last-least, board-next, board-quiet}
 use Rattle.lemmas.proofs.Queue.{QueueLeft, left-moved}
 use Rattle.lemmas.proofs.Questions.{setup-to}
-use Rattle.polling.specs.Statements.{Told, PollsWhatIsLeft, Follows, PollForetells}
+use Rattle.polling.specs.Statements.{BoardCall, tickCall, listenCall, Told, PollsWhatIsLeft, PollsWhatObserversLeave, Follows, PollForetells, PollForetellsObservers}
 use Rattle.polling.proofs.Asking.{poll-accepted, questions-passed, polled-sound}
 
-module _ (i : Input) (a : Accepted i) where
-  same-clock : (i .clock + 0) % i .setup .modulus ≡ i .clock
-  same-clock = ap (λ (v : ℕ). v % i .setup .modulus) (add-zero (i .clock)) ∙ mod-eq-of-lt (a .clock-below)
-
-  whole : i .setup .modulus + 1 - 0 ≡ i .setup .modulus + 1
-  whole = omega arith
-
-  left-sound : soundHoldback (i .setup) (i .clock) (i .setup .modulus + 1) (tick i .holdback) ≡ true
-  left-sound =
-      subst (λ (v : ℕ). soundHoldback (i .setup) v (i .setup .modulus + 1) (tick i .holdback) ≡ true) same-clock
-      (subst (λ (least : ℕ). soundHoldback (i .setup) ((i .clock + 0) % i .setup .modulus) least (tick i .holdback) ≡ true) whole (shelf-sound i 0 a (omega arith)))
-
-  left-told : (d : ℕ) → poll (i .setup) (i .own) (i .clock) d (tick i .holdback) ≡ pollBy 0 (i .setup) (i .clock) d (keptOf i)
-  left-told d =
-      sym (poll-accepted (i .setup) (i .own) (i .clock) (tick i .holdback) d (questions-passed (i .setup) (i .own) (i .clock) (tick i .holdback) (setup-to (i .setup) (i .own) (a .limits) (a .own-below)) (a .clock-below) (shelf-size i a)))
-      ∙ ap (pollBy 0 (i .setup) (i .clock) d) (polled-sound (i .setup) (i .clock) (tick i .holdback) left-sound ∙ kept-held i a)
-
-pub polls-what-is-left : PollsWhatIsLeft
-polls-what-is-left i d e =
-    let a : Accepted i = accepted-call i e in
-    record { sound = left-sound i a; answer = left-told i a d }
+-- an accepted call, by the least due clock that it allowed: what it asked, and what it heard; and that it left and answered what comes of these
+record Attended (A : Type 0) (c : BoardCall A) (least : ℕ) : Type 0 where
+  asking : Asking
+  entries : List (List ℕ)
+  board : Board (c .setup) (c .clock) least asking
+  kept-is : c .kept ≡ boardKept (c .setup) (c .clock) least asking (c .holdback) entries
+  left-is : c .holdbackLeft ≡ encodeHoldback (holdbackSize (c .setup)) (boardKept (c .setup) (c .clock) least asking (c .holdback) entries)
+  taken-is : c .taken ≡ takenCount (boardHeard (c .setup) (c .clock) least asking (c .holdback) entries .verdicts)
+  delivered-is : c .delivered ≡ length (boardDelivered (c .setup) (c .clock) least asking (c .holdback) entries)
 
 -- k clocks later a frame is due before or at that clock exactly if it was due within k ticks
 module _ (s : Setup) (v v′ k : ℕ) (f : Frame) (moved : readingOf s v′ f + k ≡ readingOf s v f) where
@@ -70,44 +63,132 @@ module _ (s : Setup) (v v′ k : ℕ) (f : Frame) (moved : readingOf s v′ f + 
           let same : dueNear s v′ f ≡ s .modulus = omega arith in
           rw (le-ltb (dueNear s v′ f) (s .modulus) l, eq-eqb (dueNear s v′ f) (s .modulus) same, le-leb (dueNear s v f) (s .modulus + k) (omega (arith, due-moved))) refl
 
-module _ (i : Input) (k : ℕ) (a : Accepted i) (few : k ≤ i .setup .epsilon) where
-  abbrev later : ℕ
-  later = (i .clock + k) % i .setup .modulus
-
-  moved : (f : Frame) → List·Memᴰ f (keptOf i) → readingOf (i .setup) later f + k ≡ readingOf (i .setup) (i .clock) f
-  moved f m =
-      left-moved (i .setup) (i .clock) 0 k (keptOf i) (a .limits) (omega (arith, few))
-      (subst (λ (v : ℕ). QueueLeft (i .setup) v 0 (keptOf i)) (sym (mod-eq-of-lt (a .clock-below))) (kept-left i a)) f m
-      ∙ ap (λ (v : ℕ). readingOf (i .setup) v f) (mod-eq-of-lt (a .clock-below))
-
-  -- as many are due before or at the later clock as within k ticks
-  due-by-then :
-      length (select (dueBefore (i .setup) later) (keptOf i)) + length (select (dueNow (i .setup) later) (select (λ f. not (dueBefore (i .setup) later f)) (keptOf i)))
-      ≡ numberWithin (i .setup) (i .clock) k (keptOf i)
-  unfolding numberWithin
-  due-by-then =
-      select-either (dueBefore (i .setup) later) (dueNow (i .setup) later) (dueWithin (i .setup) (i .clock) k) (keptOf i)
-      (λ f m. due-then (i .setup) (i .clock) later k f (moved f m))
-
-opened-follows : (i j : Input) (k : ℕ) → Accepted i → Follows i j k → 1 ≤ k → k ≤ i .setup .epsilon → openedQueue j ≡ keptOf i
-unfolding openedQueue
-opened-follows i j k a f pos few = rw (f .setup, f .clock, f .tables, f .holdback) (opened-next i k a pos few)
-
--- what a call counts as due by its clock, of what the tick before it left
+-- what a call counts as due by its clock, of what the call before it left
 abbrev dueBy : Setup → ℕ → List Frame → ℕ
 dueBy s v queue = length (select (dueBefore s v) queue) + length (select (dueNow s v) (select (λ f. not (dueBefore s v f)) queue))
 
-follows-number :
-    (i j : Input) (k : ℕ) → Accepted i → Follows i j k → 1 ≤ k → k ≤ i .setup .epsilon
-    → dueBy (j .setup) (j .clock) (openedQueue j) ≡ dueBy (i .setup) ((i .clock + k) % i .setup .modulus) (keptOf i)
-follows-number i j k a f pos few =
-    ap (λ (queue : List Frame). dueBy (j .setup) (j .clock) queue) (opened-follows i j k a f pos few)
-    ∙ (ap (λ (s : Setup). dueBy s (j .clock) (keptOf i)) (f .setup) ∙ ap (λ (v : ℕ). dueBy (i .setup) v (keptOf i)) (f .clock))
+module _ (A : Type 0) (c : BoardCall A) (least : ℕ) (a : Attended A c least) where
+  abbrev s : Setup
+  s = c .setup
+
+  abbrev frames : List Frame
+  frames = boardKept s (c .clock) least (a .asking) (c .holdback) (a .entries)
+
+  same-clock : (c .clock + 0) % s .modulus ≡ c .clock
+  same-clock = ap (λ (v : ℕ). v % s .modulus) (add-zero (c .clock)) ∙ mod-eq-of-lt (a .board .below)
+
+  whole : s .modulus + 1 - 0 ≡ s .modulus + 1
+  whole = omega arith
+
+  left-sound : soundHoldback s (c .clock) (s .modulus + 1) (c .holdbackLeft) ≡ true
+  left-sound =
+      ap (soundHoldback s (c .clock) (s .modulus + 1)) (a .left-is)
+      ∙ subst (λ (v : ℕ). soundHoldback s v (s .modulus + 1) (encodeHoldback (holdbackSize s) frames) ≡ true) same-clock
+      (subst (λ (lowest : ℕ). soundHoldback s ((c .clock + 0) % s .modulus) lowest (encodeHoldback (holdbackSize s) frames) ≡ true) whole
+      (board-sound s (c .clock) least (a .asking) (c .holdback) (a .entries) (a .board) 0 (omega arith)))
+
+  left-size : length (c .holdbackLeft) ≡ holdbackSize s
+  left-size = ap length (a .left-is) ∙ board-size s (c .clock) least (a .asking) (c .holdback) (a .entries) (a .board)
+
+  left-told : (own d : ℕ) → own < s .n → poll s own (c .clock) d (c .holdbackLeft) ≡ pollBy 0 s (c .clock) d (c .kept)
+  left-told own d below =
+      sym (poll-accepted s own (c .clock) (c .holdbackLeft) d (questions-passed s own (c .clock) (c .holdbackLeft) (setup-to s own (a .board .limits) below) (a .board .below) left-size))
+      ∙ ap (pollBy 0 s (c .clock) d)
+      (polled-sound s (c .clock) (c .holdbackLeft) left-sound
+      ∙ (ap (held (s .epsilon)) (a .left-is) ∙ board-held s (c .clock) least (a .asking) (c .holdback) (a .entries) (a .board) ∙ sym (a .kept-is)))
+
+  told : (own d : ℕ) → own < s .n → Told A c own d
+  told own d below = record { sound = left-sound; answer = left-told own d below }
+
+  -- k clocks later
+  module _ (k : ℕ) (few : k ≤ s .epsilon) where
+    abbrev later : ℕ
+    later = (c .clock + k) % s .modulus
+
+    moved : (f : Frame) → List·Memᴰ f frames → readingOf s later f + k ≡ readingOf s (c .clock) f
+    moved f m =
+        left-moved s (c .clock) 0 k frames (a .board .limits) (omega (arith, few))
+        (subst (λ (v : ℕ). QueueLeft s v 0 frames) (sym (mod-eq-of-lt (a .board .below))) (board-kept s (c .clock) least (a .asking) (c .holdback) (a .entries) (a .board))) f m
+        ∙ ap (λ (v : ℕ). readingOf s v f) (mod-eq-of-lt (a .board .below))
+
+    -- as many are due before or at the later clock as within k ticks
+    due-by-then : dueBy s later frames ≡ numberWithin s (c .clock) k frames
+    unfolding numberWithin
+    due-by-then =
+        select-either (dueBefore s later) (dueNow s later) (dueWithin s (c .clock) k) frames
+        (λ f m. due-then s (c .clock) later k f (moved f m))
+
+    -- the next call opens these frames
+    left-opened : openingQueue s later (s .modulus + 1 - k) (c .holdbackLeft) ≡ frames
+    left-opened =
+        ap (openingQueue s later (s .modulus + 1 - k)) (a .left-is)
+        ∙ board-next s (c .clock) least (a .asking) (c .holdback) (a .entries) (a .board) k few
+
+-- so the call that follows, where its least due clock is the one after this clock
+module _ (A : Type 0) (i j : BoardCall A) (k least next : ℕ) (a : Attended A i least) (b : Attended A j next) (f : Follows A i j k) (few : k ≤ i .setup .epsilon) (next-is : next ≡ i .setup .modulus + 1 - k) where
+  opened-then : boardOpened (j .setup) (j .clock) next (b .asking) (j .holdback) (b .entries) ≡ frames A i least a
+  opened-then = rw (f .setup, f .clock, f .holdback, next-is) (left-opened A i least a k few)
+
+  number-then : dueBy (j .setup) (j .clock) (boardOpened (j .setup) (j .clock) next (b .asking) (j .holdback) (b .entries)) ≡ numberWithin (i .setup) (i .clock) k (i .kept)
+  number-then =
+      ap (dueBy (j .setup) (j .clock)) opened-then
+      ∙ (ap (λ (s : Setup). dueBy s (j .clock) (frames A i least a)) (f .setup)
+      ∙ (ap (λ (v : ℕ). dueBy (i .setup) v (frames A i least a)) (f .clock)
+      ∙ (due-by-then A i least a k few ∙ ap (numberWithin (i .setup) (i .clock) k) (sym (a .kept-is)))))
+
+  foretold : (own : ℕ) → own < i .setup .n → j .taken ≡ 0 → j .delivered ≡ poll (i .setup) own (i .clock) k (i .holdbackLeft) .within
+  foretold own below quiet =
+      b .delivered-is
+      ∙ (board-quiet (j .setup) (j .clock) next (b .asking) (j .holdback) (b .entries) (sym (b .taken-is) ∙ quiet)
+      ∙ (number-then ∙ sym (ap (λ (p : PollAnswer). p .within) (left-told A i least a own k below))))
+
+-- a station's tick
+tick-attended : (i : Input) → tick i .answer .number ≡ 0 → Attended Timestamp (tickCall i) (leastDue (i .setup) (i .clock) (i .tables))
+unfolding keptOf heardOf openedQueue acceptance deliveredOf earlyOf
+tick-attended i e =
+    let a = accepted-call i e in
+    record {
+      asking = judgeQuestions (i .setup) (i .clock);
+      entries = batchEntries (i .batch);
+      board = tick-board i a;
+      kept-is = refl;
+      left-is = holdback-is i a;
+      taken-is = ap (λ (o : Output). o .answer .taken) (a .accepted);
+      delivered-is = ap (λ (o : Output). o .answer .delivered) (a .accepted);
+    }
+
+pub polls-what-is-left : PollsWhatIsLeft
+polls-what-is-left i d e = told Timestamp (tickCall i) (leastDue (i .setup) (i .clock) (i .tables)) (tick-attended i e) (i .own) d (accepted-call i e .own-below)
+
+tick-follows : (i j : Input) (k : ℕ) → tick i .answer .number ≡ 0 → Follows Timestamp (tickCall i) (tickCall j) k → 1 ≤ k → k ≤ i .setup .epsilon → leastDue (j .setup) (j .clock) (j .tables) ≡ i .setup .modulus + 1 - k
+tick-follows i j k e f pos few = rw (f .setup, f .clock, f .given) (least-next i k (accepted-call i e) pos few)
 
 pub poll-foretells : PollForetells
-poll-foretells i j k e e′ f pos few quiet =
-    let a : Accepted i = accepted-call i e in
-    let b : Accepted j = accepted-call j e′ in
-    delivered-quiet j b quiet
-    ∙ (follows-number i j k a f pos few
-    ∙ (due-by-then i k a few ∙ sym (ap (λ (p : PollAnswer). p .within) (left-told i a k))))
+poll-foretells i j k e e′ f pos few =
+    foretold Timestamp (tickCall i) (tickCall j) k (leastDue (i .setup) (i .clock) (i .tables)) (leastDue (j .setup) (j .clock) (j .tables)) (tick-attended i e) (tick-attended j e′) f few (tick-follows i j k e f pos few) (i .own) (accepted-call i e .own-below)
+
+-- an observer's call
+listen-attended : (i : Listening) → listen i .number ≡ 0 → Attended ℕ (listenCall i) (observerLeast i)
+unfolding observerKept observerHeard observerOpened observerDelivered listened
+listen-attended i e =
+    let a = listen-accepted i e in
+    record {
+      asking = observerQuestions (i .setup) (i .clock);
+      entries = batchEntries (i .batch);
+      board = listen-board i a;
+      kept-is = refl;
+      left-is = listen-holdback i a;
+      taken-is = ap (λ (o : Listened). o .taken) (a .accepted);
+      delivered-is = ap (λ (o : Listened). o .delivered) (a .accepted);
+    }
+
+pub polls-what-observers-leave : PollsWhatObserversLeave
+polls-what-observers-leave i own d below e = told ℕ (listenCall i) (observerLeast i) (listen-attended i e) own d below
+
+listen-follows : (i j : Listening) (k : ℕ) → listen i .number ≡ 0 → Follows ℕ (listenCall i) (listenCall j) k → 1 ≤ k → k ≤ i .setup .epsilon → observerLeast j ≡ i .setup .modulus + 1 - k
+unfolding observerLeast lastSound
+listen-follows i j k e f pos few = rw (f .setup, f .clock, f .given) (last-least i k (listen-accepted i e) pos few)
+
+pub poll-foretells-observers : PollForetellsObservers
+poll-foretells-observers i j own k below e e′ f pos few =
+    foretold ℕ (listenCall i) (listenCall j) k (observerLeast i) (observerLeast j) (listen-attended i e) (listen-attended j e′) f few (listen-follows i j k e f pos few) own below

@@ -1,6 +1,6 @@
--- In a sound queue the frame at the front is due soonest, and those due at most d ticks after v are at the front: the table of starts counts them.
--- Assumes nothing.
-use Prim.Native.Nat.{ℕ, zero, suc, _+_, _/_, _≤_, _<_}
+-- In a sound queue the frame at the front is due soonest, and those due at most d ticks after v are at the front: a walk that stops at the first one
+-- past that counts them. Assumes nothing.
+use Prim.Native.Nat.{ℕ, zero, suc, _<_}
 use native.Mathlib.Omega.{arith}
 use mathlib.Core.Path.{_≡_, refl, sym, ap, subst, _∙_}
 use mathlib.Core.Bool.{true}
@@ -18,13 +18,11 @@ use Rattle.model.specs.Frame.{Frame, twoAt}
 use Rattle.model.specs.Order.{compareFrames, before, dueNear, clockAt}
 use Rattle.model.specs.Holdback.{held, soundHoldback}
 use Rattle.model.specs.Poll.{soonestDue, nextDue, dueWithin, numberWithin}
-use Rattle.lemmas.proofs.Bounds.{Limits}
-use Rattle.holdback.specs.Queue.{bytesAt, frameAt}
-use Rattle.holdback.specs.Starts.{startUnit, usedPlaces, startOf}
-use Rattle.holdback.proofs.Frames.{held-tab, leading-held}
-use Rattle.holdback.proofs.Judging.{frame-fits, sound-ordered, sound-frames}
+use Rattle.holdback.specs.Queue.{frameAt, Stands}
+use Rattle.holdback.proofs.Frames.{held-tab}
+use Rattle.holdback.proofs.Judging.{sound-ordered}
+use Rattle.holdback.proofs.Searching.{Led}
 use Rattle.holdback.proofs.Order.{due-first, in-order, within-prefix}
-use Rattle.holdback.proofs.Started.{place-inside, below-within, start-parts}
 
 -- a queue in order: its first frame is due soonest
 pub next-first : (s : Setup) (v : ℕ) (f : Frame) (queue : List Frame) → chained (before s v) (f ∷ queue) ≡ true → nextDue s v (f ∷ queue) ≡ some (clockAt s v (dueNear s v f))
@@ -70,30 +68,14 @@ module _ (s : Setup) (v : ℕ) (b : List ℕ) where
           ap (λ (d : ℕ). some (clockAt s v d)) e
           ∙ (sym (next-first s v (frameAt (s .epsilon) b 0) (tab k (λ i. frameAt (s .epsilon) b (suc i))) ordered) ∙ ap (nextDue s v) (sym (held-some k q)))
 
--- ---- by the table of starts
+-- ---- by a walk from the front
 
-module _ (s : Setup) (v least d : ℕ) (b : List ℕ) (limits : Limits s) (sound : soundHoldback s v least b ≡ true) where
-  abbrev frames : List Frame
-  frames = held (s .epsilon) b
-
-  within-leads : leading (dueWithin s v d) frames ≡ numberWithin s v d frames
-  within-leads = number-leading s v d frames (sound-ordered s v least b sound)
-
-  -- the entry for that place counts them
-  pub within-entry : (m : ℕ) → m ≡ startOf s v b (d + 1) → m / startUnit ≡ numberWithin s v d frames
-  within-entry m e = start-parts s v least b limits sound (d + 1) m e .0 ∙ below-within s v b d ∙ within-leads
-
-  -- past the last place there is no due clock
-  within-each : usedPlaces s ≤ d + 1 → (i : ℕ) → i < twoAt b 0 → dueWithin s v d (frameAt (s .epsilon) b i) ≡ true
-  unfolding dueWithin frameAt
-  within-each far i h =
-      le-leb (dueNear s v (frameAt (s .epsilon) b i)) (s .modulus + d)
-      (omega (arith, place-inside s v least limits (bytesAt (s .epsilon) b i) (frame-fits s v least b i (sound-frames s v least b sound i h))))
-
-  pub within-all : {count : ℕ} → usedPlaces s ≤ d + 1 → count ≡ twoAt b 0 → count ≡ numberWithin s v d frames
-  within-all far e =
-      e ∙ sym (leading-held (dueWithin s v d) (s .epsilon) b (twoAt b 0) (omega arith) (within-each far) (λ h. absurd (omega arith)))
-      ∙ within-leads
+-- where it stands when it stops, or at the end
+pub within-stands :
+    {s : Setup} {v least : ℕ} {b : List ℕ} {count number at : ℕ} (d : ℕ) → Led (dueWithin s v d) s v least b count number at
+    → Stands (s .epsilon) b (leading (dueWithin s v d) (held (s .epsilon) b)) number at → number ≡ numberWithin s v d (held (s .epsilon) b)
+within-stands {s} {v} {least} {b} d led stands =
+    stands .frames ∙ number-leading s v d (held (s .epsilon) b) (sound-ordered s v least b (led .sound))
 
 pub some-frame : (count : ℕ) → (count ≡ 0 → ⊥) → 0 < count
 some-frame zero h = absurd (h refl)

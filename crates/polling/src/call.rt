@@ -21,7 +21,6 @@ ghost use Rattle.model.specs.Holdback.{held, soundHoldback};
 ghost use Rattle.model.specs.Tick.{holdbackSize};
 ghost use Rattle.model.specs.Poll.{pollQuestions, polledQueue, pollBy, poll};
 ghost use Rattle.setup.specs.Views.{setupOf};
-ghost use Rattle.holdback.specs.Starts.{startsOf};
 ghost use Rattle.polling.specs.Answers.{pollAnswer};
 
 // What the call answers.
@@ -54,22 +53,14 @@ fn nothing(number: u8) -> Polled
     }
 }
 
-// What a sound shelf of `count` frames tells, with its table of starts.
-fn tell(
-    setup: Setup,
-    clock: usize,
-    d: usize,
-    holdback: &[u8],
-    count: usize,
-    starts: &[u32],
-) -> Polled
+// What a sound shelf of `count` frames tells.
+fn tell(setup: Setup, clock: usize, d: usize, holdback: &[u8], count: usize) -> Polled
     requires { ⌜ (inLimits (setupOf setup) ≡ true) × ((clock < setup .modulus) × (d < 65536)) ⌝ }
     requires { ⌜ (soundHoldback (setupOf setup) clock (setup .modulus) (now holdback) ≡ true) × ((2 ≤ length (now holdback)) × (count ≡ twoAt (now holdback) 0)) ⌝ }
-    requires { ⌜ now starts ≡ startsOf (setupOf setup) clock (now holdback) ⌝ }
     ensures { λ r. ⌜ pollAnswer r ≡ pollBy 0 (setupOf setup) clock d (held (setup .epsilon) (now (holdback .entry))) ⌝ }
 {
     let next = next_due(setup, clock, holdback, count);
-    let within = number_within(setup, clock, d, holdback, count, starts);
+    let within = number_within(setup, clock, d, holdback, count);
     Polled {
         number: 0,
         next,
@@ -77,8 +68,8 @@ fn tell(
     }
 }
 
-// The shelf judged "for the last tick's clock v, every due clock past v", and what it tells; `d` is 02's d. The walk fills
-// the table of origins too, which is not used.
+// The shelf judged "for the last tick's clock v, every due clock past v", and what it tells; `d` is 02's d. The walk is
+// the tick's and fills the tables of origins and of starts, which are not used.
 fn ask_queue(setup: Setup, clock: usize, d: usize, holdback: &[u8]) -> Polled
     requires { ⌜ (inLimits (setupOf setup) ≡ true) × ((clock < setup .modulus) × (d < 65536)) ⌝ }
     requires { ⌜ length (now holdback) ≡ holdbackSize (setupOf setup) ⌝ }
@@ -91,7 +82,7 @@ fn ask_queue(setup: Setup, clock: usize, d: usize, holdback: &[u8]) -> Polled
     if !walk.sound {
         return nothing(0);
     }
-    tell(setup, clock, d, holdback, walk.count, &starts)
+    tell(setup, clock, d, holdback, walk.count)
 }
 
 // The poll, at most `d` ticks after the clock.

@@ -1,19 +1,16 @@
 // The front of a sound queue: the frame there is due soonest, and what is due within some ticks is there.
-use holdback::START_UNIT;
 use holdback::clock_at;
 use holdback::due_of;
-use holdback::used_places;
 use setup::Setup;
 ghost use mathlib.Core.Path.{_≡_};
 ghost use mathlib.Core.Bool.{true};
 ghost use Prim.Native.Nat.{_≤_, _<_};
 ghost use lib.ListN.{length};
 ghost use Rattle.model.specs.Setup.{inLimits};
-ghost use Rattle.model.specs.Frame.{twoAt};
-ghost use Rattle.model.specs.Holdback.{held, soundHoldback};
-ghost use Rattle.model.specs.Poll.{nextDue, numberWithin};
+ghost use Rattle.model.specs.Frame.{twoAt, decode};
+ghost use Rattle.model.specs.Holdback.{held, passes, soundHoldback};
+ghost use Rattle.model.specs.Poll.{nextDue, dueWithin, numberWithin};
 ghost use Rattle.setup.specs.Views.{setupOf};
-ghost use Rattle.holdback.specs.Starts.{startsOf};
 ghost use Rattle.polling.specs.Answers.{nextOf};
 
 // When something shows next: at no clock, or at that one, modulo B.
@@ -36,24 +33,31 @@ pub fn next_due(s: Setup, v: usize, buf: &[u8], count: usize) -> Next
     Next::At(clock_at(s, v, due))
 }
 
-// 02: the number "due at most d ticks after v". The table of starts has it in place d + 1, as the number of frames whose sums have
-// lower places. Where the setup uses no such place, all frames are due by then.
-pub fn number_within(
-    s: Setup,
-    v: usize,
-    d: usize,
-    buf: &[u8],
-    count: usize,
-    starts: &[u32],
-) -> usize
-    requires { ⌜ (inLimits (setupOf s) ≡ true) × (d < 65536) ⌝ }
-    requires { ⌜ (soundHoldback (setupOf s) v (s .modulus) (now buf) ≡ true) × (count ≡ twoAt (now buf) 0) ⌝ }
-    requires { ⌜ now starts ≡ startsOf (setupOf s) v (now buf) ⌝ }
+// Whether a frame is "due at most d ticks after v", which reads B.
+fn due_within(s: Setup, v: usize, d: usize, frame: &[u8]) -> bool
+    requires { ⌜ (inLimits (setupOf s) ≡ true) × ((v < s .modulus) × (d < 65536)) ⌝ }
+    requires { ⌜ passes (setupOf s) (now frame) ≡ true ⌝ }
+    ensures { λ b. ⌜ b ≡ dueWithin (setupOf s) v d (decode (s .epsilon) (now (frame .entry))) ⌝ }
+{
+    due_of(s, v, frame) <= s.modulus as usize + d
+}
+
+// 02: "the number of frames due at most d ticks after v, stopping at the first one past that": from the front, frame by frame.
+pub fn number_within(s: Setup, v: usize, d: usize, buf: &[u8], count: usize) -> usize
+    requires { ⌜ (inLimits (setupOf s) ≡ true) × ((v < s .modulus) × (d < 65536)) ⌝ }
+    requires { ⌜ (soundHoldback (setupOf s) v (s .modulus) (now buf) ≡ true) × ((2 ≤ length (now buf)) × (count ≡ twoAt (now buf) 0)) ⌝ }
     ensures { λ r. ⌜ r ≡ numberWithin (setupOf s) v d (held (s .epsilon) (now (buf .entry))) ⌝ }
 {
-    let place = d + 1;
-    if used_places(s) <= place {
-        return count;
+    let epsilon = s.epsilon as usize;
+    let mut number = 0;
+    let mut at = 2;
+    while number < count {
+        let next = at + frame::frame_end(epsilon, &buf[at..]);
+        if !due_within(s, v, d, &buf[at..next]) {
+            return number;
+        }
+        at = next;
+        number += 1;
     }
-    starts[place] as usize / START_UNIT
+    number
 }

@@ -41,6 +41,11 @@ coming-all {endOf} {longest} {before} {after} {used} {end} so-far h =
       behind = drop-past used (endOf (take used after)) after before (omega (arith, so-far .ends, so-far .inside)) (so-far .behind);
     }
 
+-- and what stands behind the longest stays
+pub coming-past : {endOf : List ℕ → ℕ} {longest : ℕ} {before after : List ℕ} {used end : ℕ} → Coming endOf longest before after used end → drop longest after ≡ drop longest before
+coming-past {endOf} {longest} {before} {after} {used} so-far =
+    drop-past used longest after before (omega (arith, so-far .inside, so-far .most)) (so-far .behind)
+
 -- some more came in the place that was left for them
 module _ {endOf : List ℕ → ℕ} {longest : ℕ} {before after : List ℕ} {used end : ℕ} (so-far : Coming endOf longest before after used end) (less : used < end) (came : List ℕ) (same : length came ≡ length (midOf used (end - used) after)) where
   fits : end ≤ length after
@@ -76,6 +81,9 @@ module _ {endOf : List ℕ → ℕ} {longest : ℕ} {before after : List ℕ} {u
         inside = omega (arith, later never-past got);
         behind = drop-past end (endOf (take (used + got) next)) next before (later never-past got) next-behind;
       }
+
+  pub cut-past : drop longest (putMid used (end - used) after came) ≡ drop longest before
+  cut-past = drop-past end longest (putMid used (end - used) after came) before (so-far .most) next-behind
 
   -- as many
   pub came-more : NeverPast endOf → (got : ℕ) {next-end : ℕ} → got ≤ length came → end ≤ used + got

@@ -2,7 +2,7 @@
 use Prim.Native.Nat.{ℕ, _+_, _*_, _-_, _≤_}
 use native.Mathlib.Omega.{arith}
 use native.Mathlib.Nat.{mul-le-mul-right}
-use mathlib.Core.Path.{_≡_, sym, ap, ap₂, _∙_}
+use mathlib.Core.Path.{_≡_, ap, ap₂, _∙_}
 use mathlib.Core.List.{List, _++_}
 use lib.ListN.{length, take, drop}
 use borrow.Rule.Slice.PartMut.{midOf, putMid, post-is}
@@ -10,7 +10,9 @@ use Rattle.model.specs.Setup.{Setup}
 use Rattle.model.specs.Tick.{holdbackSize}
 use Rattle.lemmas.proofs.Questions.{limits-from, setup-to}
 use Rattle.splice.specs.Bytes.{pasted}
-use Rattle.playing.specs.Playing.{Prepared}
+use Rattle.trace.specs.Replay.{Turn}
+use Rattle.playing.specs.Playing.{Prepared, Result, resultOf, resultBy}
+use Rattle.playing.specs.declared.Played.{Played}
 use Rattle.rehearsal.specs.Standing.{queueOf, Lent}
 use Rattle.rehearsal.proofs.Players.{queue-within, queue-long, queue-here}
 
@@ -55,6 +57,8 @@ module _ (s : Setup) (at size : ℕ) (holdbacks lines : List ℕ) (lent : Lent s
     pub back-here : queueOf s (putMid (at * size) (at * size + size - at * size) holdbacks q) at ≡ q
     back-here = ap (λ (l : List ℕ). queueOf s l at) back-is ∙ queue-here s holdbacks at q (lent .queues) (lent .member) as-long
 
-    pub back-pasted : putMid (at * size) (at * size + size - at * size) holdbacks q
-        ≡ pasted holdbacks (at * holdbackSize s) (queueOf s (putMid (at * size) (at * size + size - at * size) holdbacks q) at)
-    back-pasted = back-is ∙ ap (pasted holdbacks (at * holdbackSize s)) (sym back-here)
+    -- it is the queue that a turn leaves
+    pub back-pasted : (p : Played) (t : Turn) (lines′ : List ℕ) → resultOf p q lines′ ≡ resultBy t lines
+        → putMid (at * size) (at * size + size - at * size) holdbacks q ≡ pasted holdbacks (at * holdbackSize s) (t .holdback)
+    unfolding resultBy
+    back-pasted p t lines′ turned = back-is ∙ ap (λ (r : Result). pasted holdbacks (at * holdbackSize s) (r .holdback)) turned

@@ -2,8 +2,8 @@
 -- `Labelling` about the labels of its lines, `Figuring` about the closing figures.
 -- `Players` and `Lending` are about the stations and their hold-back queues, `OneStep` about a step that is called, `Beginning` about the group
 -- before the first.
--- `MadeTick` is about the tick that a step is turned into, `MadeStep` about one step and its call, `ByCalls` about all of them and the whole text;
--- `Samples` is a trace of two stations.
+-- `MadeTick` is about the tick that a step is turned into, `MadeStep` about one step and its call, `ByCalls` about all of them and the whole text, refused or
+-- not, `AllCalls` about a trace of which nothing is refused; `Samples` is a trace of two stations.
 pub mod Steps
 pub mod Whole
 pub mod Slots
@@ -17,4 +17,5 @@ pub mod Beginning
 pub mod MadeTick
 pub mod MadeStep
 pub mod ByCalls
+pub mod AllCalls
 pub mod Samples

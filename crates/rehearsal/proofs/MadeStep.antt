@@ -2,7 +2,7 @@
 use Prim.Native.Nat.{ℕ, zero, suc, _<_}
 use native.Mathlib.Omega.{arith}
 use mathlib.Core.Path.{_≡_, refl, sym, ap, subst, _∙_}
-use mathlib.Core.Bool.{true, false}
+use mathlib.Core.Bool.{false, cond}
 use mathlib.Core.List.{List, [], _∷_, _++_, map, map-append}
 use mathlib.Core.Logic.{⊎-elim}
 use mathlib.Core.Option.{Option, some, Option·some-injective}
@@ -20,8 +20,8 @@ use Rattle.trace.specs.Text.{linesOf}
 use Rattle.trace.specs.Trace.{NodeSetup, clockOf, sendOf, payloadOf, batchOf, tickNumber}
 use Rattle.trace.specs.Replay.{Turn, callOf, textBy, calledTurn, turnBy, turn, freshBefore, tablesAt, turnAt}
 use Rattle.rehearsal.specs.Step.{stationOf, tickPart, heardCount, heardNumbers, stepEnd, stepNumber, batchWith, heardFrames, tickWith}
-use Rattle.rehearsal.specs.Group.{Player, Group, newPlayer, labelled, Stepped, stepTurn, playerAfter, groupAfter, calledStep, stepBy, stepped}
-use Rattle.rehearsal.specs.Calls.{firstTick, nodeAt, callFor, doneLines, doneVerdicts}
+use Rattle.rehearsal.specs.Group.{Player, Group, newPlayer, labelledFrom, labelled, Stepped, stepTurn, playerAfter, groupAfter, calledStep, stepBy, stepped}
+use Rattle.rehearsal.specs.Calls.{firstTick, nodeAt, callFor, doneLines, doneVerdicts, doneNumber, callLines}
 use Rattle.rehearsal.proofs.MadeTick.{made-clock, made-send, made-payload, made-batch}
 
 -- a station of the group, and the node that it is in the list of calls, before the steps still to come
@@ -45,20 +45,12 @@ pub record Same (s : Setup) (steps : List (List ℕ)) (group : Group) (w : World
 pub record Made (s : Setup) (rest : List (List ℕ)) (one : Stepped) (w after : World) : Type 0 where
   pub done : Done
   pub past : after .past ≡ w .past ++ (done ∷ [])
-  pub accepted : isAccepted (done .output) ≡ true
-  pub text : one .text ≡ doneLines done
+  pub number : one .number ≡ doneNumber done
+  pub text : one .text ≡ callLines done
   pub verdicts : one .verdicts ≡ doneVerdicts done
   pub same : Same s rest (one .group) after
 
--- ---- what it says that a step is not refused
-
-called-step : (k : ℕ) (s : Setup) (group : Group) (bytes : List ℕ) → stepBy k s group bytes .number ≡ 0 → k ≡ 0
-called-step zero s group bytes e = refl
-called-step (suc k) s group bytes e = e
-
-called-tick : (k : ℕ) (s : NodeSetup) (tables : Timestamp) (holdback bytes : List ℕ) → turnBy k s tables holdback bytes .number ≡ 0 → k ≡ 0
-called-tick zero s tables holdback bytes e = refl
-called-tick (suc k) s tables holdback bytes e = e
+-- ---- the call of a step
 
 -- what a call comes to, as a turn
 abbrev turnFrom : Input → Turn
@@ -86,8 +78,38 @@ call-from :
 unfolding callOf inputOf callFor
 call-from s w bytes node one t h c b d p = rw (t, h, c, b, d, p)
 
+-- a step that is refused before its call
+pub step-halted : (s : Setup) (group : Group) (bytes : List ℕ) (m : ℕ) → stepNumber (s .n) (group .sent) bytes ≡ suc m
+    → stepped s group bytes ≡ record { number = suc m; group = group; verdicts = []; text = [] }
+unfolding stepped
+step-halted s group bytes m e = ap (λ (k : ℕ). stepBy k s group bytes) e
+
+step-called : (s : Setup) (group : Group) (bytes : List ℕ) → stepNumber (s .n) (group .sent) bytes ≡ 0 → stepped s group bytes ≡ calledStep s group bytes (stepTurn s group bytes)
+unfolding stepped
+step-called s group bytes e = ap (λ (k : ℕ). stepBy k s group bytes) e
+
+-- and one that is none of replay's ticks
+pub tick-halted : (s : Setup) (group : Group) (bytes : List ℕ) (m : ℕ) → stepNumber (s .n) (group .sent) bytes ≡ 0 → tickNumber (tickWith (group .sent) bytes) ≡ suc m
+    → (stepped s group bytes .number ≡ suc m) × (stepped s group bytes .text ≡ [])
+unfolding calledStep stepTurn turnAt turn labelled labelledFrom
+tick-halted s group bytes m e h =
+    let mine : NodeSetup = record { setup = s; own = stationOf bytes } in
+    let player : Player = getD (group .stations) (stationOf bytes) (newPlayer s) in
+    let made : List ℕ = tickWith (group .sent) bytes in
+    let turned : stepTurn s group bytes ≡ turnBy (suc m) mine (tablesAt (player .ticks) mine (player .tables) made) (player .holdback) made
+    = ap (λ (k : ℕ). turnBy k mine (tablesAt (player .ticks) mine (player .tables) made) (player .holdback) made) h in
+    let is : stepped s group bytes ≡ calledStep s group bytes (turnBy (suc m) mine (tablesAt (player .ticks) mine (player .tables) made) (player .holdback) made)
+    = step-called s group bytes e ∙ ap (calledStep s group bytes) turned in
+    (ap (λ (one : Stepped). one .number) is, ap (λ (one : Stepped). one .text) is)
+
+-- a text that is there for a call that is not refused, with its label
+labelled-by : (own k : ℕ) (lines : List ℕ) → labelled own (textBy k lines) ≡ cond (eqb k 0) (labelled own lines) []
+unfolding labelled labelledFrom
+labelled-by own zero lines = refl
+labelled-by own (suc k) lines = sym (cond-false (labelled own lines) [] (ne-eqb (suc k) 0 (λ e. omega (arith, e))))
+
 module _ (s : Setup) (group : Group) (w : World) (bytes : List ℕ) (rest : List (List ℕ)) (before : Same s (bytes ∷ rest) group w)
-    (fine : stepped s group bytes .number ≡ 0) where
+    (is-step : stepNumber (s .n) (group .sent) bytes ≡ 0) (is-tick : tickNumber (tickWith (group .sent) bytes) ≡ 0) where
   abbrev own : ℕ
   own = stationOf bytes
 
@@ -109,21 +131,8 @@ module _ (s : Setup) (group : Group) (w : World) (bytes : List ℕ) (rest : List
   abbrev call : Call
   call = callFor s w bytes
 
-  is-step : stepNumber (s .n) (group .sent) bytes ≡ 0
-  unfolding stepped
-  is-step = called-step (stepNumber (s .n) (group .sent) bytes) s group bytes fine
-
   step-is : stepped s group bytes ≡ calledStep s group bytes (stepTurn s group bytes)
-  unfolding stepped
-  step-is = ap (λ (k : ℕ). stepBy k s group bytes) is-step
-
-  turn-fine : stepTurn s group bytes .number ≡ 0
-  unfolding calledStep
-  turn-fine = sym (ap (λ (one : Stepped). one .number) step-is) ∙ fine
-
-  is-tick : tickNumber bundle ≡ 0
-  unfolding stepTurn turnAt turn
-  is-tick = called-tick (tickNumber bundle) mine tables (player .holdback) bundle turn-fine
+  step-is = step-called s group bytes is-step
 
   turn-is : stepTurn s group bytes ≡ turnFrom (callOf mine tables (player .holdback) bundle)
   unfolding stepTurn turnAt turn
@@ -174,9 +183,6 @@ module _ (s : Setup) (group : Group) (w : World) (bytes : List ℕ) (rest : List
   output-is : outputOf node call ≡ tick (inputOf node call)
   unfolding outputOf
   output-is = cond-false _ (tick (inputOf node call)) (alike .station)
-
-  number-is : tick (inputOf node call) .answer .number ≡ 0
-  number-is = sym (ap (λ (one : Turn). one .number) turn-same) ∙ turn-fine
 
   -- ---- what the call leaves
 
@@ -264,18 +270,25 @@ module _ (s : Setup) (group : Group) (w : World) (bytes : List ℕ) (rest : List
 
   -- ---- its lines, and the verdicts of what it heard
 
-  lines-are : labelled own (linesOf (inputOf node call) (outputOf node call)) ≡ doneLines done
-  unfolding doneLines doneOf linesOf inputOf callFor
+  lines-are : cond (eqb (outputOf node call .answer .number) 0) (labelled own (linesOf (inputOf node call) (outputOf node call))) [] ≡ callLines done
+  unfolding callLines isAccepted doneLines doneOf linesOf inputOf callFor
   lines-are = refl
 
-  text-is : stepped s group bytes .text ≡ doneLines done
+  text-is : stepped s group bytes .text ≡ callLines done
   unfolding calledStep
   text-is =
       ap (λ (one : Stepped). one .text) step-is
       ∙ ap (λ (one : Turn). labelled own (one .text)) turn-same
-      ∙ ap (λ (k : ℕ). labelled own (textBy k (linesOf (inputOf node call) (tick (inputOf node call))))) number-is
-      ∙ ap (λ (o : Output). labelled own (linesOf (inputOf node call) o)) (sym output-is)
+      ∙ ap (λ (o : Output). labelled own (textBy (o .answer .number) (linesOf (inputOf node call) o))) (sym output-is)
+      ∙ labelled-by own (outputOf node call .answer .number) (linesOf (inputOf node call) (outputOf node call))
       ∙ lines-are
+
+  number-is : stepped s group bytes .number ≡ doneNumber done
+  unfolding calledStep doneOf
+  number-is =
+      ap (λ (one : Stepped). one .number) step-is
+      ∙ ap (λ (one : Turn). one .number) turn-same
+      ∙ ap (λ (o : Output). o .answer .number) (sym output-is)
 
   heard-are : heardCount bytes ≡ length (call .sources)
   unfolding callFor heardNumbers
@@ -290,12 +303,11 @@ module _ (s : Setup) (group : Group) (w : World) (bytes : List ℕ) (rest : List
       ∙ ap (λ (k : ℕ). take k (outputOf node call .verdicts)) heard-are
 
   pub step-made : Made s rest (stepped s group bytes) w (act w call)
-  unfolding isAccepted doneOf
   step-made =
       record {
         done = done;
         past = ap (λ (x : World). x .past) act-is;
-        accepted = eq-eqb (outputOf node call .answer .number) 0 (ap (λ (o : Output). o .answer .number) output-is ∙ number-is);
+        number = number-is;
         text = text-is;
         verdicts = verdicts-are;
         same = subst (Same s rest (stepped s group bytes .group)) (sym act-is) (subst (λ (y : Group). Same s rest y worldThen) (sym group-is) same-after);

@@ -28,7 +28,7 @@ use Rattle.playing.proofs.Turns.{result-within, result-among, result-sent}
 use Rattle.rehearsal.specs.Step.{stationOf, heardCount, stepNumber, tickWith}
 use Rattle.rehearsal.specs.Group.{Player, Group, newPlayer, labelled, Stepped, stepTurn, playerAfter, groupAfter, calledStep, stepBy, stepped}
 use Rattle.rehearsal.specs.Views.{sentOf, withFrame}
-use Rattle.rehearsal.specs.Standing.{playerOf, noStation, stationAt, queueOf, playersOf, groupOf, movedBy, Standing, Called, Lent, calledBy, Outcome, outcomeOf, outcomeBy, notCalledBy}
+use Rattle.rehearsal.specs.Standing.{playerOf, noStation, stationAt, queueOf, playersOf, groupOf, movedBy, Standing, Called, Lent, calledBy, Outcome, outcomeOf, outcomeBy, notCalledBy, stationBy, leftOf, leftCalled, leftBy, stepLeft}
 use Rattle.rehearsal.specs.declared.step.Rehearsal.{Rehearsal}
 use Rattle.rehearsal.specs.declared.step.Rehearsed.{Rehearsed}
 use Rattle.rehearsal.proofs.Slots.{length-sent, keeps-sent, keeps-kept, step-station}
@@ -58,6 +58,13 @@ same-group e g = rw (e, g)
 same-outcome : {n n′ : ℕ} {y y′ : Group} {v v′ : List ℕ} {k k′ : ℕ} {t t′ : List ℕ} → n ≡ n′ → y ≡ y′ → v ≡ v′ → k ≡ k′ → t ≡ t′
     → _≡_ {A = Outcome} (record { number = n; group = y; verdicts = v; size = k; text = t }) (record { number = n′; group = y′; verdicts = v′; size = k′; text = t′ })
 same-outcome e f g h i = rw (e, f, g, h, i)
+
+same-answer : {n n′ : ℕ} {y y′ : Rehearsal} {h h′ : ℕ} {v v′ : List ℕ} {k k′ : ℕ} → n ≡ n′ → y ≡ y′ → h ≡ h′ → v ≡ v′ → k ≡ k′
+    → _≡_ {A = Rehearsed} (record { number = n; group = y; heard = h; verdicts = v; size = k }) (record { number = n′; group = y′; heard = h′; verdicts = v′; size = k′ })
+same-answer e f g h i = rw (e, f, g, h, i)
+
+same-left : {r r′ : Rehearsed} {q q′ f f′ t t′ : List ℕ} → r ≡ r′ → q ≡ q′ → f ≡ f′ → t ≡ t′ → leftOf r q f t ≡ leftOf r′ q′ f′ t′
+same-left e f g h = rw (e, f, g, h)
 
 -- ---- the station of a step
 
@@ -121,7 +128,7 @@ module _ (s : Setup) (y : Rehearsal) (holdbacks slots bytes : List ℕ) (called 
     -- ---- what it leaves
 
     module _ (ticked : p .station .ticks ≡ suc (stationAt y (stationOf bytes) .ticks))
-        (back : holdbacks′ ≡ pasted holdbacks (stationOf bytes * holdbackSize s) (queueOf s holdbacks′ (stationOf bytes)))
+        (back : holdbacks′ ≡ pasted holdbacks (stationOf bytes * holdbackSize s) (stepTurn s (groupOf s y holdbacks slots) bytes .holdback))
         (long : length holdbacks′ ≡ length holdbacks) (fits : p .sent ≤ 71) {slots′ : List ℕ}
         (stored : slots′ ≡ withFrame slots (y .steps) (take (p .sent) (p .outgoing))) {y′ : Rehearsal} (moves : y′ ≡ movedBy y (stationOf bytes) (p .station)) where
       still : s .n * holdbackSize s ≤ length holdbacks′
@@ -138,8 +145,10 @@ module _ (s : Setup) (y : Rehearsal) (holdbacks slots bytes : List ℕ) (called 
 
       stations-are : playersOf s (set (y .stations) (stationOf bytes) (p .station)) holdbacks′
           ≡ set (playersOf s (y .stations) holdbacks) (stationOf bytes) (playerOf (p .station) (queueOf s holdbacks′ (stationOf bytes)))
+      unfolding resultBy
       stations-are =
-          ap (playersOf s (set (y .stations) (stationOf bytes) (p .station))) back
+          ap (playersOf s (set (y .stations) (stationOf bytes) (p .station)))
+          (back ∙ ap (λ (r : Result). pasted holdbacks (stationOf bytes * holdbackSize s) (r .holdback)) (sym turned))
           ∙ players-set s holdbacks (stationOf bytes) (queueOf s holdbacks′ (stationOf bytes)) (called .standing .queues) member
           (queue-long s holdbacks′ (stationOf bytes) still member) (y .stations) (p .station) (omega (arith, place, called .standing .places))
 
@@ -203,6 +212,22 @@ module _ (s : Setup) (y : Rehearsal) (holdbacks slots bytes : List ℕ) (called 
           (put .ends ∙ zero-add (length (labelled (stationOf bytes) (take (p .size) lines′))) ∙ ap (λ (l : List ℕ). length (labelled (stationOf bytes) l)) lines-are)
           (put-overlay put ∙ ap (λ (l : List ℕ). overlay (labelled (stationOf bytes) l) text) lines-are)
 
+      station-is : p .station ≡ stationBy (suc (stationAt y (stationOf bytes) .ticks)) (stepTurn s (groupOf s y holdbacks slots) bytes .tables)
+      unfolding resultBy
+      station-is = ap₂ stationBy ticked (ap (λ (r : Result). r .tables) turned)
+
+      -- every byte
+      pub left-is : {heard size : ℕ} {text text′ : List ℕ} → heard ≡ heardCount bytes
+          → Put text 0 (labelled (stationOf bytes) (take (p .size) lines′)) text′ size
+          → leftOf (record { number = p .number; group = y′; heard = heard; verdicts = p .verdicts; size = size }) holdbacks′ slots′ text′
+          ≡ leftCalled s y holdbacks slots bytes text (stepTurn s (groupOf s y holdbacks slots) bytes)
+      unfolding leftCalled resultBy
+      left-is {heard} {size} {text} {text′} h put =
+          same-left
+          (same-answer (ap (λ (r : Result). r .number) turned) (moves ∙ ap (movedBy y (stationOf bytes)) station-is) h (ap (λ (r : Result). r .verdicts) turned)
+          (put .ends ∙ zero-add (length (labelled (stationOf bytes) (take (p .size) lines′))) ∙ ap (λ (l : List ℕ). length (labelled (stationOf bytes) l)) lines-are))
+          back (stored ∙ ap (withFrame slots (y .steps)) frame-is) (put-overlay put ∙ ap (λ (l : List ℕ). overlay (labelled (stationOf bytes) l) text) lines-are)
+
 -- ---- and one that is not
 
 module _ (s : Setup) (y : Rehearsal) (holdbacks slots bytes : List ℕ) where
@@ -216,6 +241,18 @@ module _ (s : Setup) (y : Rehearsal) (holdbacks slots bytes : List ℕ) where
   unfolding stepped groupOf outcomeBy overlay
   not-called-is zero text e some = absurd (some refl)
   not-called-is (suc k) text e some = ap (λ (m : ℕ). outcomeBy (stepBy m s (groupOf s y holdbacks slots) bytes) text) e
+
+  -- every byte
+  pub left-called : {number : ℕ} (text : List ℕ) → number ≡ stepNumber (s .n) (sentOf (y .steps) slots) bytes → number ≡ 0
+      → leftCalled s y holdbacks slots bytes text (stepTurn s (groupOf s y holdbacks slots) bytes) ≡ stepLeft s y holdbacks slots bytes text
+  unfolding stepLeft
+  left-called text e z = ap (λ (m : ℕ). leftBy m s y holdbacks slots bytes text) (sym z ∙ e)
+
+  pub left-not-called : (number : ℕ) (text : List ℕ) → number ≡ stepNumber (s .n) (sentOf (y .steps) slots) bytes → (number ≡ 0 → ⊥)
+      → leftOf (notCalledBy number y) holdbacks slots text ≡ stepLeft s y holdbacks slots bytes text
+  unfolding stepLeft
+  left-not-called zero text e some = absurd (some refl)
+  left-not-called (suc k) text e some = ap (λ (m : ℕ). leftBy m s y holdbacks slots bytes text) e
 
 pub step-among : (n : ℕ) (sent : List (List ℕ)) (bytes : List ℕ) → among runNumbers (stepNumber n sent bytes) ≡ true
 unfolding among any stepNumber

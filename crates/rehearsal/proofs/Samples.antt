@@ -1,10 +1,11 @@
 -- 02, 2.8: a trace of two stations, computed from the definitions: nothing of it is refused, so the premises of `by-calls` and `text-by-calls`
--- can be met. Assumes nothing.
+-- can be met. And traces that are refused, with what is called of them. Assumes nothing.
 use Prim.Native.Nat.{ℕ, _+_}
 use mathlib.Core.Path.{_≡_, refl, sym, _∙_}
 use mathlib.Core.List.{List, [], _∷_, _++_, map}
 use Rattle.laws.specs.Lists.{joined}
 use Rattle.model.specs.Setup.{Setup}
+use Rattle.model.specs.Run.{inputOf, isAccepted, movedClock, nodeAfter, outputOf, doneOf, act, atStart, messageBytes}
 use Rattle.model.proofs.Computing.{computing}
 use Rattle.text.specs.Text.{glyph, digits, countBy, digitCount, decimal, field}
 use Rattle.trace.specs.Text.{hexByte, fields, flag, tickLine, payloadText, payloadTail, reasonTail, giveText, giveLine, giveAfter, givesAfter, givesOf, giveLines, tickLines, linesOf, refusedLine}
@@ -30,13 +31,18 @@ use Rattle.rehearsal.specs.Step.{stepsNumber, stationOf, tickPart, heard
 use Rattle.rehearsal.specs.Group.{newPlayer, newGroup, labelledFrom, labelled, stepTurn, playerAfter, groupAfter, calledStep, stepped}
 use Rattle.rehearsal.specs.Figures.{refusedIn, firstRefused, figureLine, figureLines}
 use Rattle.rehearsal.specs.Rehearsal.{rehearseSteps, rehearseFrom, groupSetup, rehearsal}
-use Rattle.rehearsal.specs.Calls.{stepsIn, madeOf, doneLines, doneVerdicts, steppedAll, unrefused, behindSteps, Unrefused}
-use Rattle.rehearsal.proofs.ByCalls.{text-by-calls}
+use Rattle.rehearsal.specs.Calls.{stepsIn, firstTick, nodeAt, groupNodes, lastClock, callFor, groupStart, madeOf, doneLines, doneVerdicts, doneNumber, latestNumber, callsMade, runOf, steppedAll, unrefused, behindSteps, Unrefused}
+use Rattle.rehearsal.proofs.AllCalls.{text-by-calls}
 
 -- every definition of the rehearsal, opened at once
 unfoldable rehearsing : Unit {0}
 unfolding computing glyph digits countBy digitCount decimal field hexByte fields flag tickLine payloadText payloadTail reasonTail giveText giveLine giveAfter givesAfter givesOf giveLines tickLines linesOf refusedLine traceSetup setupNumber tickCount endNumber oneBefore clockOf sendByte payloadSize payloadOf batchAt entriesSize tickEnd batchOf tickNumber sendOf callOf calledTurn turn freshBefore tablesAt turnAt stepsNumber stationOf tickPart heardAt heardCount heardNumber heardNumbers stepEnd isSent stepNumber heardFrames tickWith newPlayer newGroup labelledFrom labelled stepTurn playerAfter groupAfter calledStep stepped refusedIn firstRefused figureLine figureLines rehearseSteps rehearseFrom groupSetup rehearsal stepsIn steppedAll unrefused behindSteps
 rehearsing = tt
+
+-- and every one of the calls that it stands for
+unfoldable calling : Unit {0}
+unfolding inputOf isAccepted movedClock nodeAfter outputOf doneOf act atStart messageBytes firstTick nodeAt groupNodes lastClock callFor groupStart latestNumber callsMade runOf
+calling = tt
 
 -- n 2, ε 2, δ 1, B 14
 abbrev setup : Setup
@@ -108,6 +114,19 @@ abbrev dashes : List ℕ
 dashes =
     49 ∷ 48 ∷ 32 ∷ 45 ∷ 10 ∷ 49 ∷ 49 ∷ 32 ∷ 45 ∷ 10 ∷ 49 ∷ 50 ∷ 32 ∷ 45 ∷ 10 ∷ 49 ∷ 51 ∷ 32 ∷ 45 ∷ 10 ∷ 49 ∷ 52 ∷ 32 ∷ 45 ∷ 10 ∷ 49 ∷ 53 ∷ 32 ∷ 45 ∷ 10 ∷ 49 ∷ 54 ∷ 32 ∷ 45 ∷ 10 ∷ []
 
+-- station 0 sends at clock 1; then its clock is not below B, or the station not below n; and it would go on
+abbrev sends : List ℕ
+sends = 0 ∷ 1 ∷ 0 ∷ 1 ∷ 0 ∷ 0 ∷ []
+
+abbrev late : List ℕ
+late = 0 ∷ 14 ∷ 0 ∷ 0 ∷ 0 ∷ 0 ∷ []
+
+abbrev foreign : List ℕ
+foreign = 2 ∷ 2 ∷ 0 ∷ 0 ∷ 0 ∷ 0 ∷ []
+
+abbrev after : List ℕ
+after = 0 ∷ 2 ∷ 0 ∷ 0 ∷ 0 ∷ 0 ∷ []
+
 pub record Refusals : Type 0 where
   -- 02: "A trace of more steps" than 1,000; "whose station is not below n"
   pub many-steps : rehearsal (2 ∷ 2 ∷ 1 ∷ 14 ∷ 0 ∷ 233 ∷ 3 ∷ []) ≡ refused 5
@@ -125,6 +144,9 @@ pub record Refusals : Type 0 where
   pub bad-send : rehearsal (2 ∷ 2 ∷ 1 ∷ 14 ∷ 0 ∷ 1 ∷ 0 ∷ 0 ∷ 1 ∷ 0 ∷ 2 ∷ 0 ∷ 0 ∷ []) ≡ refused 5
   pub late-clock : rehearsal (2 ∷ 2 ∷ 1 ∷ 14 ∷ 0 ∷ 1 ∷ 0 ∷ 0 ∷ 14 ∷ 0 ∷ 0 ∷ 0 ∷ 0 ∷ []) ≡ refused 2
   pub overlong : rehearsal (2 ∷ 2 ∷ 1 ∷ 14 ∷ 0 ∷ 0 ∷ 0 ∷ 9 ∷ []) ≡ refused 5
+  -- the lines up to there, and nothing behind: a call that is refused, a step that is refused before its call, each with a step behind it
+  pub late-second : rehearsal (2 ∷ 2 ∷ 1 ∷ 14 ∷ 0 ∷ 3 ∷ 0 ∷ sends ++ (late ++ after)) ≡ loud ++ refused 2
+  pub foreign-second : rehearsal (2 ∷ 2 ∷ 1 ∷ 14 ∷ 0 ∷ 3 ∷ 0 ∷ sends ++ (foreign ++ after)) ≡ loud ++ refused 5
   -- "seven lines after an unrefused run", of no steps
   pub no-steps : rehearsal (2 ∷ 2 ∷ 1 ∷ 14 ∷ 0 ∷ 0 ∷ 0 ∷ []) ≡ dashes
 
@@ -145,5 +167,19 @@ refusals =
       bad-send = refl;
       late-clock = refl;
       overlong = refl;
+      late-second = refl;
+      foreign-second = refl;
       no-steps = refl;
     }
+
+-- by their calls: the call that is refused is the last one made; a step that is refused before its call is not called
+pub record Stops : Type 0 where
+  pub by-call : runOf setup (sends ∷ late ∷ after ∷ []) .called ≡ sends ∷ late ∷ []
+  pub by-call-with : runOf setup (sends ∷ late ∷ after ∷ []) .number ≡ 2
+  pub by-call-answered : map doneNumber (runOf setup (sends ∷ late ∷ after ∷ []) .world .past) ≡ 0 ∷ 2 ∷ []
+  pub before-call : runOf setup (sends ∷ foreign ∷ after ∷ []) .called ≡ sends ∷ []
+  pub before-call-with : runOf setup (sends ∷ foreign ∷ after ∷ []) .number ≡ 5
+
+pub stops : Stops
+unfolding rehearsing calling
+stops = record { by-call = refl; by-call-with = refl; by-call-answered = refl; before-call = refl; before-call-with = refl }

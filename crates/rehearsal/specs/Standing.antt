@@ -1,20 +1,22 @@
 -- What the code keeps of a group, in the terms of `Group`, and what a step asks of it and leaves. Assumes nothing.
-use Prim.Native.Nat.{ℕ, suc, _*_, _≤_, _<_}
+use Prim.Native.Nat.{ℕ, zero, suc, _*_, _≤_, _<_}
 use mathlib.Core.Path.{_≡_}
 use mathlib.Core.Bool.{true}
 use mathlib.Core.List.{List, []}
 use lib.ListN.{length, take, getD, set, replicate}
 use Rattle.laws.specs.Lists.{tab, overlay}
 use Rattle.model.specs.Setup.{Setup, inLimits, widest, verdictLength}
+use Rattle.model.specs.Timestamp.{Timestamp}
 use Rattle.model.specs.Tick.{holdbackSize}
-use Rattle.splice.specs.Bytes.{part}
+use Rattle.splice.specs.Bytes.{pasted, part}
 use Rattle.timestamp.specs.Views.{stampOf}
 use Rattle.stations.specs.declared.Station.{Station}
 use Rattle.trace.specs.Trace.{largestHoldback}
+use Rattle.trace.specs.Replay.{Turn}
 use Rattle.playing.specs.Playing.{textRoom}
-use Rattle.rehearsal.specs.Step.{stepNumber}
-use Rattle.rehearsal.specs.Group.{Player, Group, Stepped, stepTurn, calledStep}
-use Rattle.rehearsal.specs.Views.{sentOf, Kept}
+use Rattle.rehearsal.specs.Step.{stationOf, heardCount, stepNumber}
+use Rattle.rehearsal.specs.Group.{Player, Group, labelled, Stepped, stepTurn, calledStep}
+use Rattle.rehearsal.specs.Views.{sentOf, Kept, withFrame}
 use Rattle.rehearsal.specs.declared.step.Rehearsal.{Rehearsal}
 use Rattle.rehearsal.specs.declared.step.Rehearsed.{Rehearsed}
 
@@ -112,3 +114,46 @@ outcomeBy one text =
 -- what a step answers that is not called
 abbrev pub notCalledBy : ℕ → Rehearsal → Rehearsed
 notCalledBy number group = record { number = number; group = group; heard = 0; verdicts = replicate verdictLength 0; size = 0 }
+
+-- ---- every byte that a step leaves
+
+-- a station that has had so many ticks, with the tables that the latest left
+abbrev pub stationBy : ℕ → Timestamp → Station
+stationBy ticks tables = record { ticks = ticks; tables = record { r = tables .r; c = tables .c; kn = tables .kn } }
+
+-- what a step answers that is called: of the list one station is replaced, and all verdict bytes are the tick's
+abbrev pub answerBy : Rehearsal → List ℕ → Turn → Rehearsed
+answerBy y bytes one =
+    record {
+      number = one .number;
+      group = movedBy y (stationOf bytes) (stationBy (suc (stationAt y (stationOf bytes) .ticks)) (one .tables));
+      heard = heardCount bytes;
+      verdicts = one .verdicts;
+      size = length (labelled (stationOf bytes) (one .text));
+    }
+
+-- what a step answers, and the buffers that it was lent, as it left them
+pub record Left : Type 0 where
+  pub answer : Rehearsed
+  pub holdbacks : List ℕ
+  pub slots : List ℕ
+  pub text : List ℕ
+
+abbrev pub leftOf : Rehearsed → List ℕ → List ℕ → List ℕ → Left
+leftOf answer holdbacks slots text = record { answer = answer; holdbacks = holdbacks; slots = slots; text = text }
+
+-- a step that is called writes the hold-back queue of its station, the entry of its frame and its lines; every other byte stays
+unfoldable pub leftCalled : Setup → Rehearsal → List ℕ → List ℕ → List ℕ → List ℕ → Turn → Left
+leftCalled s y holdbacks slots bytes text one =
+    leftOf (answerBy y bytes one) (pasted holdbacks (stationOf bytes * holdbackSize s) (one .holdback))
+    (withFrame slots (y .steps) (take (one .sent) (one .outgoing))) (overlay (labelled (stationOf bytes) (one .text)) text)
+
+-- bytes that are no step of this group are not called: every byte stays
+abbrev pub leftBy : ℕ → Setup → Rehearsal → List ℕ → List ℕ → List ℕ → List ℕ → Left
+leftBy zero s y holdbacks slots bytes text =
+    leftCalled s y holdbacks slots bytes text (stepTurn s (groupOf s y holdbacks slots) bytes)
+leftBy (suc k) s y holdbacks slots bytes text = leftOf (notCalledBy (suc k) y) holdbacks slots text
+
+-- one step
+unfoldable pub stepLeft : Setup → Rehearsal → List ℕ → List ℕ → List ℕ → List ℕ → Left
+stepLeft s y holdbacks slots bytes text = leftBy (stepNumber (s .n) (sentOf (y .steps) slots) bytes) s y holdbacks slots bytes text

@@ -27,7 +27,7 @@ ghost use Rattle.trace.specs.Replay.{turnAt};
 ghost use Rattle.playing.specs.Playing.{textRoom, resultOf, resultBy, among, runNumbers};
 ghost use Rattle.rehearsal.specs.Step.{stationOf};
 ghost use Rattle.rehearsal.specs.Group.{stepTurn, stepped};
-ghost use Rattle.rehearsal.specs.Standing.{newRehearsal, queueOf, stationAt, groupOf, movedBy, Standing, Called, Lent, calledBy, outcomeOf, outcomeBy, notCalledBy};
+ghost use Rattle.rehearsal.specs.Standing.{newRehearsal, queueOf, stationAt, groupOf, movedBy, Standing, Called, Lent, calledBy, outcomeOf, outcomeBy, notCalledBy, leftOf, leftCalled, stepLeft};
 
 // The group so far, beside the buffers.
 pub struct Rehearsal {
@@ -79,7 +79,8 @@ fn play_at(
     ensures { λ r. ⌜ r .station .ticks ≡ suc (station .ticks) ⌝ }
     ensures { λ r. ⌜ resultOf r (queueOf (setupOf setup) (now (holdbacks .exit)) at) (now (lines .exit))
         ≡ resultBy (turnAt (station .ticks) (record { setup = setupOf setup; own = at }) (stampOf (station .tables)) (queueOf (setupOf setup) (now (holdbacks .entry)) at) (now (tick .entry))) (now (lines .entry)) ⌝ }
-    ensures { λ r. ⌜ now (holdbacks .exit) ≡ pasted (now (holdbacks .entry)) (at * holdbackSize (setupOf setup)) (queueOf (setupOf setup) (now (holdbacks .exit)) at) ⌝ }
+    ensures { λ r. ⌜ now (holdbacks .exit) ≡ pasted (now (holdbacks .entry)) (at * holdbackSize (setupOf setup))
+        (turnAt (station .ticks) (record { setup = setupOf setup; own = at }) (stampOf (station .tables)) (queueOf (setupOf setup) (now (holdbacks .entry)) at) (now (tick .entry)) .holdback) ⌝ }
 {
     let size = holdback_length(
         setup.n as usize,
@@ -114,8 +115,8 @@ fn play_step(
     ensures { λ r. ⌜ r .station .ticks ≡ suc (stationAt group (stationOf (now (bytes .entry))) .ticks) ⌝ }
     ensures { λ r. ⌜ resultOf r (queueOf (setupOf setup) (now (holdbacks .exit)) (stationOf (now (bytes .entry)))) (now (lines .exit))
         ≡ resultBy (stepTurn (setupOf setup) (groupOf (setupOf setup) group (now (holdbacks .entry)) (now (slots .entry))) (now (bytes .entry))) (now (lines .entry)) ⌝ }
-    ensures { λ r. ⌜ now (holdbacks .exit)
-        ≡ pasted (now (holdbacks .entry)) (stationOf (now (bytes .entry)) * holdbackSize (setupOf setup)) (queueOf (setupOf setup) (now (holdbacks .exit)) (stationOf (now (bytes .entry)))) ⌝ }
+    ensures { λ r. ⌜ now (holdbacks .exit) ≡ pasted (now (holdbacks .entry)) (stationOf (now (bytes .entry)) * holdbackSize (setupOf setup))
+        (stepTurn (setupOf setup) (groupOf (setupOf setup) group (now (holdbacks .entry)) (now (slots .entry))) (now (bytes .entry)) .holdback) ⌝ }
 {
     let mut tick = [0u8; 18620];
     let end = put_tick(&mut tick, bytes, slots, group.steps);
@@ -137,7 +138,8 @@ fn moved(group: Rehearsal, at: usize, station: Station) -> Rehearsal
     }
 }
 
-// A step that can be called. Its lines are written at the start of `text`.
+// A step that can be called. Its lines are written at the start of `text`. Every byte that it leaves is
+// promised, then what that is in the terms of a group.
 fn call_step(
     setup: Setup,
     group: Rehearsal,
@@ -148,6 +150,9 @@ fn call_step(
 ) -> Rehearsed
     requires { ⌜ Called (setupOf setup) group (now holdbacks) (now slots) (now bytes) ⌝ }
     requires { ⌜ 4 * textRoom ≤ length (now text) ⌝ }
+    ensures { λ r. ⌜ leftOf r (now (holdbacks .exit)) (now (slots .exit)) (now (text .exit))
+        ≡ leftCalled (setupOf setup) group (now (holdbacks .entry)) (now (slots .entry)) (now (bytes .entry)) (now (text .entry))
+        (stepTurn (setupOf setup) (groupOf (setupOf setup) group (now (holdbacks .entry)) (now (slots .entry))) (now (bytes .entry))) ⌝ }
     ensures { λ r. ⌜ outcomeOf (setupOf setup) r (now (holdbacks .exit)) (now (slots .exit)) (now (text .exit))
         ≡ outcomeBy (calledBy (setupOf setup) (groupOf (setupOf setup) group (now (holdbacks .entry)) (now (slots .entry))) (now (bytes .entry))) (now (text .entry)) ⌝ }
     ensures { λ r. ⌜ Standing (setupOf setup) (r .group) (now (holdbacks .exit)) (now (slots .exit)) ⌝ }
@@ -183,7 +188,8 @@ fn not_called(number: u8, group: Rehearsal) -> Rehearsed
     }
 }
 
-// One step of a group, given by its `bytes`. Its lines are written at the start of `text`.
+// One step of a group, given by its `bytes`. Its lines are written at the start of `text`. Every byte
+// that it leaves is promised, then what that is in the terms of a group.
 pub fn rehearse_step(
     setup: Setup,
     group: Rehearsal,
@@ -194,6 +200,8 @@ pub fn rehearse_step(
 ) -> Rehearsed
     requires { ⌜ Standing (setupOf setup) group (now holdbacks) (now slots) ⌝ }
     requires { ⌜ (group .steps < 1000) × (4 * textRoom ≤ length (now text)) ⌝ }
+    ensures { λ r. ⌜ leftOf r (now (holdbacks .exit)) (now (slots .exit)) (now (text .exit))
+        ≡ stepLeft (setupOf setup) group (now (holdbacks .entry)) (now (slots .entry)) (now (bytes .entry)) (now (text .entry)) ⌝ }
     ensures { λ r. ⌜ outcomeOf (setupOf setup) r (now (holdbacks .exit)) (now (slots .exit)) (now (text .exit))
         ≡ outcomeBy (stepped (setupOf setup) (groupOf (setupOf setup) group (now (holdbacks .entry)) (now (slots .entry))) (now (bytes .entry))) (now (text .entry)) ⌝ }
     ensures { λ r. ⌜ Standing (setupOf setup) (r .group) (now (holdbacks .exit)) (now (slots .exit)) ⌝ }

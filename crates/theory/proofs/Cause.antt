@@ -2,28 +2,27 @@
 -- Assumes nothing.
 use Prim.Native.Nat.{ℕ, _+_, _-_, _≤_, _<_, Ordering·lt}
 use native.Mathlib.Omega.{arith}
-use mathlib.Core.Path.{_≡_, sym, _∙_, ap}
+use mathlib.Core.Path.{_≡_, sym, _∙_}
 use mathlib.Core.Logic.{inl, inr}
 use mathlib.Core.List.{List, _++_}
 use lib.ListN.{length, getD}
-use Rattle.laws.specs.Lists.{placedAt}
 use Rattle.laws.specs.Lex.{lexCompare}
 use Rattle.laws.proofs.Numbers.{lt-or-ge}
 use Rattle.laws.proofs.Lists.{getD-tab}
 use Rattle.laws.proofs.Lex.{lex-head-lt, lex-head-eq, lex-append, lex-dominated}
 use Rattle.model.specs.Setup.{Setup}
-use Rattle.model.specs.Timestamp.{Timestamp, sum}
+use Rattle.model.specs.Timestamp.{Timestamp, countAt, sum}
 use Rattle.model.specs.Frame.{Frame}
 use Rattle.model.specs.Order.{keyBy, key, countsDown}
 use Rattle.lemmas.proofs.Bounds.{Sound}
-use Rattle.lemmas.proofs.Counts.{count-index, length-down, down-counts}
+use Rattle.lemmas.proofs.Counts.{count-moved, length-down}
 
 -- entry k of the counts of a key is for the clock k below the sum
-counts-down-at : (epsilon R : ℕ) (t : Timestamp) (k : ℕ) → k < epsilon → getD (countsDown epsilon t) k 0 ≡ placedAt R (t .kn) (R + t .c + epsilon - k)
-counts-down-at epsilon R t k h =
-    ap (λ (l : List ℕ). getD l k 0) (down-counts epsilon t)
-    ∙ getD-tab epsilon (λ k. placedAt 0 (t .kn) (epsilon + t .c - k)) k 0 h
-    ∙ sym (count-index R (t .kn) (R + t .c + epsilon - k) (epsilon + t .c - k) (omega arith))
+counts-down-at : (epsilon R : ℕ) (t : Timestamp) (k : ℕ) → k < epsilon → k ≤ R + t .c → getD (countsDown epsilon t) k 0 ≡ countAt epsilon R (t .kn) (R + t .c - k)
+unfolding countsDown countAt
+counts-down-at epsilon R t k h le =
+    getD-tab epsilon (λ k. countAt epsilon epsilon (t .kn) (epsilon + t .c - k)) k 0 h
+    ∙ count-moved epsilon R (t .kn) (epsilon + t .c - k + epsilon) (R + t .c - k + epsilon) (omega arith)
 
 -- lists of one length of which the first comes first, whatever follows
 -- general
@@ -33,22 +32,21 @@ lex-append-lt a b c d e h = lex-append a b c d e ∙ rw h
 pub counts-down-first :
     (n epsilon R R′ : ℕ) (t t′ : Timestamp) → Sound n epsilon t → Sound n epsilon t′
     → R + t .c ≡ R′ + t′ .c
-    → ((w : ℕ) → R′ < w → placedAt R (t .kn) w ≤ placedAt R′ (t′ .kn) w)
-    → placedAt R (t .kn) (R′ + epsilon) < placedAt R′ (t′ .kn) (R′ + epsilon)
+    → ((x : ℕ) → R′ ≤ x → countAt epsilon R (t .kn) x ≤ countAt epsilon R′ (t′ .kn) x)
+    → countAt epsilon R (t .kn) R′ < countAt epsilon R′ (t′ .kn) R′
     → lexCompare (countsDown epsilon t) (countsDown epsilon t′) ≡ Ordering·lt
 counts-down-first n epsilon R R′ t t′ s s′ e le lt =
-    let W : R + t .c + epsilon ≡ R′ + t′ .c + epsilon = omega arith in
-    let at-own : R′ + t′ .c + epsilon - t′ .c ≡ R′ + epsilon = omega arith in
+    let at-own : R′ + t′ .c - t′ .c ≡ R′ = omega arith in
     lex-dominated (countsDown epsilon t) (countsDown epsilon t′) (t′ .c)
-    (λ i h. rw (counts-down-at epsilon R t i (omega arith), counts-down-at epsilon R′ t′ i (omega arith), W)
-    (le (R′ + t′ .c + epsilon - i) (omega arith)))
-    (rw (counts-down-at epsilon R t (t′ .c) (s′ .close), counts-down-at epsilon R′ t′ (t′ .c) (s′ .close), W, at-own) lt)
+    (λ i h. rw (counts-down-at epsilon R t i (omega arith) (omega arith), counts-down-at epsilon R′ t′ i (omega arith) (omega arith), e)
+    (le (R′ + t′ .c - i) (omega arith)))
+    (rw (counts-down-at epsilon R t (t′ .c) (s′ .close) (omega arith), counts-down-at epsilon R′ t′ (t′ .c) (s′ .close) (omega arith), e, at-own) lt)
 
 pub cause-first :
     (s : Setup) (R R′ : ℕ) (f f′ : Frame) → Sound (s .n) (s .epsilon) (f .stamp) → Sound (s .n) (s .epsilon) (f′ .stamp)
     → R + f .stamp .c ≤ R′ + f′ .stamp .c
-    → ((w : ℕ) → R′ < w → placedAt R (f .stamp .kn) w ≤ placedAt R′ (f′ .stamp .kn) w)
-    → placedAt R (f .stamp .kn) (R′ + s .epsilon) < placedAt R′ (f′ .stamp .kn) (R′ + s .epsilon)
+    → ((x : ℕ) → R′ ≤ x → countAt (s .epsilon) R (f .stamp .kn) x ≤ countAt (s .epsilon) R′ (f′ .stamp .kn) x)
+    → countAt (s .epsilon) R (f .stamp .kn) R′ < countAt (s .epsilon) R′ (f′ .stamp .kn) R′
     → lexCompare (key s R f) (key s R′ f′) ≡ Ordering·lt
 unfolding key keyBy sum
 cause-first s R R′ f f′ o o′ e le lt =

@@ -18,7 +18,6 @@ use Rattle.laws.proofs.Lists.{select-map, map-ext, map-map, mem-select, mem-of-
 use Rattle.laws.proofs.Sorted.{Sorted, sorted-select, sorted-unique, sorted-rekey, sorted-map, apart-of-pairwise, pairwise-selectFrom}
 use Rattle.laws.proofs.InsertionSort.{mem-sortBy, mem-of-sortBy, sorted-sortBy}
 use Rattle.model.specs.Setup.{Setup}
-use Rattle.model.specs.Timestamp.{sum}
 use Rattle.model.specs.Frame.{Frame, encode, decode}
 use Rattle.model.specs.Order.{readingOf, key, keyNear, due, dueNear}
 use Rattle.model.specs.Run.{Done, isEvent, sends, messageBytes, messageFrame}
@@ -27,7 +26,8 @@ use Rattle.lemmas.proofs.Bounds.{Limits, FrameOk}
 use Rattle.lemmas.proofs.Queue.{key-origin, key-lower}
 use Rattle.theory.proofs.Event.{event-reads}
 use Rattle.lemmas.proofs.RoundTrip.{decode-encode}
-use Rattle.theory.proofs.HearLoop.{covered-sends, covered-from, event-station}
+use Rattle.theory.proofs.Due.{due-reads, due-window, due-after}
+use Rattle.theory.proofs.HearLoop.{covered-sends, covered-from, covered-of, event-station}
 use Rattle.theory.proofs.World.{eventFrame, heardAt, Explained, AllExplained, CallEvent, sends-event}
 
 -- all readings may be moved by the same
@@ -40,10 +40,10 @@ same-call : Done → Done → Bool
 same-call a b = eqb (a .own) (b .own) && eqb (a .clock) (b .clock)
 
 -- the frames delivered in a call that moves a clock from `last` to v: in order, each explained and come due, and all of these that are covered
-pub record Delivers (s : Setup) (from : ℕ) (past : List Done) (heard : ℕ → Bool) (last v : ℕ) (frames : List Frame) : Type 0 where
+pub record Delivers (s : Setup) (floor from : ℕ) (past : List Done) (heard : ℕ → Bool) (last v : ℕ) (frames : List Frame) : Type 0 where
   pub ok : (f : Frame) → List·Memᴰ f frames → FrameOk s f
   pub sorted : Sorted (keyNear s (v % s .modulus)) frames
-  pub members : AllExplained s from past heard v frames
+  pub members : AllExplained s floor past heard v frames
   pub not-before : (f : Frame) → List·Memᴰ f frames → s .modulus + from ≤ readingOf s (v % s .modulus) f + v → s .modulus + last < dueNear s (v % s .modulus) f + v
   pub not-past : (f : Frame) → List·Memᴰ f frames → dueNear s (v % s .modulus) f ≤ s .modulus
   pub all :
@@ -52,12 +52,12 @@ pub record Delivers (s : Setup) (from : ℕ) (past : List Done) (heard : ℕ →
 
 -- the calls past, then the call d, which delivers the frames
 module _
-    (s : Setup) (from last v node : ℕ) (past : List Done) (d : Done) (frames : List Frame) (limits : Limits s) (near : v ≤ last + s .epsilon)
+    (s : Setup) (floor from last v node : ℕ) (order : floor ≤ from) (past : List Done) (d : Done) (frames : List Frame) (limits : Limits s) (near : v ≤ last + s .epsilon)
     (events : (k : ℕ) (m : Done) → getElem? past k ≡ some m → isEvent m ≡ true → CallEvent s m)
     (unique : (k l : ℕ) (a b : Done) → getElem? past k ≡ some a → getElem? past l ≡ some b → isEvent a ≡ true → isEvent b ≡ true
     → a .own ≡ b .own → a .clock ≡ b .clock → k ≡ l)
     (clock-is : d .clock ≡ v)
-    (delivers : Delivers s from past (heardAt (past ++ (d ∷ [])) node) last v frames)
+    (delivers : Delivers s floor from past (heardAt (past ++ (d ∷ [])) node) last v frames)
   where
     abbrev list : List Done
     list = dueHere s from (past ++ (d ∷ [])) node last v
@@ -97,10 +97,10 @@ module _
 
     -- the call itself is due later
     not-itself : dueIn s last v d ≡ true → ⊥
-    unfolding dueIn dueClock due sum
+    unfolding dueIn dueClock
     not-itself e =
-        let at = d .clock + messageFrame d .stamp .c + s .delta + s .epsilon in
-        omega (arith, leb-true at v (and-right (ltb last at) (leb at v) e), limits .epsilon-pos)
+        let at = due s (d .clock) (messageFrame d .stamp .c) in
+        omega (arith, leb-true at v (and-right (ltb last at) (leb at v) e), due-after s (d .clock) (messageFrame d .stamp .c) limits)
 
     found-at : (k : ℕ) (m : Done) → getElem? (past ++ (d ∷ [])) k ≡ some m → test k m ≡ true → Found k m
     unfolding heardAt
@@ -134,10 +134,10 @@ module _
 
     -- its reading is its true clock
     reading : (k : ℕ) (m : Done) → Found k m → readingOf s (v % s .modulus) (eventFrame s m) + v ≡ s .modulus + m .clock
-    unfolding due sum
     reading k m f =
         let ev = event k m (f .0) (f .1) in
-        event-reads s v m limits ev (omega (arith, f .3, limits .epsilon-pos)) (omega (arith, f .2, near, ev .frame .sound .close, limits .modulus-least))
+        event-reads s v m limits ev (omega (arith, f .3, due-after s (m .clock) (eventFrame s m .stamp .c) limits))
+        (due-window s last v (m .clock) (eventFrame s m .stamp .c) limits (ev .frame .sound .close) (f .2) near)
 
     -- the list has no call twice
     list-apart : apart same-call list ≡ true
@@ -204,23 +204,24 @@ module _
     decoded f mem = decode-encode (s .epsilon) f (delivers .ok f mem .sound .wide)
 
     into : (f : Frame) → List·Memᴰ f chosen → List·Memᴰ f (map (eventFrame s) sorted)
-    unfolding coveredFrame dueNear due sum
+    unfolding coveredFrame
     into f mem =
         let a = mem-of-select (λ g. coveredFrame s from v (encode g)) frames mem in
         go (a .0) (delivers .members f (a .0))
         (leb-true (s .modulus + from) (readingOf s (v % s .modulus) f + v)
         (subst (λ (g : Frame). leb (s .modulus + from) (readingOf s (v % s .modulus) g + v) ≡ true) (decoded f (a .0)) (a .1)))
       where
-        go : List·Memᴰ f frames → Explained s from past (heardAt (past ++ (d ∷ [])) node) v f
+        go : List·Memᴰ f frames → Explained s floor past (heardAt (past ++ (d ∷ [])) node) v f
             → s .modulus + from ≤ readingOf s (v % s .modulus) f + v
             → List·Memᴰ f (map (eventFrame s) sorted)
         go there (inl h) fol = let bad : ⊥ = omega arith in absurd bad
         go there (inr x) fol =
-            let c : f .stamp .c ≡ eventFrame s (x .1) .stamp .c = ap (λ (g : Frame). g .stamp .c) (x .5) in
-            let lo : last < x .1 .clock + eventFrame s (x .1) .stamp .c + s .delta + s .epsilon = omega (arith, x .6, delivers .not-before f there fol) in
-            let hi : x .1 .clock + eventFrame s (x .1) .stamp .c + s .delta + s .epsilon ≤ v = omega (arith, x .6, delivers .not-past f there) in
+            let reads : dueNear s (v % s .modulus) f + v ≡ s .modulus + due s (x .1 .clock) (eventFrame s (x .1) .stamp .c) =
+            due-reads s v (x .1 .clock) f (x .6) ∙ ap (λ (g : Frame). s .modulus + due s (x .1 .clock) (g .stamp .c)) (x .5) in
+            let lo : last < due s (x .1 .clock) (eventFrame s (x .1) .stamp .c) = omega (arith, reads, delivers .not-before f there fol) in
+            let hi : due s (x .1 .clock) (eventFrame s (x .1) .stamp .c) ≤ v = omega (arith, reads, delivers .not-past f there) in
             subst (λ (g : Frame). List·Memᴰ g (map (eventFrame s) sorted)) (sym (x .5))
-            (mem-map (eventFrame s) (mem-sortBy (earlier s) (listed (x .0) (x .1) (x .2, x .3, lo, hi, x .4))))
+            (mem-map (eventFrame s) (mem-sortBy (earlier s) (listed (x .0) (x .1) (x .2, covered-of from (x .1) (x .3) (omega (arith, x .6)), lo, hi, x .4))))
 
     back : (f : Frame) → List·Memᴰ f (map (eventFrame s) sorted) → List·Memᴰ f chosen
     unfolding coveredFrame

@@ -10,19 +10,20 @@ use mathlib.Core.Option.{Option, none, some}
 use lib.Dec.{leb, eqb}
 use lib.ListN.{length, getElem?}
 use borrow.Author.Tests.{le-leb, eqb-true}
-use Rattle.laws.specs.Lists.{every, any, sameList, placedAt}
+use Rattle.laws.specs.Lists.{every, any, sameList}
 use Rattle.laws.proofs.Numbers.{eq-or-ne, clash, and-intro, and-left, and-right, or-cases, false-of-not, not-of-false}
 use Rattle.laws.proofs.Lists.{countOf, index-of-mem, every-mem, every-append-left, every-append-right, sameList-true, mem-select, getElem?-mem, getElem?-lt}
 use Rattle.model.specs.Setup.{Setup, width}
-use Rattle.model.specs.Timestamp.{Timestamp, trimmed, fresh, replaced, countOwn}
+use Rattle.model.specs.Timestamp.{Timestamp, countAt, trimmed, fresh, replaced, countOwn}
 use Rattle.model.specs.Frame.{Frame, twoAt}
 use Rattle.model.specs.Holdback.{cutFrames, cutBy, heldBytes, held}
 use Rattle.model.specs.Run.{Node, Source, sentBy, stale, Call, Done, World, isAccepted, outputOf, doneOf, act, actOn, runFrom, atStart}
 use Rattle.theory.specs.Premises.{goodStart, sameTimestamp, isFresh, allFresh, isSent, noneStale}
 use Rattle.lemmas.proofs.Bounds.{Limits}
-use Rattle.lemmas.proofs.Counts.{opened-replaced, fresh-own, fresh-left, replaced-count, own-count, own-count-here}
+use Rattle.lemmas.proofs.Counts.{opened-replaced, fresh-own, fresh-left, replaced-count}
 use Rattle.lemmas.proofs.Queue.{left-none}
 use Rattle.theory.proofs.World.{Memory, Tables, reached, Bounded, heardAt, Group, Good, Legal, EntryOk, act-is}
+use Rattle.theory.proofs.Stamps.{own-elsewhere, own-there}
 use Rattle.theory.proofs.HearLoop.{Settles}
 use Rattle.theory.proofs.Start.{group-start}
 
@@ -30,12 +31,12 @@ pub settles-fresh : (s : Setup) → Settles s 0 0
 settles-fresh s = (omega arith, λ v R h k. omega arith)
 
 -- a station has reached its own clock
-reached-own : (epsilon : ℕ) (nodes : List Node) (i : ℕ) (node : Node) → getElem? nodes i ≡ some node → node .listens ≡ false → 1 ≤ reached epsilon nodes (node .clock + epsilon)
+reached-own : (nodes : List Node) (i : ℕ) (node : Node) → getElem? nodes i ≡ some node → node .listens ≡ false → 1 ≤ reached nodes (node .clock)
 unfolding reached countOf
-reached-own epsilon nodes i node at station =
+reached-own nodes i node at station =
     some-length
-    (mem-select (λ (x : Node). not (x .listens) && leb (node .clock + epsilon) (x .clock + epsilon)) (getElem?-mem nodes i at)
-    (and-intro (not-of-false station) (le-leb (node .clock + epsilon) (node .clock + epsilon) (omega arith))))
+    (mem-select (λ (x : Node). not (x .listens) && leb (node .clock) (x .clock)) (getElem?-mem nodes i at)
+    (and-intro (not-of-false station) (le-leb (node .clock) (node .clock) (omega arith))))
   where
     some-length : {l : List Node} → List·Memᴰ node l → 1 ≤ length l
     some-length m = let r = index-of-mem node m in omega (arith, r .1)
@@ -91,23 +92,24 @@ module _ (s : Setup) (node : Node) (limits : Limits s) (is-fresh : FreshNode s n
     tables-fresh : Tables s node
     tables-fresh = rw (is-fresh .tables station) (fresh-left (s .n) (s .epsilon) (node .clock % s .modulus) (limits .n-pos) (limits .epsilon-pos))
 
-    pub fresh-bounded : (nodes : List Node) (i : ℕ) → getElem? nodes i ≡ some node → Bounded s 0 nodes (node .clock) (fresh (s .epsilon) (node .clock % s .modulus) .kn)
-    fresh-bounded nodes i at w h =
+    pub fresh-bounded : (nodes : List Node) (i : ℕ) → getElem? nodes i ≡ some node → Bounded (s .epsilon) 0 nodes (node .clock) (fresh (s .epsilon) (node .clock % s .modulus) .kn)
+    unfolding countAt
+    fresh-bounded nodes i at y h =
         rw (fresh-own (s .epsilon) x)
-        (elim (eq-or-ne w (node .clock + s .epsilon)) [
+        (elim (eq-or-ne y (node .clock)) [
           | inl e ↦
-              subst (λ (u : ℕ). placedAt (node .clock) (countOwn (s .epsilon) x (replaced (s .epsilon) x) .kn) u ≤ reached (s .epsilon) nodes u) (sym e)
+              subst (λ (u : ℕ). countAt (s .epsilon) (node .clock) (countOwn (s .epsilon) x (replaced (s .epsilon) x) .kn) u ≤ reached nodes u) (sym e)
               (omega (
                 arith,
-                own-count-here (s .epsilon) (node .clock) x (replaced (s .epsilon) x) wide (limits .epsilon-pos),
+                own-there (s .epsilon) (node .clock) x (replaced (s .epsilon) x) wide (limits .epsilon-pos),
                 replaced-count (s .epsilon) (node .clock) x (node .clock + s .epsilon),
-                reached-own (s .epsilon) nodes i node at station,
+                reached-own nodes i node at station,
               ))
           | inr e ↦
               omega (
                 arith,
-                own-count (s .epsilon) (node .clock) x (replaced (s .epsilon) x) wide (limits .epsilon-pos) w e,
-                replaced-count (s .epsilon) (node .clock) x w,
+                own-elsewhere (s .epsilon) (node .clock) x (replaced (s .epsilon) x) wide (limits .epsilon-pos) y e,
+                replaced-count (s .epsilon) (node .clock) x (y + s .epsilon),
               )
         ])
       where
@@ -144,7 +146,7 @@ module _ (s : Setup) (nodes : List Node) (start : goodStart s nodes ≡ true) (a
               stamp = λ station.
                   record {
                     tables = tables-fresh s node limits is-fresh station;
-                    bounded = subst (λ (t : Timestamp). Bounded s 0 nodes (node .clock) (t .kn)) (sym (is-fresh .tables station)) (fresh-bounded s node limits is-fresh station nodes i at);
+                    bounded = subst (λ (t : Timestamp). Bounded (s .epsilon) 0 nodes (node .clock) (t .kn)) (sym (is-fresh .tables station)) (fresh-bounded s node limits is-fresh station nodes i at);
                     passed-on = λ k d e. absurd (nothing k d e);
                   };
             });

@@ -11,12 +11,12 @@ use mathlib.Core.Option.{some}
 use lib.Dec.{leb, eqb}
 use lib.ListN.{getElem?}
 use Rattle.laws.specs.Lists.{any, insertAt, placedAt}
-use borrow.Author.Tests.{leb-true, leb-false, eqb-true, eq-eqb}
-use Rattle.laws.proofs.Numbers.{lt-or-ge, clash, and-intro, and-left, and-right, and-false-cases, or-left, or-right, or-cases, false-of-no}
+use borrow.Author.Tests.{leb-true, le-leb, eqb-true, eq-eqb}
+use Rattle.laws.proofs.Numbers.{lt-or-ge, clash, and-intro, and-left, and-right, or-left, or-right, or-cases, false-of-no}
 use Rattle.laws.proofs.Lists.{any-of-mem, any-of-false, mem-of-insertAt, mem-insertAt-old, mem-insertAt-new}
 use Rattle.model.specs.Codec.{frameOf}
 use Rattle.model.specs.Setup.{Setup}
-use Rattle.model.specs.Timestamp.{Timestamp, countsFrom, sum, atMost}
+use Rattle.model.specs.Timestamp.{Timestamp, countAt, countsFrom, atMost}
 use Rattle.model.specs.Frame.{Frame, encode, decode}
 use Rattle.model.specs.Order.{readingOf, due}
 use Rattle.model.specs.Holdback.{sameOrigin, notEarly}
@@ -27,9 +27,10 @@ use Rattle.theory.specs.Demand3.{covered, isFrom}
 use Rattle.lemmas.proofs.Bounds.{Limits, QueueOk}
 use Rattle.lemmas.proofs.Counts.{count-moved, sound-top, at-most-past-to, absorb-wide}
 use Rattle.lemmas.proofs.RoundTrip.{decode-encode}
-use Rattle.lemmas.proofs.Queue.{early-from, early-to, reading-high, Passed, Places, judged-passed, passed-judged, repeat-judged, observed-passed, passed-observed, repeat-observed, queue-take}
+use Rattle.lemmas.proofs.Queue.{early-from, early-to, Passed, Places, judged-passed, passed-judged, repeat-judged, observed-passed, passed-observed, repeat-observed, queue-take}
 use Rattle.lemmas.proofs.OneTick.{Absorbing, absorbing-one}
 use Rattle.theory.proofs.Event.{event-reads}
+use Rattle.theory.proofs.Due.{due-heard}
 use Rattle.theory.proofs.Stamps.{early-bounded, absorb-bounded, absorb-under, under-absorb}
 use Rattle.theory.proofs.World.{eventFrame, reached, Bounded, Under, Explained, AllExplained, explained-more, AllPresent, CallEvent}
 
@@ -42,7 +43,7 @@ pub record Arrival (s : Setup) (floor : ℕ) (nodes : List Node) (past : List Do
   pub at : getElem? past k ≡ some m
   pub sent : sends m ≡ true
   pub event : CallEvent s m
-  pub bounded : Bounded s floor nodes (m .clock) (eventFrame s m .stamp .kn)
+  pub bounded : Bounded (s .epsilon) floor nodes (m .clock) (eventFrame s m .stamp .kn)
   pub not-ahead : m .clock < v + s .epsilon
   pub not-late : v ≤ m .clock + s .delta + s .epsilon
 
@@ -53,26 +54,26 @@ Entry s floor nodes past v bytes stale = v + s .epsilon ≤ floor
 -- who hears at v: no clock is more than ε ahead of the one before v, and no two calls sent one message
 pub record Around (s : Setup) (nodes : List Node) (past : List Done) (v : ℕ) : Type 0 where
   pub limits : Limits s
-  pub none-ahead : (w : ℕ) → 1 ≤ reached (s .epsilon) nodes w → w < v + s .epsilon + s .epsilon
+  pub none-ahead : (x : ℕ) → 1 ≤ reached nodes x → x < v + s .epsilon
   pub unique :
       (k l : ℕ) (a b : Done) → getElem? past k ≡ some a → getElem? past l ≡ some b → sends a ≡ true → sends b ≡ true
       → a .own ≡ b .own → a .clock ≡ b .clock → k ≡ l
 
 -- a station has not reached v, as is the one that hears: so no count for v or later is full
 abbrev pub Unreached : Setup → List Node → ℕ → Type 0
-Unreached s nodes v = (w : ℕ) → v + s .epsilon ≤ w → reached (s .epsilon) nodes w < s .n
+Unreached s nodes v = (x : ℕ) → v ≤ x → reached nodes x < s .n
 
 -- the queue half: the queue is sound, and holds of the covered messages those heard that are not yet due
-pub record QueueLoop (s : Setup) (from : ℕ) (past : List Done) (v : ℕ) (heard : ℕ → Bool) (queue : List Frame) : Type 0 where
+pub record QueueLoop (s : Setup) (floor from : ℕ) (past : List Done) (v : ℕ) (heard : ℕ → Bool) (queue : List Frame) : Type 0 where
   pub sound : QueueOk s (v % s .modulus) (s .modulus) queue
-  pub members : AllExplained s from past heard v queue
+  pub members : AllExplained s floor past heard v queue
   pub present : AllPresent s from past heard v queue
 
 -- the stamp half: the counts are right, and what the opening stamp knew is known
 pub record StampLoop (s : Setup) (floor : ℕ) (nodes : List Node) (v : ℕ) (opening t : Timestamp) : Type 0 where
   pub absorbing : Absorbing s (v % s .modulus) t
-  pub bounded : Bounded s floor nodes v (t .kn)
-  pub wider : (R : ℕ) (f : Timestamp) → Under R f v opening → Under R f v t
+  pub bounded : Bounded (s .epsilon) floor nodes v (t .kn)
+  pub wider : (R : ℕ) (f : Timestamp) → Under (s .epsilon) R f v opening → Under (s .epsilon) R f v t
 
 -- one entry, by its verdict, whatever is asked
 pub hear-taken :
@@ -99,13 +100,9 @@ pub covered-from : (from : ℕ) (m : Done) → covered from m ≡ true → from 
 unfolding covered
 covered-from from m e = leb-true from (m .clock) (and-right (sends m) (leb from (m .clock)) e)
 
-not-covered : (from : ℕ) (m : Done) → sends m ≡ true → covered from m ≡ false → m .clock < from
+pub covered-of : (from : ℕ) (m : Done) → sends m ≡ true → from ≤ m .clock → covered from m ≡ true
 unfolding covered
-not-covered from m e f =
-    elim (and-false-cases (sends m) (leb from (m .clock)) f) [
-      | inl q ↦ absurd (clash e q)
-      | inr q ↦ leb-false from (m .clock) q
-    ]
+covered-of from m e h = and-intro e (le-leb from (m .clock) h)
 
 pub some-inj : {A : Type 0} {x y : A} → some x ≡ some y → x ≡ y
 some-inj e = cc
@@ -134,20 +131,21 @@ module _ (s : Setup) (floor from : ℕ) (settles : Settles s floor from) (nodes 
 
   -- 14
   pub arrival-close : (k : ℕ) (m : Done) → Arrival s floor nodes past v k m → covered from m ≡ true → m .clock + eventFrame s m .stamp .c < v + s .epsilon
+  unfolding countAt
   arrival-close k m a f =
       elim (lt-or-ge (m .clock + eventFrame s m .stamp .c) floor) [
         | inl h ↦
             let b : floor ≤ v = settles .1 v (m .clock) (covered-from from m f) (a .not-ahead) in
             omega (arith, around .limits .epsilon-pos)
         | inr h ↦
-            let c : 1 ≤ reached (s .epsilon) nodes (m .clock + eventFrame s m .stamp .c + s .epsilon) =
-            omega (arith, sound-top (s .n) (s .epsilon) (m .clock) (eventFrame s m .stamp) (a .event .frame .sound), a .bounded (m .clock + eventFrame s m .stamp .c + s .epsilon) (omega arith)) in
-            omega (arith, around .none-ahead (m .clock + eventFrame s m .stamp .c + s .epsilon) c)
+            let c : 1 ≤ reached nodes (m .clock + eventFrame s m .stamp .c) =
+            omega (arith, sound-top (s .n) (s .epsilon) (m .clock) (eventFrame s m .stamp) (a .event .frame .sound), a .bounded (m .clock + eventFrame s m .stamp .c) h) in
+            around .none-ahead (m .clock + eventFrame s m .stamp .c) c
       ]
 
   -- 16: a covered message's frame lies in the queue exactly if it was heard
   pub arrival-new :
-      (heard : ℕ → Bool) (queue : List Frame) → AllExplained s from past heard v queue → (k : ℕ) (m : Done) → Arrival s floor nodes past v k m
+      (heard : ℕ → Bool) (queue : List Frame) → AllExplained s floor past heard v queue → (k : ℕ) (m : Done) → Arrival s floor nodes past v k m
       → covered from m ≡ true → heard k ≡ false → any (sameOrigin (eventFrame s m)) queue ≡ false
   arrival-new heard queue members k m a f no-k =
       any-of-false (sameOrigin (eventFrame s m)) queue (λ g mem. false-of-no (sameOrigin (eventFrame s m) g) (λ same. clashes g same (members g mem)))
@@ -155,12 +153,12 @@ module _ (s : Setup) (floor from : ℕ) (settles : Settles s floor from) (nodes 
       reads : (g : Frame) → sameOrigin (eventFrame s m) g ≡ true → readingOf s (v % s .modulus) g + v ≡ s .modulus + m .clock
       reads g same = rw (← same-reading s (v % s .modulus) (eventFrame s m) g same) (arrival-reading k m a)
 
-      clashes : (g : Frame) → sameOrigin (eventFrame s m) g ≡ true → Explained s from past heard v g → ⊥
-      clashes g same (inl h) = omega (arith, reads g same, covered-from from m f)
+      clashes : (g : Frame) → sameOrigin (eventFrame s m) g ≡ true → Explained s floor past heard v g → ⊥
+      clashes g same (inl h) = omega (arith, reads g same, covered-from from m f, settles .0)
       clashes g same (inr x) =
           let c : m .clock ≡ x .1 .clock = omega (arith, reads g same, x .6) in
           let o : m .own ≡ x .1 .own = sym (event-station s m) ∙ (same-station (eventFrame s m) g same ∙ (ap (λ (y : Frame). y .station) (x .5) ∙ event-station s (x .1))) in
-          let q : k ≡ x .0 = around .unique k (x .0) m (x .1) (a .at) (x .2) (a .sent) (covered-sends from (x .1) (x .3)) o c in
+          let q : k ≡ x .0 = around .unique k (x .0) m (x .1) (a .at) (x .2) (a .sent) (x .3) o c in
           clash (ap heard q ∙ x .4) no-k
 
   -- the same as the judge asks
@@ -176,8 +174,7 @@ module _ (s : Setup) (floor from : ℕ) (settles : Settles s floor from) (nodes 
   arrival-early k m a f = early-to s (v % s .modulus) (eventFrame s m) (omega (arith, arrival-reading k m a, arrival-close k m a f))
 
   pub arrival-undue : (k : ℕ) (m : Done) → Arrival s floor nodes past v k m → v ≤ due s (m .clock) (eventFrame s m .stamp .c)
-  unfolding due sum
-  arrival-undue k m a = omega (arith, a .not-late)
+  arrival-undue k m a = due-heard s v (m .clock) (eventFrame s m .stamp .c) (a .not-late)
 
   pub arrival-decoded : (k : ℕ) (m : Done) → Arrival s floor nodes past v k m → decode (s .epsilon) (messageBytes m) ≡ eventFrame s m
   arrival-decoded k m a =
@@ -185,7 +182,7 @@ module _ (s : Setup) (floor from : ℕ) (settles : Settles s floor from) (nodes 
 
   -- so one that was not heard passes
   arrival-passes :
-      (heard : ℕ → Bool) (queue : List Frame) → AllExplained s from past heard v queue → (k : ℕ) (m : Done) → Arrival s floor nodes past v k m
+      (heard : ℕ → Bool) (queue : List Frame) → AllExplained s floor past heard v queue → (k : ℕ) (m : Done) → Arrival s floor nodes past v k m
       → covered from m ≡ true → heard k ≡ false → Passed s (v % s .modulus) queue (eventFrame s m)
   arrival-passes heard queue members k m a f e =
       record { frame = a .event .frame; late = arrival-late k m a; early = arrival-early k m a f; new = arrival-new heard queue members k m a f e }
@@ -194,7 +191,7 @@ module _ (s : Setup) (floor from : ℕ) (settles : Settles s floor from) (nodes 
   pub record TakesOnce (asking : Asking) : Type 0 where
     pub places : Places s (v % s .modulus) asking
     pub verdict :
-        (heard : ℕ → Bool) (queue : List Frame) → QueueLoop s from past v heard queue → (k : ℕ) (m : Done) → Arrival s floor nodes past v k m
+        (heard : ℕ → Bool) (queue : List Frame) → QueueLoop s floor from past v heard queue → (k : ℕ) (m : Done) → Arrival s floor nodes past v k m
         → covered from m ≡ true → firstNo (asking queue (messageBytes m)) ≡ cond (heard k) 16 0
 
   -- 10 to 16 are such questions, where 15 can be answered
@@ -203,6 +200,7 @@ module _ (s : Setup) (floor from : ℕ) (settles : Settles s floor from) (nodes 
     pub arrival-room :
         (k : ℕ) (m : Done) → Arrival s floor nodes past v k m → covered from m ≡ true
         → atMost (s .n - 1) (countsFrom (s .epsilon) (readingOf s (v % s .modulus) (eventFrame s m)) (eventFrame s m .stamp .kn) (s .modulus)) ≡ true
+    unfolding countAt
     arrival-room k m a f =
         at-most-past-to (s .n - 1) (s .epsilon) (readingOf s (v % s .modulus) (eventFrame s m)) (eventFrame s m .stamp .kn) (s .modulus) each
       where
@@ -211,16 +209,16 @@ module _ (s : Setup) (floor from : ℕ) (settles : Settles s floor from) (nodes 
 
         each : (x : ℕ) → s .modulus + s .epsilon ≤ x → placedAt (readingOf s (v % s .modulus) (eventFrame s m)) (eventFrame s m .stamp .kn) x ≤ s .n - 1
         each x h =
-            let w : s .modulus + (v + x - s .modulus) ≡ v + x = omega arith in
+            let y : ℕ = v + x - (s .modulus + s .epsilon) in
             omega (
               arith,
-              count-moved (readingOf s (v % s .modulus) (eventFrame s m)) (m .clock) (eventFrame s m .stamp .kn) x (v + x - s .modulus) (omega (arith, arrival-reading k m a)),
-              a .bounded (v + x - s .modulus) (omega (arith, settled)),
-              unreached (v + x - s .modulus) (omega arith),
+              count-moved (readingOf s (v % s .modulus) (eventFrame s m)) (m .clock) (eventFrame s m .stamp .kn) x (y + s .epsilon) (omega (arith, arrival-reading k m a)),
+              a .bounded y (omega (arith, settled)),
+              unreached y (omega arith),
             )
 
     pub loop-verdict :
-        (heard : ℕ → Bool) (queue : List Frame) → QueueLoop s from past v heard queue → (k : ℕ) (m : Done) → Arrival s floor nodes past v k m
+        (heard : ℕ → Bool) (queue : List Frame) → QueueLoop s floor from past v heard queue → (k : ℕ) (m : Done) → Arrival s floor nodes past v k m
         → covered from m ≡ true → firstNo (judgeQuestions s (v % s .modulus) queue (messageBytes m)) ≡ cond (heard k) 16 0
     loop-verdict heard queue loop k m a f = rw (a .event .bytes (a .sent)) (go (heard k) refl)
       where
@@ -237,7 +235,7 @@ module _ (s : Setup) (floor from : ℕ) (settles : Settles s floor from) (nodes 
 
   -- 02, 2.6: and so are an observer's, wherever the stations are
   observed-verdict :
-      (heard : ℕ → Bool) (queue : List Frame) → QueueLoop s from past v heard queue → (k : ℕ) (m : Done) → Arrival s floor nodes past v k m
+      (heard : ℕ → Bool) (queue : List Frame) → QueueLoop s floor from past v heard queue → (k : ℕ) (m : Done) → Arrival s floor nodes past v k m
       → covered from m ≡ true → firstNo (observerQuestions s (v % s .modulus) queue (messageBytes m)) ≡ cond (heard k) 16 0
   observed-verdict heard queue loop k m a f = rw (a .event .bytes (a .sent)) (go (heard k) refl)
     where
@@ -255,28 +253,28 @@ module _ (s : Setup) (floor from : ℕ) (settles : Settles s floor from) (nodes 
   module _ (asking : Asking) (once : TakesOnce asking) where
     -- a refused entry leaves all as it was
     queue-keep :
-        (heard heard′ : ℕ → Bool) (h : Heard) (bytes : List ℕ) (k : ℕ) → QueueLoop s from past v heard (h .queue)
+        (heard heard′ : ℕ → Bool) (h : Heard) (bytes : List ℕ) (k : ℕ) → QueueLoop s floor from past v heard (h .queue)
         → firstNo (asking (h .queue) bytes) ≡ suc k
         → ((j : ℕ) → heard j ≡ true → heard′ j ≡ true)
         → ((j : ℕ) (m : Done) → getElem? past j ≡ some m → covered from m ≡ true → heard′ j ≡ true → heard j ≡ true)
-        → QueueLoop s from past v heard′ (hearOne s (v % s .modulus) asking h bytes .queue)
+        → QueueLoop s floor from past v heard′ (hearOne s (v % s .modulus) asking h bytes .queue)
     queue-keep heard heard′ h bytes k loop e more back =
-        subst (QueueLoop s from past v heard′) (sym (hear-refused s (v % s .modulus) asking h bytes k e))
+        subst (QueueLoop s floor from past v heard′) (sym (hear-refused s (v % s .modulus) asking h bytes k e))
         (record {
           sound = loop .sound;
-          members = λ f mem. explained-more s from past heard heard′ v f more (loop .members f mem);
+          members = λ f mem. explained-more s floor past heard heard′ v f more (loop .members f mem);
           present = λ j m at fol hd un. loop .present j m at fol (back j m at fol hd) un;
         })
 
     queue-new :
-        (heard heard′ : ℕ → Bool) (h : Heard) (bytes : List ℕ) (f : Frame) → QueueLoop s from past v heard (h .queue)
+        (heard heard′ : ℕ → Bool) (h : Heard) (bytes : List ℕ) (f : Frame) → QueueLoop s floor from past v heard (h .queue)
         → firstNo (asking (h .queue) bytes) ≡ 0 → decode (s .epsilon) bytes ≡ f
         → ((j : ℕ) → heard j ≡ true → heard′ j ≡ true)
         → ((j : ℕ) (m : Done) → getElem? past j ≡ some m → covered from m ≡ true → heard′ j ≡ true → (heard j ≡ true) ⊎ (eventFrame s m ≡ f))
-        → Explained s from past heard′ v f
-        → QueueLoop s from past v heard′ (hearOne s (v % s .modulus) asking h bytes .queue)
+        → Explained s floor past heard′ v f
+        → QueueLoop s floor from past v heard′ (hearOne s (v % s .modulus) asking h bytes .queue)
     queue-new heard heard′ h bytes f loop e d more back new =
-        subst (QueueLoop s from past v heard′) (sym queue-is)
+        subst (QueueLoop s floor from past v heard′) (sym queue-is)
         (record {
           sound = subst (λ (g : Frame). QueueOk s (v % s .modulus) (s .modulus) (insertAt (placeFor s (v % s .modulus) (h .queue) g) g (h .queue))) d (queue-take s (v % s .modulus) (h .queue) (decode (s .epsilon) bytes) (around .limits) arrival-below (loop .sound) (once .places (h .queue) bytes e));
           members = members;
@@ -291,11 +289,11 @@ module _ (s : Setup) (floor from : ℕ) (settles : Settles s floor from) (nodes 
             hear-taken s (v % s .modulus) asking h bytes e
             ∙ ap (λ (g : Frame). insertAt (placeFor s (v % s .modulus) (h .queue) g) g (h .queue)) d
 
-        members : AllExplained s from past heard′ v (insertAt place f (h .queue))
+        members : AllExplained s floor past heard′ v (insertAt place f (h .queue))
         members g mem =
             elim (mem-of-insertAt place f (h .queue) mem) [
-              | inl q ↦ subst (λ (y : Frame). Explained s from past heard′ v y) (sym q) new
-              | inr q ↦ explained-more s from past heard heard′ v g more (loop .members g q)
+              | inl q ↦ subst (λ (y : Frame). Explained s floor past heard′ v y) (sym q) new
+              | inr q ↦ explained-more s floor past heard heard′ v g more (loop .members g q)
             ]
 
         present : AllPresent s from past heard′ v (insertAt place f (h .queue))
@@ -307,13 +305,13 @@ module _ (s : Setup) (floor from : ℕ) (settles : Settles s floor from) (nodes 
 
     -- one entry
     pub queue-one :
-        (heard heard′ : ℕ → Bool) (h : Heard) (bytes : List ℕ) (o : Source) → QueueLoop s from past v heard (h .queue)
+        (heard heard′ : ℕ → Bool) (h : Heard) (bytes : List ℕ) (o : Source) → QueueLoop s floor from past v heard (h .queue)
         → Entry s floor nodes past v bytes o → ((j : ℕ) → heard′ j ≡ (heard j || isFrom j o))
-        → QueueLoop s from past v heard′ (hearOne s (v % s .modulus) asking h bytes .queue)
+        → QueueLoop s floor from past v heard′ (hearOne s (v % s .modulus) asking h bytes .queue)
     unfolding isFrom
     queue-one heard heard′ h bytes stale loop early is =
         elim (zero-or-suc (firstNo (asking (h .queue) bytes))) [
-          | inl e ↦ queue-new heard heard′ h bytes (decode (s .epsilon) bytes) loop e refl more (λ j m at fol hd. inl (back j hd)) (inl uncovered)
+          | inl e ↦ queue-new heard heard′ h bytes (decode (s .epsilon) bytes) loop e refl more (λ j m at fol hd. inl (back j hd)) (inl (below e))
           | inr e ↦ queue-keep heard heard′ h bytes (e .0) loop (e .1) more (λ j m at fol hd. back j hd)
         ]
       where
@@ -327,12 +325,13 @@ module _ (s : Setup) (floor from : ℕ) (settles : Settles s floor from) (nodes 
               | inr q ↦ absurd (clash q refl)
             ]
 
-        uncovered : readingOf s (v % s .modulus) (decode (s .epsilon) bytes) + v < s .modulus + from
-        uncovered = omega (arith, reading-high s (v % s .modulus) (decode (s .epsilon) bytes) (around .limits), settles .0)
+        below : firstNo (asking (h .queue) bytes) ≡ 0 → readingOf s (v % s .modulus) (decode (s .epsilon) bytes) + decode (s .epsilon) bytes .stamp .c + v < s .modulus + floor
+        below e =
+            omega (arith, early-from s (v % s .modulus) (decode (s .epsilon) bytes) (once .places (h .queue) bytes e .early), early, around .limits .epsilon-pos)
     queue-one heard heard′ h bytes (sentBy k) loop entry is =
-        subst (λ (b : List ℕ). QueueLoop s from past v heard′ (hearOne s (v % s .modulus) asking h b .queue)) (sym (entry .2))
+        subst (λ (b : List ℕ). QueueLoop s floor from past v heard′ (hearOne s (v % s .modulus) asking h b .queue)) (sym (entry .2))
         (elim (zero-or-suc (firstNo (asking (h .queue) (messageBytes m)))) [
-          | inl e ↦ queue-new heard heard′ h (messageBytes m) (eventFrame s m) loop e (arrival-decoded k m a) more taken (explained (covered from m) refl)
+          | inl e ↦ queue-new heard heard′ h (messageBytes m) (eventFrame s m) loop e (arrival-decoded k m a) more taken (inr (k, m, a .at, a .sent, here, refl, arrival-reading k m a))
           | inr e ↦ queue-keep heard heard′ h (messageBytes m) (e .0) loop (e .1) more (kept (e .0) (e .1))
         ])
       where
@@ -380,10 +379,6 @@ module _ (s : Setup) (floor from : ℕ) (settles : Settles s floor from) (nodes 
                 let bad : ⊥ = omega arith in
                 absurd bad
 
-        explained : (b : Bool) → covered from m ≡ b → Explained s from past heard′ v (eventFrame s m)
-        explained true f = inr (k, m, a .at, f, here, refl, arrival-reading k m a)
-        explained false f = inl (omega (arith, arrival-reading k m a, not-covered from m (a .sent) f))
-
   -- the stamp half: a taken frame has passed 14
   taken-close :
       (k : ℕ) (m : Done) (queue : List Frame) → Arrival s floor nodes past v k m
@@ -397,7 +392,7 @@ module _ (s : Setup) (floor from : ℕ) (settles : Settles s floor from) (nodes 
   pub stamp-takes :
       (queue : List Frame) (opening t : Timestamp) → StampLoop s floor nodes v opening t → (k : ℕ) (m : Done) → Arrival s floor nodes past v k m
       → firstNo (judgeQuestions s (v % s .modulus) queue (messageBytes m)) ≡ 0
-      → Under (m .clock) (eventFrame s m .stamp) v (absorbBy (firstNo (judgeQuestions s (v % s .modulus) queue (messageBytes m))) s (v % s .modulus) (decode (s .epsilon) (messageBytes m)) t)
+      → Under (s .epsilon) (m .clock) (eventFrame s m .stamp) v (absorbBy (firstNo (judgeQuestions s (v % s .modulus) queue (messageBytes m))) s (v % s .modulus) (decode (s .epsilon) (messageBytes m)) t)
   stamp-takes queue opening t loop k m a e =
       rw (e, arrival-decoded k m a)
       (absorb-under (s .n) (s .epsilon) (s .modulus) v (readingOf s (v % s .modulus) (eventFrame s m)) (m .clock) t (eventFrame s m .stamp)
@@ -417,13 +412,13 @@ module _ (s : Setup) (floor from : ℕ) (settles : Settles s floor from) (nodes 
             under-absorb (s .epsilon) (s .modulus) v (readingOf s (v % s .modulus) (decode (s .epsilon) bytes)) R g t (decode (s .epsilon) bytes .stamp) (loop .absorbing .opened .wide) (loop .wider R g u);
       }
     where
-      bounded : (o : Source) → Entry s floor nodes past v bytes o → Bounded s floor nodes v (absorbBy 0 s (v % s .modulus) (decode (s .epsilon) bytes) t .kn)
+      bounded : (o : Source) → Entry s floor nodes past v bytes o → Bounded (s .epsilon) floor nodes v (absorbBy 0 s (v % s .modulus) (decode (s .epsilon) bytes) t .kn)
       bounded stale early =
-          early-bounded s floor nodes v (absorbBy 0 s (v % s .modulus) (decode (s .epsilon) bytes) t .kn)
+          early-bounded (s .epsilon) floor nodes v (absorbBy 0 s (v % s .modulus) (decode (s .epsilon) bytes) t .kn)
           (absorb-wide (s .epsilon) (s .modulus) (readingOf s (v % s .modulus) (decode (s .epsilon) bytes)) t (decode (s .epsilon) bytes .stamp)) early
       bounded (sentBy k) (m, a, e) =
           rw (e, arrival-decoded k m a)
-          (absorb-bounded s floor nodes v (readingOf s (v % s .modulus) (eventFrame s m)) (m .clock) t (eventFrame s m .stamp) (loop .absorbing .opened .wide) (arrival-reading k m a) (loop .bounded) (a .bounded))
+          (absorb-bounded (s .epsilon) (s .modulus) floor nodes v (readingOf s (v % s .modulus) (eventFrame s m)) (m .clock) t (eventFrame s m .stamp) (loop .absorbing .opened .wide) (arrival-reading k m a) (loop .bounded) (a .bounded))
 
   pub stamp-one :
       (queue : List Frame) (opening t : Timestamp) (bytes : List ℕ) (o : Source) → StampLoop s floor nodes v opening t → Entry s floor nodes past v bytes o

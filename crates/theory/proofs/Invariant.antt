@@ -14,9 +14,9 @@ use Rattle.laws.specs.Lists.{any, select}
 use Rattle.laws.proofs.Numbers.{eq-or-ne, and-right, or-cases, not-of-false}
 use Rattle.laws.proofs.Lists.{countOf, countOf-set-same, any-append, getElem?-lt, getElem?-getD, getElem?-append, getElem?-snoc-cases, mem-of-select, mem-select}
 use Rattle.model.specs.Setup.{Setup}
-use Rattle.model.specs.Timestamp.{trimmed, Timestamp, sum}
+use Rattle.model.specs.Timestamp.{trimmed, Timestamp}
 use Rattle.model.specs.Frame.{Frame}
-use Rattle.model.specs.Order.{readingOf, due, dueNear}
+use Rattle.model.specs.Order.{due, dueNear}
 use Rattle.model.specs.Holdback.{held}
 use Rattle.model.specs.Tick.{heardStamp, dueNow}
 use Rattle.model.specs.Run.{Node, Call, Done, World, inputOf, isAccepted, outputOf, doneOf, nodeAfter, act, isEvent}
@@ -26,6 +26,7 @@ use Rattle.theory.proofs.Boards.{heardOn, leaves-queue, memory-left}
 use Rattle.theory.proofs.Entries.{from-entry}
 use Rattle.theory.proofs.Reach.{isStation, reached-grows, reached-gains}
 use Rattle.theory.proofs.Stamps.{bounded-grows, own-bounded}
+use Rattle.theory.proofs.Due.{due-reads}
 use Rattle.theory.proofs.HearLoop.{some-inj, covered-sends}
 use Rattle.theory.proofs.World.{AllWaiting, LeftStamp, LeftAt, eventFrame, reached, Bounded, heardAt, Explained, AllExplained, Maker, Settled, Passed-on, NodeOk, Group, AllKinds, Good, Ticks, Legal, act-is, event-kind, event-of, nodesAfter, after-at, after-other, after-together}
 use Rattle.theory.proofs.Promises.{Ends, waiting-reads}
@@ -55,8 +56,8 @@ module _ (s : Setup) (floor from : ℕ) (w : World) (call : Call) (node : Node) 
   unfolding nodeAfter
   kind′ = refl
 
-  grows : (u : ℕ) → reached (s .epsilon) (w .nodes) u ≤ reached (s .epsilon) nodes′ u
-  grows u = reached-grows (s .epsilon) (w .nodes) u (call .node) node node′ (legal .at) kind′ (omega (arith, clock′, legal .called .turn))
+  grows : (x : ℕ) → reached (w .nodes) x ≤ reached nodes′ x
+  grows x = reached-grows (w .nodes) x (call .node) node node′ (legal .at) kind′ (omega (arith, clock′, legal .called .turn))
 
   was : (j : ℕ) (a : Node) → getElem? nodes′ j ≡ some a → (b : Node) × (getElem? (w .nodes) j ≡ some b) × (a .own ≡ b .own) × (a .listens ≡ b .listens)
   was j a at =
@@ -112,8 +113,8 @@ module _ (s : Setup) (floor from : ℕ) (w : World) (call : Call) (node : Node) 
   known-at i k m at hd = sym (getElem?-append (w .past) (doneOf node call ∷ []) k (heard-known i k hd)) ∙ at
 
   explained-on :
-      (v j : ℕ) (heard : ℕ → Bool) (f : Frame) → ((k : ℕ) → heard k ≡ true → heardAt past′ j k ≡ true) → Explained s from (w .past) heard v f
-      → Explained s from past′ (heardAt past′ j) v f
+      (v j : ℕ) (heard : ℕ → Bool) (f : Frame) → ((k : ℕ) → heard k ≡ true → heardAt past′ j k ≡ true) → Explained s floor (w .past) heard v f
+      → Explained s floor past′ (heardAt past′ j) v f
   explained-on v j heard f more (inl h) = inl h
   explained-on v j heard f more (inr x) = inr (x .0, x .1, old-at (x .0) (x .1) (x .2), x .3, more (x .0) (x .4), x .5, x .6)
 
@@ -178,16 +179,16 @@ module _ (s : Setup) (floor from : ℕ) (w : World) (call : Call) (node : Node) 
     ticks = record { due = legal .called; station = station }
 
     -- it has reached v, one station more
-    gains : reached (s .epsilon) nodes′ (v + s .epsilon) ≡ suc (reached (s .epsilon) (w .nodes) (v + s .epsilon))
+    gains : reached nodes′ v ≡ suc (reached (w .nodes) v)
     gains =
-        reached-gains (s .epsilon) (w .nodes) v (call .node) node node′ (legal .at) (kind′ ∙ station)
+        reached-gains (w .nodes) v (call .node) node node′ (legal .at) (kind′ ∙ station)
         (omega (arith, legal .called .turn, legal .called .step-pos)) (omega (arith, clock′))
 
     -- the new counts
-    bounded′ : Bounded s floor nodes′ v (eventFrame s (doneOf node call) .stamp .kn)
+    bounded′ : Bounded (s .epsilon) floor nodes′ v (eventFrame s (doneOf node call) .stamp .kn)
     bounded′ =
-        subst (λ (t : Timestamp). Bounded s floor nodes′ v (t .kn)) (sym (event-own s node call ticks))
-        (own-bounded s floor (w .nodes) nodes′ v (v % s .modulus) (heardStamp (inputOf node call)) (ends .stamp station .absorbing .opened .wide)
+        subst (λ (t : Timestamp). Bounded (s .epsilon) floor nodes′ v (t .kn)) (sym (event-own s node call ticks))
+        (own-bounded (s .epsilon) floor (w .nodes) nodes′ v (v % s .modulus) (heardStamp (inputOf node call)) (ends .stamp station .absorbing .opened .wide)
         (ends .limits .epsilon-pos) grows gains (ends .stamp station .bounded))
 
     new-settled : Settled s floor nodes′ (doneOf node call)
@@ -195,7 +196,7 @@ module _ (s : Setup) (floor from : ℕ) (w : World) (call : Call) (node : Node) 
         record {
           event = event-made s node call ticks;
           maker = new-maker;
-          bounded = subst (λ (v : ℕ). Bounded s floor nodes′ v (eventFrame s (doneOf node call) .stamp .kn)) (sym (done-clock s node call (legal .called))) bounded′;
+          bounded = subst (λ (v : ℕ). Bounded (s .epsilon) floor nodes′ v (eventFrame s (doneOf node call) .stamp .kn)) (sym (done-clock s node call (legal .called))) bounded′;
         }
 
     -- no call of this station was for this clock before
@@ -221,7 +222,7 @@ module _ (s : Setup) (floor from : ℕ) (w : World) (call : Call) (node : Node) 
             record {
               event = st .event;
               maker = maker′ d (st .maker);
-              bounded = bounded-grows s floor (w .nodes) nodes′ (d .clock) (eventFrame s d .stamp .kn) grows (st .bounded);
+              bounded = bounded-grows (s .epsilon) floor (w .nodes) nodes′ (d .clock) (eventFrame s d .stamp .kn) grows (st .bounded);
             }
         | inr q ↦ subst (Settled s floor nodes′) (sym (q .1)) (new-settled (last-kind d (q .1) made))
       ]
@@ -262,7 +263,7 @@ module _ (s : Setup) (floor from : ℕ) (w : World) (call : Call) (node : Node) 
             let t = l .stamp station in
             record {
               tables = t .tables;
-              bounded = bounded-grows s floor (w .nodes) nodes′ (a .clock) (trimmed (s .epsilon) (a .tables) .kn) grows (t .bounded);
+              bounded = bounded-grows (s .epsilon) floor (w .nodes) nodes′ (a .clock) (trimmed (s .epsilon) (a .tables) .kn) grows (t .bounded);
               passed-on = λ k d at made same.
                   elim (getElem?-snoc-cases (w .past) (doneOf node call) k at) [
                     | inl q ↦ t .passed-on k d q made same
@@ -275,7 +276,7 @@ module _ (s : Setup) (floor from : ℕ) (w : World) (call : Call) (node : Node) 
   queue-here : held (s .epsilon) (node′ .holdback) ≡ select (λ f. not (dueNow s (v % s .modulus) f)) (heardOn s v node call .queue)
   queue-here = leaves-queue s node call (legal .called)
 
-  members′ : AllExplained s from past′ (heardAt past′ (call .node)) v (held (s .epsilon) (node′ .holdback))
+  members′ : AllExplained s floor past′ (heardAt past′ (call .node)) v (held (s .epsilon) (node′ .holdback))
   members′ f mem =
       let r = mem-of-select (λ g. not (dueNow s (v % s .modulus) g)) (heardOn s v node call .queue) (subst (λ (q : List Frame). List·Memᴰ f q) queue-here mem) in
       explained-on v (call .node) (heardAt past′ (call .node)) f (λ k h. h) (ends .queue .members f (r .0))
@@ -283,10 +284,15 @@ module _ (s : Setup) (floor from : ℕ) (w : World) (call : Call) (node : Node) 
   -- a covered message that is due later is not delivered
   not-due : (k : ℕ) (m : Done) → getElem? (w .past) k ≡ some m → covered from m ≡ true → v < due s (m .clock) (eventFrame s m .stamp .c)
       → dueNow s (v % s .modulus) (eventFrame s m) ≡ false
-  unfolding dueNow dueNear due sum
+  unfolding dueNow
   not-due k m at fol un =
-      ne-eqb (readingOf s (v % s .modulus) (eventFrame s m) + eventFrame s m .stamp .c + s .delta + s .epsilon) (s .modulus)
-      (λ e. omega (arith, un, waiting-reads s floor from w call node v good legal k m at (covered-sends from m fol) (omega (arith, un, legal .called .turn, legal .called .step-pos))))
+      ne-eqb (dueNear s (v % s .modulus) (eventFrame s m)) (s .modulus)
+      (λ e. omega (
+        arith,
+        un,
+        due-reads s v (m .clock) (eventFrame s m)
+            (waiting-reads s floor from w call node v good legal k m at (covered-sends from m fol) (omega (arith, un, legal .called .turn, legal .called .step-pos))),
+      ))
 
   waiting′ : AllWaiting s from past′ (heardAt past′ (call .node)) v (held (s .epsilon) (node′ .holdback))
   waiting′ k m at fol hd un =
@@ -317,8 +323,8 @@ module _ (s : Setup) (floor from : ℕ) (w : World) (call : Call) (node : Node) 
         record {
           tables = tables-left s node call (ticks station);
           bounded =
-              subst (λ (x : ℕ). Bounded s floor nodes′ x (trimmed (s .epsilon) (node′ .tables) .kn)) (sym clock′)
-              (subst (λ (t : Timestamp). Bounded s floor nodes′ v (t .kn)) (sym tables-here) (bounded′ station));
+              subst (λ (x : ℕ). Bounded (s .epsilon) floor nodes′ x (trimmed (s .epsilon) (node′ .tables) .kn)) (sym clock′)
+              (subst (λ (t : Timestamp). Bounded (s .epsilon) floor nodes′ v (t .kn)) (sym tables-here) (bounded′ station));
           passed-on = λ k d at made same.
               subst (λ (x : ℕ). Passed-on s d x (trimmed (s .epsilon) (node′ .tables))) (sym clock′)
               (subst (λ (t : Timestamp). Passed-on s d v t) (sym tables-here) (passes-on k d at made same));
@@ -328,7 +334,7 @@ module _ (s : Setup) (floor from : ℕ) (w : World) (call : Call) (node : Node) 
   here-ok =
       record {
         memory = memory-left s node call (legal .called);
-        members = subst (λ (x : ℕ). AllExplained s from past′ (heardAt past′ (call .node)) x (held (s .epsilon) (node′ .holdback))) (sym clock′) members′;
+        members = subst (λ (x : ℕ). AllExplained s floor past′ (heardAt past′ (call .node)) x (held (s .epsilon) (node′ .holdback))) (sym clock′) members′;
         waiting = subst (λ (x : ℕ). AllWaiting s from past′ (heardAt past′ (call .node)) x (held (s .epsilon) (node′ .holdback))) (sym clock′) waiting′;
         stamp = λ station. stamp-ok (sym kind′ ∙ station);
       }

@@ -7,6 +7,7 @@ pub mod AnyState
 pub mod World
 pub mod Reach
 pub mod Stamps
+pub mod Due
 pub mod Event
 pub mod Boards
 pub mod HearLoop
@@ -33,3 +34,5 @@ pub mod Demand2
 pub mod LongClocks
 pub mod OneProgram
 pub mod Demand3
+pub mod WiderAny
+pub mod WiderReaders

@@ -1,22 +1,22 @@
 -- 02, 2.9: one accepted call of a station, and the same call of an engine: the engine does what the published program does, with clocks as they are.
 -- Assumes nothing.
-use Prim.Native.Nat.{ℕ, _+_, _-_, _%_, _≤_, _<_}
+use Prim.Native.Nat.{ℕ, _+_, _-_, _/_, _%_, _≤_, _<_}
 use native.Mathlib.Omega.{arith}
 use native.Mathlib.Nat.{zero-add}
 use mathlib.Core.Path.{_≡_, refl, sym, ap, ap₂, subst, _∙_}
 use mathlib.Core.Bool.{Bool, true, false, _&&_, not, cond}
-use mathlib.Core.List.{List, [], _∷_, _++_, map, List·Memᴰ, Memᴰ·append-left}
+use mathlib.Core.List.{List, [], _∷_, _++_, map, List·Memᴰ, List·Memᴰ·head, List·Memᴰ·tail, Memᴰ·append-left}
 use mathlib.Core.Option.{Option, some}
 use lib.ListN.{length, take, drop, getElem?, replicate, length-append, length-map, length-replicate}
 use borrow.Author.Tests.{le-leb, lt-ltb, eq-eqb}
-use Rattle.laws.specs.Lists.{every, select, sortBy, apart, overlay, padded}
+use Rattle.laws.specs.Lists.{every, select, sortBy, apart, joined, overlay, padded}
 use Rattle.laws.proofs.Numbers.{and-intro, cond-true, within-intro}
 use Rattle.laws.proofs.Lists.{every-mem, every-of-mem, every-map, select-all, take-overlay, map-map, mem-of-map, mem-of-select}
 use Rattle.laws.proofs.Sorted.{Sorted, sorted-of-chained, apart-map}
 use Rattle.laws.proofs.InsertionSort.{length-sortBy, mem-of-sortBy}
 use Rattle.model.specs.Setup.{Setup, width, isMember, verdictLength, longestPayload}
 use Rattle.model.specs.Timestamp.{Timestamp, trimmed, widened, step, replaced, countOwn, sum}
-use Rattle.model.specs.Frame.{Frame, section, twoAt, encode}
+use Rattle.model.specs.Frame.{Frame, section, twoBytes, twoAt, laterSections, encode}
 use Rattle.model.specs.Order.{readingOf, keyNear, compareFrames, before, due}
 use Rattle.model.specs.Codec.{askPayload, frameOf}
 use Rattle.model.specs.Batch.{exactBatch, batchEntries}
@@ -26,13 +26,13 @@ use Rattle.model.specs.Judge.{Heard, judgeQuestions, absorbAll}
 use Rattle.model.specs.Tick.{Input, Output, openingStamp, openedQueue, heardOf, takenCount, acceptedWith}
 use Rattle.model.specs.Published.{Message, Process, rank, sameMessage, nextEvent, eventOf, deliverableBy, inOrder, buffered, deliveredAt, advanced, messageOf}
 use Rattle.model.specs.Run.{Node, Call, World, inputOf, doneOf}
-use Rattle.model.specs.Long.{longBound, plainly, longLimits, askLongSetup, longEncode, longestLong, longMost, longHoldbackSize, longHeldBytes, longHeld, longPasses, longNotEarly, longNotOverdue, longDue, longSoundHoldback, longEncodeFrames, longEncodeHoldback, longHear, longAbsorbAll, longCallQuestions, longClockSound, longTablesSound, longLeastDue, longShelfSound, longRepair, longOpeningStamp, longOpened, longBefore, longDueBy, longHeard, longNewStamp, longSent, longDelivered, longKept, longAcceptance, longTickBy, longTick}
+use Rattle.model.specs.Long.{longBound, plainly, longLimits, askLongSetup, lowFirst, longEncode, longestLong, longMost, longHoldbackSize, longHeldBytes, longHeld, longPasses, longNotEarly, longNotOverdue, longDue, longSoundHoldback, longEncodeFrames, longEncodeHoldback, longHear, longAbsorbAll, longCallQuestions, longClockSound, longTablesSound, longLeastDue, longShelfSound, longRepair, longOpeningStamp, longOpened, longBefore, longDueBy, longHeard, longNewStamp, longSent, longDelivered, longKept, longAcceptance, longTickBy, longTick}
 use Rattle.theory.specs.Demand2.{reduced, reducedFrame, verdictsOn, Outcome, outcomeOf, SameAs}
-use Rattle.theory.specs.LongClocks.{Engine, longEntry, longBatch, longInput, reducedStamp, reducedLong, narrowed, SameLong}
+use Rattle.theory.specs.LongClocks.{Engine, longEntry, longBatch, longInput, reducedStamp, reducedLong, rewritten, narrowed, narrowedDelivery, SameLong}
 use Rattle.lemmas.proofs.Bounds.{Limits, Sound, FrameOk}
 use Rattle.lemmas.proofs.Counts.{Left, left-beside, trimmed-widened, trimmed-same}
 use Rattle.lemmas.proofs.Queue.{early-from}
-use Rattle.lemmas.proofs.LongFrames.{long-decode-encode, long-passes-encode, long-held-bytes, long-held-frames, long-size, long-count, bundle-ends, bundle-entries}
+use Rattle.lemmas.proofs.LongFrames.{number-low, clock-fits, long-decode-encode, long-passes-encode, long-held-bytes, long-held-frames, long-size, long-count, bundle-ends, bundle-entries}
 use Rattle.lemmas.proofs.LongStamps.{atClock, step-moved, own-moved}
 use Rattle.lemmas.proofs.Board.{numbersOf, hear-verdicts, hear-length, board-opened, board-small}
 use Rattle.theory.proofs.World.{askingAt, leastAt as stationLeast, openedAt, Good, Ticks, Legal}
@@ -57,6 +57,35 @@ abbrev pub longOutcome : Setup → Input → Outcome → Output
 longOutcome s i o =
     acceptedWith i 0 (plainStamp (o .last)) (o .verdicts) (cond (i .send) (longEncode (plainFrame (o .message))) []) (map plainFrame (o .delivered))
     (longEncodeFrames (map plainFrame (o .delivered))) (longEncodeHoldback (longHoldbackSize s) (map plainFrame (o .buffer)))
+
+-- the bytes of an engine's frame, and of its hand-out, as a station's
+narrow-frame : (modulus : ℕ) (f : Frame) → f .stamp .r < longBound → narrowed modulus (longEncode f) ≡ encode (reducedLong modulus f)
+unfolding narrowed longEncode section lowFirst encode twoBytes reducedLong reducedStamp
+narrow-frame modulus f below =
+    ap (λ (r : ℕ). 3 ∷ f .station ∷ r % modulus % 256 ∷ r % modulus / 256 ∷ laterSections f)
+    (number-low 8 (f .stamp .r) (f .station ∷ []) (laterSections f) (clock-fits (f .stamp .r) below))
+
+narrow-frames :
+    (modulus : ℕ) (queue : List Frame) → ((f : Frame) → List·Memᴰ f queue → f .stamp .r < longBound)
+    → joined (narrowed modulus) (map longEncode queue) ≡ joined encode (map (reducedLong modulus) queue)
+unfolding joined
+narrow-frames modulus [] below = refl
+narrow-frames modulus (f ∷ queue) below =
+    ap₂ _++_ (narrow-frame modulus f (below f (List·Memᴰ·head refl))) (narrow-frames modulus queue (λ g t. below g (List·Memᴰ·tail t)))
+
+narrow-count :
+    (modulus : ℕ) (queue : List Frame) (rest : List ℕ) → take 2 (longEncodeFrames queue ++ rest) ≡ twoBytes (length (map (reducedLong modulus) queue))
+unfolding longEncodeFrames twoBytes
+narrow-count modulus queue rest = ap twoBytes (sym (length-map queue (reducedLong modulus)))
+
+narrow-delivery :
+    (s : Setup) (queue : List Frame) (old : List ℕ) → ((f : Frame) → List·Memᴰ f queue → FrameOk (plainly s) f)
+    → narrowedDelivery s (overlay (longEncodeFrames queue) old) ≡ encodeFrames (map (reducedLong (s .modulus)) queue)
+unfolding narrowedDelivery overlay encodeFrames
+narrow-delivery s queue old ok =
+    let rest : List ℕ = drop (length (longEncodeFrames queue)) old in
+    ap₂ _++_ (narrow-count (s .modulus) queue rest)
+    (ap (joined (narrowed (s .modulus))) (long-held-bytes s queue ok rest) ∙ narrow-frames (s .modulus) queue (λ f t. ok f t .r-below))
 
 module _ (s : Setup) (w : World) (sent : List (Option Message)) (call : Call) (node : Node) (v : ℕ) (p : Process)
     (good : Good s 0 0 w) (legal : Legal s 0 w call node v) (sent-as : SentAs s (w .past) sent) (ranked : RankedSent s (w .past) sent)
@@ -376,6 +405,11 @@ module _ (s : Setup) (w : World) (sent : List (Option Message)) (call : Call) (n
       (mem-of-select (deliverableBy (s .epsilon) (s .delta) v) (p .buffer ++ newHere sent call p)
       (mem-of-sortBy _ (select (deliverableBy (s .epsilon) (s .delta) v) (p .buffer ++ newHere sent call p)) t) .0)
 
+  handed-ok : (f : Frame) → List·Memᴰ f (map plainFrame delivered) → FrameOk (plainly s) f
+  handed-ok f t =
+      let (m, there, e) = mem-of-map plainFrame delivered t in
+      subst (λ (g : Frame). FrameOk (plainly s) g) (sym e) (delivered-ok m there)
+
   verdicts-long : length (verdictsOn (p .received) (heardHere sent call)) ≡ length (call .sources)
   verdicts-long =
       ap length (sym (verdicts-heard s w sent call node v p good legal sent-as ranked twin station))
@@ -387,13 +421,20 @@ module _ (s : Setup) (w : World) (sent : List (Option Message)) (call : Call) (n
   front-same old old′ k l e =
       ap (λ (n : ℕ). take n (overlay l old)) (sym e) ∙ (take-overlay l old ∙ (sym (take-overlay l old′) ∙ ap (λ (n : ℕ). take n (overlay l old′)) e))
 
+  rewritten-back :
+      (m : Message) → FrameOk (plainly s) (plainFrame m) → (b : Bool)
+      → cond b (encode (reducedFrame (s .modulus) m)) [] ≡ rewritten s (cond b (longEncode (plainFrame m)) [])
+  unfolding longEncode section reducedLong reducedStamp reducedFrame reduced
+  rewritten-back m ok false = refl
+  rewritten-back m ok true =
+      ap (λ (f : Frame). encode (reducedLong (s .modulus) f)) (sym (long-decode-encode (s .epsilon) (plainFrame m) (ok .sound .wide) (ok .r-below)))
+
   narrowed-back :
       (m : Message) → FrameOk (plainly s) (plainFrame m) → (b : Bool)
-      → cond b (encode (reducedFrame (s .modulus) m)) [] ≡ narrowed s (cond b (longEncode (plainFrame m)) [])
-  unfolding longEncode section reducedLong reducedStamp reducedFrame reduced
+      → cond b (encode (reducedFrame (s .modulus) m)) [] ≡ narrowed (s .modulus) (cond b (longEncode (plainFrame m)) [])
+  unfolding narrowed reducedLong reducedStamp reducedFrame reduced
   narrowed-back m ok false = refl
-  narrowed-back m ok true =
-      ap (λ (f : Frame). encode (reducedLong (s .modulus) f)) (sym (long-decode-encode (s .epsilon) (plainFrame m) (ok .sound .wide) (ok .r-below)))
+  narrowed-back m ok true = sym (narrow-frame (s .modulus) (plainFrame m) (ok .r-below))
 
   message-ok : FrameOk (plainly s) (plainFrame (messageOf (s .epsilon) v p (heardHere sent call) (call .payload)))
   unfolding messageOf
@@ -426,11 +467,7 @@ module _ (s : Setup) (w : World) (sent : List (Option Message)) (call : Call) (n
       ≡ map plainFrame (deliveredAt deliverableBy (s .epsilon) (s .delta) v p (heardHere sent call))
   unfolding overlay
   handed-engine old =
-      long-held-frames s (map plainFrame delivered)
-      (λ f t.
-      let (m, there, e) = mem-of-map plainFrame delivered t in
-      subst (λ (g : Frame). FrameOk (plainly s) g) (sym e) (delivered-ok m there))
-      (drop (length (longEncodeFrames (map plainFrame delivered))) old)
+      long-held-frames s (map plainFrame delivered) handed-ok (drop (length (longEncodeFrames (map plainFrame delivered))) old)
 
   same-here : SameAs s (outcomeOf deliverableBy s sent p v call) (doneOf node call)
   same-here =
@@ -452,6 +489,9 @@ module _ (s : Setup) (w : World) (sent : List (Option Message)) (call : Call) (n
       let narrow-again : map (reducedLong (s .modulus)) (map plainFrame delivered) ≡ map (reducedFrame (s .modulus)) delivered =
       unfold reducedLong reducedStamp reducedFrame reduced in (map-map (reducedLong (s .modulus)) plainFrame delivered) in
       let engine-bytes : List ℕ = cond (call .send) (longEncode (plainFrame message)) [] in
+      let station-sent : take (d .output .answer .sent) (d .output .outgoing) ≡ cond (call .send) (encode (reducedFrame (s .modulus) message)) [] =
+      ap₂ take (same .sent) (same .outgoing)
+      ∙ (take-overlay sent-bytes (d .call .outgoing) ∙ ap (λ (b : Bool). cond b (encode (reducedFrame (s .modulus) message)) []) send-is) in
       record {
         number = refl;
         repair = sym (same .repair);
@@ -462,13 +502,14 @@ module _ (s : Setup) (w : World) (sent : List (Option Message)) (call : Call) (n
             ap takenCount (sym (verdicts-heard s w sent call node v p good legal sent-as ranked twin station))
             ∙ (taken-are s w sent call node v p good legal sent-as ranked twin station ∙ sym (same .taken));
         tables = same .tables ∙ tables-narrow;
-        frames =
-            ap₂ take (same .sent) (same .outgoing)
-            ∙ (take-overlay sent-bytes (d .call .outgoing)
-            ∙ (ap (λ (b : Bool). cond b (encode (reducedFrame (s .modulus) message)) []) send-is
-            ∙ (narrowed-back message message-ok (call .send) ∙ ap (narrowed s) (sym (take-overlay engine-bytes (here .outgoing))))));
+        frames = station-sent ∙ (narrowed-back message message-ok (call .send) ∙ ap (narrowed (s .modulus)) (sym (take-overlay engine-bytes (here .outgoing))));
+        framesRead = station-sent ∙ (rewritten-back message message-ok (call .send) ∙ ap (rewritten s) (sym (take-overlay engine-bytes (here .outgoing))));
         delivered = length-map delivered plainFrame ∙ sym (same .delivered);
         handouts =
+            same .delivery
+            ∙ ap (λ (l : List ℕ). overlay l (d .call .delivery))
+            (ap encodeFrames (sym narrow-again) ∙ sym (narrow-delivery s (map plainFrame delivered) (here .delivery) handed-ok));
+        handedOut =
             ap (held (s .epsilon)) (same .delivery)
             ∙ (handed-station (d .call .delivery)
             ∙ (sym narrow-again ∙ ap (map (reducedLong (s .modulus))) (sym (handed-engine (here .delivery)))));

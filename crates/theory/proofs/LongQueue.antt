@@ -1,6 +1,6 @@
 -- 02, 2.9: what an engine hands out and keeps, by a search through all that it holds, is what the process delivers and keeps.
 -- Assumes nothing.
-use Prim.Native.Nat.{ℕ, _+_}
+use Prim.Native.Nat.{ℕ}
 use native.Mathlib.Omega.{arith}
 use mathlib.Core.Path.{_≡_, ap, subst, _∙_}
 use mathlib.Core.Logic.{inl, inr}

@@ -11,19 +11,21 @@ use mathlib.Core.List.{List, List·Memᴰ}
 use lib.ListN.{length}
 use borrow.Author.Tests.{lt-ltb}
 use Rattle.laws.proofs.Numbers.{clash, within-intro}
+use Rattle.laws.proofs.Lists.{every-mem}
 use Rattle.model.specs.Setup.{Setup, width}
-use Rattle.model.specs.Timestamp.{Timestamp, sum, clockStep, soundClock, trimmed, step}
+use Rattle.model.specs.Timestamp.{Timestamp, clockStep, soundClock, trimmed, step}
 use Rattle.model.specs.Frame.{Frame}
-use Rattle.model.specs.Order.{readingOf, due, dueNear}
-use Rattle.model.specs.Holdback.{held, soundHoldback}
+use Rattle.model.specs.Order.{readingOf}
+use Rattle.model.specs.Holdback.{held, notEarly, soundHoldback}
 use Rattle.model.specs.Tick.{tablesSound, stepOf, leastAfter, leastDue, shelfSound, openingStamp, openingQueue, repairOf}
 use Rattle.model.specs.Run.{Node, Done, World}
 use Rattle.lemmas.proofs.Bounds.{Limits}
 use Rattle.lemmas.proofs.Reading.{step-true}
 use Rattle.lemmas.proofs.Counts.{left-tables}
-use Rattle.lemmas.proofs.Queue.{QueueLeft, reading-high, reading-later, left-later, left-ok, left-room, bytes-sound}
+use Rattle.lemmas.proofs.Queue.{QueueLeft, early-from, opening-queue, reading-later, left-later, left-due, left-ok, left-room, bytes-sound}
 use Rattle.lemmas.proofs.OneTick.{opening-stamp}
 use Rattle.theory.proofs.Stamps.{early-bounded, step-bounded, under-step}
+use Rattle.theory.proofs.Due.{due-moves}
 use Rattle.theory.proofs.World.{Explained, leastBy, leastAt, openedAt, OpensQueue, OpensStamp, Memory, Tables, LeftStamp, LeftAt, Untouched, NodeOk}
 
 -- what a call left is sound for the clock k after it, for a step of 1 to ε, and is opened as it is
@@ -107,62 +109,65 @@ module _ (s : Setup) (floor from : ℕ) (w : World) (i : ℕ) (node : Node) (k :
 
   explained-later :
       Memory s node → (past : List Done) (heard : ℕ → Bool) (f : Frame) → List·Memᴰ f (held (s .epsilon) (node .holdback))
-      → Explained s from past heard (node .clock) f → Explained s from past heard (node .clock + k) f
+      → Explained s floor past heard (node .clock) f → Explained s floor past heard (node .clock + k) f
   explained-later memory past heard f m (inl h) = inl (omega (arith, reads-later memory f m))
   explained-later memory past heard f m (inr x) = inr (x .0, x .1, x .2, x .3, x .4, x .5, reads-later memory f m ∙ x .6)
 
   -- what a call left
-  pub left-opens : LeftAt s floor from w i node → OpensQueue s from w i (node .clock) (node .clock + k) (held (s .epsilon) (node .holdback))
-  unfolding dueNear due sum
+  pub left-opens : LeftAt s floor from w i node → OpensQueue s floor from w i (node .clock) (node .clock + k) (held (s .epsilon) (node .holdback))
   left-opens left =
       record {
         members = λ f m. explained-later (left .memory) (w .past) _ f m (left .members f m);
-        later = λ f m cov. omega (arith, reads-later (left .memory) f m, left .memory .queue .later f m);
+        later = λ f m cov.
+            omega (arith, due-moves s (node .clock + k) (node .clock) f (reads-later (left .memory) f m), left-due s (node .clock % s .modulus) 0 (held (s .epsilon) (node .holdback)) (left .memory .queue) f m);
         waiting = left .waiting;
       }
 
   left-opens-stamp : LeftStamp s floor w i node → (v : ℕ) → OpensStamp s floor w i (node .clock + k) (step k v (trimmed (s .epsilon) (node .tables)))
   left-opens-stamp left v =
       record {
-        bounded = step-bounded s floor (w .nodes) k (node .clock) v (trimmed (s .epsilon) (node .tables)) (left .bounded);
+        bounded = step-bounded (s .epsilon) floor (w .nodes) k (node .clock) v (trimmed (s .epsilon) (node .tables)) (left .bounded);
         passed-on = λ j d at made same.
             let r = left .passed-on j d at made same in
             record {
               last = r .last;
               sound = r .sound;
               comes = r .comes;
-              under = under-step k (node .clock) v (r .last .clock) _ (trimmed (s .epsilon) (node .tables)) (r .under);
+              under = under-step (s .epsilon) k (node .clock) v (r .last .clock) _ (trimmed (s .epsilon) (node .tables)) (r .under);
             };
       }
 
   -- whatever was there before the first call
-  pub untouched-opens : floor ≤ from → Untouched s floor w i node → (queue : List Frame) → OpensQueue s from w i (node .clock) (node .clock + k) queue
-  untouched-opens order old queue =
+  pub untouched-opens : floor ≤ from → Untouched s floor w i node → (queue : List Frame)
+      → ((f : Frame) → List·Memᴰ f queue → notEarly s ((node .clock + k) % s .modulus) f ≡ true) → OpensQueue s floor from w i (node .clock) (node .clock + k) queue
+  untouched-opens order old queue early =
       record {
-        members = λ f m. inl (below f);
-        later = λ f m cov. absurd (omega (arith, below f));
+        members = λ f m. inl (below f m);
+        later = λ f m cov. absurd (omega (arith, below f m, order));
         waiting = λ j m at cov heard. absurd (clash heard (old .unheard j));
       }
     where
-      below : (f : Frame) → readingOf s ((node .clock + k) % s .modulus) f + (node .clock + k) < s .modulus + from
-      below f = omega (arith, old .early, order, few, reading-high s ((node .clock + k) % s .modulus) f limits)
+      below : (f : Frame) → List·Memᴰ f queue → readingOf s ((node .clock + k) % s .modulus) f + f .stamp .c + (node .clock + k) < s .modulus + floor
+      below f m = omega (arith, old .early, few, limits .epsilon-pos, early-from s ((node .clock + k) % s .modulus) f (early f m))
 
   untouched-opens-stamp : Untouched s floor w i node → (t : Timestamp) → length (t .kn) ≡ width (s .epsilon) → OpensStamp s floor w i (node .clock + k) t
   untouched-opens-stamp old t wide =
       record {
-        bounded = early-bounded s floor (w .nodes) (node .clock + k) (t .kn) wide (omega (arith, old .early));
+        bounded = early-bounded (s .epsilon) floor (w .nodes) (node .clock + k) (t .kn) wide (omega (arith, old .early));
         passed-on = λ j d at made same. absurd (old .uncalled j d at made same);
       }
 
 -- so a call for a clock 1 to ε after the node's starts from these
 pub node-opens :
     (s : Setup) (floor from : ℕ) (w : World) (i : ℕ) (node : Node) (v k : ℕ) → Limits s → floor ≤ from → NodeOk s floor from w i node
-    → v ≡ node .clock + k → 1 ≤ k → k ≤ s .epsilon → OpensQueue s from w i (node .clock) v (openedAt s v node)
+    → v ≡ node .clock + k → 1 ≤ k → k ≤ s .epsilon → OpensQueue s floor from w i (node .clock) v (openedAt s v node)
 node-opens s floor from w i node v k limits order (inl old) turn pos few =
-    subst (λ (x : ℕ). OpensQueue s from w i (node .clock) x (openedAt s v node)) (sym turn) (untouched-opens s floor from w i node k limits few order old (openedAt s v node))
+    subst (λ (x : ℕ). OpensQueue s floor from w i (node .clock) x (openedAt s v node)) (sym turn)
+    (untouched-opens s floor from w i node k limits few order old (openedAt s v node)
+    (λ f m. subst (λ (x : ℕ). notEarly s (x % s .modulus) f ≡ true) turn (every-mem (notEarly s (v % s .modulus)) (opening-queue s (v % s .modulus) (leastAt s v node) (node .holdback) limits .early) m)))
 node-opens s floor from w i node v k limits order (inr left) turn pos few =
     rw (opens-shelf s node v k limits (left .memory) turn pos few (λ station. left .stamp station .tables))
-    (subst (λ (x : ℕ). OpensQueue s from w i (node .clock) x (held (s .epsilon) (node .holdback))) (sym turn) (left-opens s floor from w i node k limits few left))
+    (subst (λ (x : ℕ). OpensQueue s floor from w i (node .clock) x (held (s .epsilon) (node .holdback))) (sym turn) (left-opens s floor from w i node k limits few left))
 
 -- and a station's from this stamp
 pub node-opens-stamp :

@@ -11,13 +11,13 @@ use mathlib.Core.Option.{Option, some}
 use lib.ListN.{length, take, getD, getElem?}
 use lib.Seq.{take-all}
 use borrow.Author.Tests.{lt-ltb, le-ltb, ltb-true, eq-eqb, eqb-true}
-use Rattle.laws.specs.Lists.{any, select, sortBy, placedAt, foldLeft}
+use Rattle.laws.specs.Lists.{any, select, sortBy, foldLeft}
 use Rattle.laws.specs.Lex.{lexCompare}
 use Rattle.laws.proofs.Numbers.{eq-or-ne, lt-or-ge, or-left, or-cases, not-of-false}
 use Rattle.laws.proofs.Lists.{getElem?-in, getElem?-lt, getElem?-getD, mem-select, mem-of-select}
 use Rattle.laws.proofs.Lex.{lex-trans}
 use Rattle.model.specs.Setup.{Setup, width}
-use Rattle.model.specs.Timestamp.{Timestamp, sum}
+use Rattle.model.specs.Timestamp.{Timestamp, countAt}
 use Rattle.model.specs.Frame.{Frame, decode}
 use Rattle.model.specs.Order.{readingOf, key, due, dueNear}
 use Rattle.model.specs.Holdback.{heldBytes}
@@ -37,6 +37,7 @@ use Rattle.theory.proofs.Boards.{heardOn, deliveredOn, delivers-ok, del
 use Rattle.theory.proofs.Reach.{reached-some, reached-not-all}
 use Rattle.theory.proofs.Stamps.{own-under, own-strict}
 use Rattle.theory.proofs.HearLoop.{Settles, Arrival, Entry, Around, Unreached, QueueLoop, StampLoop, TakesOnce, judged-once, observed-once, queue-one, stamp-takes, stamp-one, arrival-undue, covered-sends, some-inj}
+use Rattle.theory.proofs.Due.{due-reads, due-window}
 use Rattle.theory.proofs.Delivery.{Delivers, delivery}
 use Rattle.theory.proofs.World.{eventFrame, askingBy, askingAt, leastAt, openedAt, earlyAt, eventKey, Under, heardAt, explained-more, Settled, Passed-on, Good, Ticks, Legal, SentEntry, Kept, act-is, sends-event, event-kind, nodesAfter, after-at, after-other, after-together, OpensQueue, OpensStamp}
 use Rattle.theory.proofs.Opening.{node-opens, node-opens-stamp}
@@ -45,22 +46,40 @@ use Rattle.theory.proofs.Entries.{heardTo, stateAt, stampAt, state-suc,
 -- what an accepted call for v has come to: the two halves after its last entry, the stamp of a station, and its promises
 pub record Ends (s : Setup) (floor from : ℕ) (w : World) (call : Call) (node : Node) (v : ℕ) : Type 0 where
   pub limits : Limits s
-  pub queue : QueueLoop s from (w .past) v (heardAt (w .past ++ (doneOf node call ∷ [])) (call .node)) (heardOn s v node call .queue)
+  pub queue : QueueLoop s floor from (w .past) v (heardAt (w .past ++ (doneOf node call ∷ [])) (call .node)) (heardOn s v node call .queue)
   pub stamp : node .listens ≡ false → StampLoop s floor (w .nodes) v (openingStamp s (v % s .modulus) (node .tables)) (heardStamp (inputOf node call))
   pub kept : Kept s from (w .past) (doneOf node call)
+
+-- the drift limit: in a call for v no node's clock is ε or more ahead of v
+none-ahead :
+    (s : Setup) (floor from : ℕ) (w : World) (call : Call) (node : Node) (v : ℕ) → Good s floor from w → Legal s floor w call node v
+    → (i : ℕ) (a : Node) → getElem? (w .nodes) i ≡ some a → a .clock < v + s .epsilon
+none-ahead s floor from w call node v good legal i a at =
+    omega (arith, legal .called .turn, legal .called .step-pos, good .group .together i (call .node) a node at (legal .at))
+
+-- the delay limit, beside it: a message of the node i that is heard while that node's clock, after the call, is at most δ past the sending is not late for v
+not-late :
+    (s : Setup) (floor : ℕ) (w : World) (call : Call) (node : Node) (v : ℕ) → Legal s floor w call node v → (i R : ℕ) (b : Node)
+    → getElem? (nodesAfter (w .nodes) call node) i ≡ some b → b .clock ≤ R + s .delta → v ≤ R + s .delta + s .epsilon
+not-late s floor w call node v legal i R b at near-by =
+    omega (
+      arith,
+      after-together s floor w call node v legal (call .node) i (nodeAfter node (call .step) (outputOf node call)) b (after-at (w .nodes) call node (legal .at)) at,
+      after-clock s node call (legal .called),
+    )
 
 -- a message that is due past the clock before the call reads at its true clock
 pub waiting-reads :
     (s : Setup) (floor from : ℕ) (w : World) (call : Call) (node : Node) (v : ℕ) → Good s floor from w → Legal s floor w call node v
     → (k : ℕ) (m : Done) → getElem? (w .past) k ≡ some m → sends m ≡ true → node .clock < due s (m .clock) (eventFrame s m .stamp .c)
     → readingOf s (v % s .modulus) (eventFrame s m) + v ≡ s .modulus + m .clock
-unfolding due sum
 waiting-reads s floor from w call node v good legal k m at sent un =
     let st = good .calls k m at (sends-event m sent) in
     let limits = good .group .limits (call .node) node (legal .at) in
     event-reads s v m limits (st .event)
-    (omega (arith, st .maker .clock-is, legal .called .turn, legal .called .step-pos, good .group .together (m .node) (call .node) (st .maker .node) node (st .maker .at) (legal .at)))
-    (omega (arith, un, legal .called .turn, legal .called .step-few, st .event .frame .sound .close, limits .modulus-least))
+    (omega (arith, st .maker .clock-is, none-ahead s floor from w call node v good legal (m .node) (st .maker .node) (st .maker .at)))
+    (due-window s (node .clock) v (m .clock) (eventFrame s m .stamp .c) limits (st .event .frame .sound .close) un
+    (omega (arith, legal .called .turn, legal .called .step-few)))
 
 module _ (s : Setup) (floor from : ℕ) (settles : Settles s floor from) (w : World) (call : Call) (node : Node) (v : ℕ) (good : Good s floor from w) (legal : Legal s floor w call node v) where
   -- whom it meets
@@ -69,14 +88,14 @@ module _ (s : Setup) (floor from : ℕ) (settles : Settles s floor from) (w : Wo
       record {
         limits = good .group .limits (call .node) node (legal .at);
         none-ahead = λ u h.
-            let r = reached-some (s .epsilon) (w .nodes) u h in
-            omega (arith, r .3, legal .called .turn, legal .called .step-pos, good .group .together (r .0) (call .node) (r .1) node (r .2) (legal .at));
+            let r = reached-some (w .nodes) u h in
+            omega (arith, r .3, none-ahead s floor from w call node v good legal (r .0) (r .1) (r .2));
         unique = λ k l a b p q x y.
             good .unique k l a b p q (sends-event a x) (sends-event b y);
       }
 
   pub unreached : node .listens ≡ false → Unreached s (w .nodes) v
-  unreached station u h = omega (arith, reached-not-all (s .epsilon) (w .nodes) u (call .node) node (legal .at) station (omega (arith, legal .called .turn, legal .called .step-pos)), good .group .few)
+  unreached station u h = omega (arith, reached-not-all (w .nodes) u (call .node) node (legal .at) station (omega (arith, legal .called .turn, legal .called .step-pos)), good .group .few)
 
   pub entry-at :
       (e : ℕ) (bytes : List ℕ) (o : Source) → getElem? (batchEntries (call .batch)) e ≡ some bytes → getElem? (call .sources) e ≡ some o
@@ -98,7 +117,7 @@ module _ (s : Setup) (floor from : ℕ) (settles : Settles s floor from) (w : Wo
 
       late-by : (b : Node) → getElem? (nodesAfter (w .nodes) call node) (m .node) ≡ some b → v ≤ m .clock + s .delta + s .epsilon
       late-by b b-at =
-          omega (arith, after-together s floor w call node v legal (call .node) (m .node) (nodeAfter node (call .step) (outputOf node call)) b (after-at (w .nodes) call node (legal .at)) b-at, subst (λ (o : Option Node). clockAt o ≤ m .clock + s .delta) b-at near-by, after-clock s node call (legal .called))
+          not-late s floor w call node v legal (m .node) (m .clock) b b-at (subst (λ (o : Option Node). clockAt o ≤ m .clock + s .delta) b-at near-by)
 
       late : v ≤ m .clock + s .delta + s .epsilon
       late =
@@ -114,13 +133,13 @@ module _ (s : Setup) (floor from : ℕ) (settles : Settles s floor from) (w : Wo
             sent = entry .sent;
             event = settled .event;
             bounded = settled .bounded;
-            not-ahead = omega (arith, settled .maker .clock-is, legal .called .turn, legal .called .step-pos, good .group .together (m .node) (call .node) (settled .maker .node) node (settled .maker .at) (legal .at));
+            not-ahead = omega (arith, settled .maker .clock-is, none-ahead s floor from w call node v good legal (m .node) (settled .maker .node) (settled .maker .at));
             not-late = late;
           }
 
   -- the two halves before entry e
   abbrev pub QueueAt : ℕ → Type 0
-  QueueAt e = QueueLoop s from (w .past) v (heardTo (w .past) call e) (stateAt s v node call e .queue)
+  QueueAt e = QueueLoop s floor from (w .past) v (heardTo (w .past) call e) (stateAt s v node call e .queue)
 
   abbrev pub StampAt : Timestamp → ℕ → Type 0
   StampAt opening e = StampLoop s floor (w .nodes) v opening (stampAt s v node call e)
@@ -143,12 +162,12 @@ module _ (s : Setup) (floor from : ℕ) (settles : Settles s floor from) (w : Wo
 
   queue-next : (e : ℕ) → e < length (batchEntries (call .batch)) → QueueAt e → QueueAt (suc e)
   queue-next e h loop =
-      subst (λ (x : Heard). QueueLoop s from (w .past) v (heardTo (w .past) call (suc e)) (x .queue)) (sym (state-suc s v node call e h))
+      subst (λ (x : Heard). QueueLoop s floor from (w .past) v (heardTo (w .past) call (suc e)) (x .queue)) (sym (state-suc s v node call e h))
       (queue-one s floor from settles (w .nodes) (w .past) v around (askingAt s v node) takes-once (heardTo (w .past) call e) (heardTo (w .past) call (suc e)) (stateAt s v node call e)
       (getD (batchEntries (call .batch)) e []) (getD (call .sources) e stale) loop (entry-here e h) (heard-suc (w .past) call e (omega (arith, legal .lengths))))
 
   -- what it starts from
-  starts : OpensQueue s from w (call .node) (node .clock) v (openedAt s v node)
+  starts : OpensQueue s floor from w (call .node) (node .clock) v (openedAt s v node)
   starts =
       node-opens s floor from w (call .node) node v (call .step) (around .limits) (settles .0) (good .node (call .node) node (legal .at))
       (legal .called .turn) (legal .called .step-pos) (legal .called .step-few)
@@ -157,11 +176,10 @@ module _ (s : Setup) (floor from : ℕ) (settles : Settles s floor from) (w : Wo
   opened-sound = opening-queue s (v % s .modulus) (leastAt s v node) (node .holdback) (around .limits)
 
   -- a covered message's due clock, as the node reads it
-  due-reads :
+  due-waits :
       (k : ℕ) (m : Done) → getElem? (w .past) k ≡ some m → covered from m ≡ true → node .clock < due s (m .clock) (eventFrame s m .stamp .c)
       → dueNear s (v % s .modulus) (eventFrame s m) + v ≡ s .modulus + due s (m .clock) (eventFrame s m .stamp .c)
-  unfolding dueNear due sum
-  due-reads k m at fol un = omega (arith, waiting-reads s floor from w call node v good legal k m at (covered-sends from m fol) un)
+  due-waits k m at fol un = due-reads s v (m .clock) (eventFrame s m) (waiting-reads s floor from w call node v good legal k m at (covered-sends from m fol) un)
 
   queue-start : QueueAt 0
   unfolding stateAt hear foldLeft any dueBefore
@@ -169,13 +187,13 @@ module _ (s : Setup) (floor from : ℕ) (settles : Settles s floor from) (w : Wo
       record {
         sound = queue-rest s (v % s .modulus) (leastAt s v node) (openedAt s v node) opened-sound;
         members = λ f mem.
-            explained-more s from (w .past) (heardAt (w .past) (call .node)) (heardTo (w .past) call 0) v f (λ j h. or-left false h)
+            explained-more s floor (w .past) (heardAt (w .past) (call .node)) (heardTo (w .past) call 0) v f (λ j h. or-left false h)
             (starts .members f (mem-of-select (λ g. not (dueBefore s (v % s .modulus) g)) (openedAt s v node) mem .0));
         present = λ k m at fol hd un.
             let un′ : node .clock < due s (m .clock) (eventFrame s m .stamp .c) = omega (arith, un, legal .called .turn, legal .called .step-pos) in
             mem-select (λ g. not (dueBefore s (v % s .modulus) g))
             (starts .waiting k m at fol (sym (or-false (heardAt (w .past) (call .node) k)) ∙ hd) un′)
-            (not-of-false (le-ltb (dueNear s (v % s .modulus) (eventFrame s m)) (s .modulus) (omega (arith, due-reads k m at fol un′, un))));
+            (not-of-false (le-ltb (dueNear s (v % s .modulus) (eventFrame s m)) (s .modulus) (omega (arith, due-waits k m at fol un′, un))));
       }
 
   pub queue-at : (e : ℕ) → e ≤ length (batchEntries (call .batch)) → QueueAt e
@@ -190,12 +208,12 @@ module _ (s : Setup) (floor from : ℕ) (settles : Settles s floor from) (w : Wo
 
   -- after the last entry
   queue-end :
-      QueueLoop s from (w .past) v (heardAt (w .past ++ (doneOf node call ∷ [])) (call .node)) (heardOn s v node call .queue)
+      QueueLoop s floor from (w .past) v (heardAt (w .past ++ (doneOf node call ∷ [])) (call .node)) (heardOn s v node call .queue)
   queue-end =
-      subst (λ (h : Heard). QueueLoop s from (w .past) v (heardAt (w .past ++ (doneOf node call ∷ [])) (call .node)) (h .queue)) (sym (state-end s v node call))
+      subst (λ (h : Heard). QueueLoop s floor from (w .past) v (heardAt (w .past ++ (doneOf node call ∷ [])) (call .node)) (h .queue)) (sym (state-end s v node call))
       (record {
         sound = all .sound;
-        members = λ f mem. explained-more s from (w .past) (heardTo (w .past) call many) (heardAt (w .past ++ (doneOf node call ∷ [])) (call .node)) v f (λ j h. sym (heard-all j) ∙ h) (all .members f mem);
+        members = λ f mem. explained-more s floor (w .past) (heardTo (w .past) call many) (heardAt (w .past ++ (doneOf node call ∷ [])) (call .node)) v f (λ j h. sym (heard-all j) ∙ h) (all .members f mem);
         present = λ k m at fol hd un. all .present k m at fol (heard-all k ∙ hd) un;
       })
     where
@@ -249,7 +267,7 @@ module _ (s : Setup) (floor from : ℕ) (settles : Settles s floor from) (w : Wo
 
   -- what of the covered messages heard here has come due since the clock before this call
   came-due :
-      Delivers s from (w .past) (heardAt (w .past ++ (doneOf node call ∷ [])) (call .node)) (node .clock) v
+      Delivers s floor from (w .past) (heardAt (w .past ++ (doneOf node call ∷ [])) (call .node)) (node .clock) v
       (deliveredOn s v node call)
   unfolding dueNow dueBefore
   came-due =
@@ -259,7 +277,7 @@ module _ (s : Setup) (floor from : ℕ) (settles : Settles s floor from) (w : Wo
         members = λ f m.
             elim (split f m) [
               | inl q ↦
-                  explained-more s from (w .past) (heardAt (w .past) (call .node)) (heardAt (w .past ++ (doneOf node call ∷ [])) (call .node)) v f
+                  explained-more s floor (w .past) (heardAt (w .past) (call .node)) (heardAt (w .past ++ (doneOf node call ∷ [])) (call .node)) v f
                   (λ j h. sym (heard-all j) ∙ or-left (any (isFrom j) (take many (call .sources))) h) (starts .members f (q .0))
               | inr q ↦ queue-end .members f (q .0)
             ];
@@ -278,11 +296,11 @@ module _ (s : Setup) (floor from : ℕ) (settles : Settles s floor from) (w : Wo
               | inl q ↦
                   Memᴰ·append-left (select (dueNow s (v % s .modulus)) (heardOn s v node call .queue))
                   (mem-select (dueBefore s (v % s .modulus)) (starts .waiting k m at fol (heard-before k m at q hd) lo)
-                  (lt-ltb (dueNear s (v % s .modulus) (eventFrame s m)) (s .modulus) (omega (arith, due-reads k m at fol lo))))
+                  (lt-ltb (dueNear s (v % s .modulus) (eventFrame s m)) (s .modulus) (omega (arith, due-waits k m at fol lo))))
               | inr q ↦
                   Memᴰ·append-right (earlyAt s v node)
                   (mem-select (dueNow s (v % s .modulus)) (queue-end .present k m at fol hd q)
-                  (eq-eqb (dueNear s (v % s .modulus) (eventFrame s m)) (s .modulus) (omega (arith, due-reads k m at fol lo))))
+                  (eq-eqb (dueNear s (v % s .modulus) (eventFrame s m)) (s .modulus) (omega (arith, due-waits k m at fol lo))))
             ];
       }
     where
@@ -301,7 +319,7 @@ module _ (s : Setup) (floor from : ℕ) (settles : Settles s floor from) (w : Wo
       ≡ map messageBytes (sortBy (earlier s) (dueHere s from (w .past ++ (doneOf node call ∷ [])) (call .node) (node .clock) v))
   delivers-here =
       ap (select (coveredFrame s from v)) (delivers-bytes s node call (legal .called))
-      ∙ delivery s from (node .clock) v (call .node) (w .past) (doneOf node call)
+      ∙ delivery s floor from (node .clock) v (call .node) (settles .0) (w .past) (doneOf node call)
       (deliveredOn s v node call) (around .limits)
       (omega (arith, legal .called .turn, legal .called .step-few)) (λ k m at made. good .calls k m at made .event) (good .unique)
       (done-clock s node call (legal .called)) came-due
@@ -357,21 +375,21 @@ module _ (s : Setup) (floor from : ℕ) (settles : Settles s floor from) (w : Wo
     stamp-all = stamps-end (openingStamp s (v % s .modulus) (node .tables)) (stamp-at many (omega arith))
 
     causes :
-        (R : ℕ) (f : Frame) → Sound (s .n) (s .epsilon) (f .stamp) → Under R (f .stamp) v (heardStamp (inputOf node call))
+        (R : ℕ) (f : Frame) → Sound (s .n) (s .epsilon) (f .stamp) → Under (s .epsilon) R (f .stamp) v (heardStamp (inputOf node call))
         → lexCompare (key s R f) (eventKey s (doneOf node call)) ≡ Ordering·lt
     unfolding eventKey
     causes R f sound under =
         subst (λ (u : ℕ). lexCompare (key s R f) (key s u (eventFrame s (doneOf node call))) ≡ Ordering·lt) (sym (done-clock s node call (legal .called)))
         (cause-first s R v f (eventFrame s (doneOf node call)) sound (event-made s node call ticks .frame .sound) (more .sums) (more .counts)
-        (subst (λ (t : Timestamp). placedAt R (f .stamp .kn) (v + s .epsilon) < placedAt v (t .kn) (v + s .epsilon)) (sym (event-own s node call ticks))
+        (subst (λ (t : Timestamp). countAt (s .epsilon) R (f .stamp .kn) v < countAt (s .epsilon) v (t .kn) v) (sym (event-own s node call ticks))
         (own-strict (s .epsilon) v (v % s .modulus) R (f .stamp) (heardStamp (inputOf node call)) wide (around .limits .epsilon-pos) under)))
       where
         wide : length (heardStamp (inputOf node call) .kn) ≡ width (s .epsilon)
         wide = stamp-all .absorbing .opened .wide
 
-        more : Under R (f .stamp) v (eventFrame s (doneOf node call) .stamp)
+        more : Under (s .epsilon) R (f .stamp) v (eventFrame s (doneOf node call) .stamp)
         more =
-            subst (λ (t : Timestamp). Under R (f .stamp) v t) (sym (event-own s node call ticks))
+            subst (λ (t : Timestamp). Under (s .epsilon) R (f .stamp) v t) (sym (event-own s node call ticks))
             (own-under (s .epsilon) v (v % s .modulus) R (f .stamp) (heardStamp (inputOf node call)) wide (around .limits .epsilon-pos) under)
 
     comes-later :
@@ -418,9 +436,9 @@ module _ (s : Setup) (floor from : ℕ) (settles : Settles s floor from) (w : Wo
             ∙ ap (λ (asking : Asking). absorbBy (firstNo (asking (stateAt s v node call e .queue) (messageBytes m))) s (v % s .modulus) (decode (s .epsilon) (messageBytes m)) (stampAt s v node call e))
             (asking-is s v node call ticks)
 
-        taken : Under (m .clock) (eventFrame s m .stamp) v (stampAt s v node call (suc e))
+        taken : Under (s .epsilon) (m .clock) (eventFrame s m .stamp) v (stampAt s v node call (suc e))
         taken =
-            subst (λ (t : Timestamp). Under (m .clock) (eventFrame s m .stamp) v t) (sym next)
+            subst (λ (t : Timestamp). Under (s .epsilon) (m .clock) (eventFrame s m .stamp) v t) (sym next)
             (stamp-takes s floor from settles (w .nodes) (w .past) v around (stateAt s v node call e .queue) (openingStamp s (v % s .modulus) (node .tables)) (stampAt s v node call e)
             (stamp-at e (omega (arith, inside))) k m (r .0) verdict)
 

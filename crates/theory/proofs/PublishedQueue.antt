@@ -19,7 +19,7 @@ use Rattle.laws.proofs.Lex.{isLess-lt, lt-isLess, lex-head-lt, lex-head-eq, lex
 use Rattle.laws.proofs.Sorted.{pairwise-mono, lessBy, Sorted, sorted-map, sorted-unique, apart-select}
 use Rattle.laws.proofs.InsertionSort.{mem-sortBy, mem-of-sortBy, sorted-sortBy}
 use Rattle.model.specs.Setup.{Setup}
-use Rattle.model.specs.Timestamp.{sum}
+use Rattle.model.specs.Timestamp.{countAt, sum}
 use Rattle.model.specs.Frame.{Frame}
 use Rattle.model.specs.Order.{readingOf, keyBy, key, keyNear, countsDown, due, dueNear}
 use Rattle.model.specs.Tick.{dueBefore, dueNow}
@@ -270,10 +270,10 @@ counts-first :
     (n epsilon B : ℕ) (e e′ : Event) → Sound n epsilon (reduced B e) → Sound n epsilon (reduced B e′) → e .r + e .c ≡ e′ .r + e′ .c
     → Knows e e′ → known e (e′ .r + epsilon) < known e′ (e′ .r + epsilon)
     → lexCompare (countsDown epsilon (reduced B e)) (countsDown epsilon (reduced B e′)) ≡ Ordering·lt
-unfolding reduced
+unfolding reduced countAt
 counts-first n epsilon B e e′ o o′ q k more =
     counts-down-first n epsilon (e .r) (e′ .r) (reduced B e) (reduced B e′) o o′ q
-    (λ w h. rw (known-count e w, known-count e′ w) at (k .counts w h))
+    (λ x h. rw (known-count e (x + epsilon), known-count e′ (x + epsilon)) at (k .counts (x + epsilon) (omega (arith, o′ .close))))
     (rw (known-count e (e′ .r + epsilon), known-count e′ (e′ .r + epsilon)) at more)
 
 -- of two messages the one that the other's sender knew of comes first

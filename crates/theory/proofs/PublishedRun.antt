@@ -159,7 +159,7 @@ module _ (s : Setup) (w : World) (sent : List (Option Message)) (good : Good s 0
 
     verdict-of :
         (k : ℕ) (d : Done) (bytes : List ℕ) (heard : ℕ → Bool) (h : Heard) → Arrival s 0 (w .nodes) (w .past) v k d → bytes ≡ messageBytes d
-        → QueueLoop s 0 (w .past) v heard (h .queue)
+        → QueueLoop s 0 0 (w .past) v heard (h .queue)
         → firstNo (judgeQuestions s (v % s .modulus) (h .queue) bytes) ≡ cond (heard k) 16 0
     unfolding covered
     verdict-of k d bytes heard h a e loop =
@@ -168,7 +168,7 @@ module _ (s : Setup) (w : World) (sent : List (Option Message)) (good : Good s 0
 
     pub news-of :
         (entries : List (List ℕ)) (sources : List Source) (heard : ℕ → Bool) (h : Heard) (seen : List Message)
-        → QueueLoop s 0 (w .past) v heard (h .queue) → SeenIs sent heard seen → length entries ≡ length sources
+        → QueueLoop s 0 0 (w .past) v heard (h .queue) → SeenIs sent heard seen → length entries ≡ length sources
         → ((e : ℕ) (bytes : List ℕ) (o : Source) → getElem? entries e ≡ some bytes → getElem? sources e ≡ some o → Entry s 0 (w .nodes) (w .past) v bytes o)
         → News s v sent heard h entries sources (newOnes seen (messagesHeard sent sources))
     unfolding messagesHeard newOnes isFrom

@@ -78,7 +78,7 @@ good-more s floor from w d good refused maker =
     heard-same : (i k : ℕ) → heardAt (w .past ++ (d ∷ [])) i k ≡ heardAt (w .past) i k
     heard-same i k = refused-heard (w .past) d i k refused
 
-    explained : (i v : ℕ) (f : Frame) → Explained s from (w .past) (heardAt (w .past) i) v f → Explained s from (w .past ++ (d ∷ [])) (heardAt (w .past ++ (d ∷ [])) i) v f
+    explained : (i v : ℕ) (f : Frame) → Explained s floor (w .past) (heardAt (w .past) i) v f → Explained s floor (w .past ++ (d ∷ [])) (heardAt (w .past ++ (d ∷ [])) i) v f
     explained i v f (inl h) = inl h
     explained i v f (inr x) =
         inr (x .0, x .1, getElem?-append (w .past) (d ∷ []) (x .0) (getElem?-lt (w .past) (x .0) (x .2)) ∙ x .2, x .3, heard-same i (x .0) ∙ x .4, x .5, x .6)

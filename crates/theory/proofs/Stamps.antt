@@ -1,153 +1,161 @@
--- What hearing does to a stamp, seen from all nodes: knowledge grows, and right counts stay right.
+-- What hearing does to a stamp, seen from all nodes: knowledge grows, and right counts stay right. The counts are those for clocks.
 -- Assumes nothing.
-use Prim.Native.Nat.{ℕ, suc, _+_, _-_, _≤_, _<_, max}
+use Prim.Native.Nat.{ℕ, suc, _+_, _≤_, _<_, max}
 use native.Mathlib.Omega.{arith}
-use mathlib.Core.Path.{_≡_, sym, ap, subst, _∙_}
+use mathlib.Core.Path.{_≡_, sym, subst}
 use mathlib.Core.Logic.{inl, inr}
 use mathlib.Core.List.{List}
 use lib.ListN.{length}
-use Rattle.laws.specs.Lists.{placedAt}
 use Rattle.laws.proofs.Numbers.{lt-or-ge, eq-or-ne}
-use Rattle.model.specs.Setup.{Setup, width}
-use Rattle.model.specs.Timestamp.{Timestamp, absorb, step, countOwn}
+use Rattle.model.specs.Setup.{width}
+use Rattle.model.specs.Timestamp.{Timestamp, countAt, absorb, step, countOwn}
 use Rattle.model.specs.Run.{Node}
 use Rattle.lemmas.proofs.Bounds.{Sound}
-use Rattle.lemmas.proofs.Counts.{count-below, count-past, count-inside, sound-past, absorb-count, absorb-sum, absorb-wide, own-count, own-count-here, step-count}
+use Rattle.lemmas.proofs.Counts.{count-below, count-past, count-moved, sound-past, absorb-count, absorb-sum, absorb-wide, own-count, own-count-here, step-count}
 use Rattle.theory.proofs.World.{reached, Bounded, Under}
 
-pub count-shift : (k R : ℕ) (kn : List ℕ) (w : ℕ) → placedAt (R + k) kn (w + k) ≡ placedAt R kn w
-count-shift k R kn w =
-    elim (lt-or-ge w R) [
-      | inl h ↦ count-below (R + k) kn (w + k) (omega arith) ∙ sym (count-below R kn w h)
-      | inr h ↦
-          let e : w + k ≡ R + k + (w - R) = omega arith in
-          let e′ : w ≡ R + (w - R) = omega arith in
-          ap (placedAt (R + k) kn) e ∙ (count-inside (R + k) kn (w - R) ∙ (sym (count-inside R kn (w - R)) ∙ ap (placedAt R kn) (sym e′)))
-    ]
+-- nothing is counted for clocks before the window and past it
+before-window : (epsilon v : ℕ) (kn : List ℕ) (x : ℕ) → x + epsilon < v → countAt epsilon v kn x ≡ 0
+unfolding countAt
+before-window epsilon v kn x h = count-below v kn (x + epsilon) h
+
+past-window : (epsilon v : ℕ) (kn : List ℕ) → length kn ≡ width epsilon → (x : ℕ) → v + epsilon ≤ x → countAt epsilon v kn x ≡ 0
+unfolding countAt width
+past-window epsilon v kn wide x h = count-past v kn (x + epsilon) (omega arith)
+
+-- in it, after a frame at R is heard, the larger of both
+absorb-here :
+    (epsilon B v R reading : ℕ) (t f : Timestamp) → length (t .kn) ≡ width epsilon → reading + v ≡ B + R → (x : ℕ) → v ≤ x + epsilon → x < v + epsilon
+    → countAt epsilon v (absorb epsilon B t reading f .kn) x ≡ max (countAt epsilon v (t .kn) x) (countAt epsilon R (f .kn) x)
+unfolding countAt width
+absorb-here epsilon B v R reading t f wide e x lo hi = absorb-count epsilon B v R reading t f wide e (x + epsilon) lo (omega arith)
 
 -- no count falls, whatever is heard
-pub absorb-grows :
-    (epsilon B v reading : ℕ) (t f : Timestamp) → length (t .kn) ≡ width epsilon → (w : ℕ) → v ≤ w → w < v + width epsilon
-    → placedAt v (t .kn) w ≤ placedAt v (absorb epsilon B t reading f .kn) w
-absorb-grows epsilon B v reading t f wide w lo hi =
-    let e : placedAt (v + B) (absorb epsilon B t reading f .kn) (w + B) ≡ max (placedAt (v + B) (t .kn) (w + B)) (placedAt (reading + v) (f .kn) (w + B)) =
-    absorb-count epsilon B (v + B) (reading + v) reading t f wide (omega arith) (w + B) (omega arith) (omega arith) in
-    omega (arith, e, count-shift B v (absorb epsilon B t reading f .kn) w, count-shift B v (t .kn) w)
+absorb-grows :
+    (epsilon B v reading : ℕ) (t f : Timestamp) → length (t .kn) ≡ width epsilon → (x : ℕ) → v ≤ x + epsilon → x < v + epsilon
+    → countAt epsilon v (t .kn) x ≤ countAt epsilon v (absorb epsilon B t reading f .kn) x
+unfolding countAt
+absorb-grows epsilon B v reading t f wide x lo hi =
+    omega (
+      arith,
+      absorb-here epsilon B (v + B) (reading + v) reading t f wide (omega arith) (x + B) (omega arith) (omega arith),
+      count-moved (v + B) v (absorb epsilon B t reading f .kn) (x + B + epsilon) (x + epsilon) (omega arith),
+      count-moved (v + B) v (t .kn) (x + B + epsilon) (x + epsilon) (omega arith),
+    )
 
 pub under-absorb :
-    (epsilon B v reading R : ℕ) (g t f : Timestamp) → length (t .kn) ≡ width epsilon → Under R g v t
-    → Under R g v (absorb epsilon B t reading f)
+    (epsilon B v reading R : ℕ) (g t f : Timestamp) → length (t .kn) ≡ width epsilon → Under epsilon R g v t
+    → Under epsilon R g v (absorb epsilon B t reading f)
 unfolding absorb
 under-absorb epsilon B v reading R g t f wide u =
     record { sums = omega (arith, u .sums); counts = more }
   where
-    more : (w : ℕ) → v < w → placedAt R (g .kn) w ≤ placedAt v (absorb epsilon B t reading f .kn) w
-    more w h =
-        elim (lt-or-ge w (v + width epsilon)) [
-          | inl k ↦
-              let a : placedAt v (t .kn) w ≤ placedAt v (absorb epsilon B t reading f .kn) w = absorb-grows epsilon B v reading t f wide w (omega arith) k in
-              omega (arith, u .counts w h)
-          | inr k ↦
-              let z : placedAt v (t .kn) w ≡ 0 = count-past v (t .kn) w (omega arith) in
-              omega (arith, u .counts w h)
+    more : (x : ℕ) → v ≤ x → countAt epsilon R (g .kn) x ≤ countAt epsilon v (absorb epsilon B t reading f .kn) x
+    more x h =
+        elim (lt-or-ge x (v + epsilon)) [
+          | inl k ↦ omega (arith, u .counts x h, absorb-grows epsilon B v reading t f wide x (omega arith) k)
+          | inr k ↦ omega (arith, u .counts x h, past-window epsilon v (t .kn) wide x k)
         ]
 
 pub absorb-under :
     (n epsilon B v reading R : ℕ) (t f : Timestamp) → length (t .kn) ≡ width epsilon → Sound n epsilon f → reading + v ≡ B + R
-    → R + f .c < v + epsilon → Under R f v (absorb epsilon B t reading f)
-unfolding width
+    → R + f .c < v + epsilon → Under epsilon R f v (absorb epsilon B t reading f)
+unfolding countAt
 absorb-under n epsilon B v reading R t f wide sound e close =
     record { sums = omega (arith, absorb-sum epsilon B v R reading t f e); counts = more }
   where
-    more : (w : ℕ) → v < w → placedAt R (f .kn) w ≤ placedAt v (absorb epsilon B t reading f .kn) w
-    more w h =
-        elim (lt-or-ge w (v + width epsilon)) [
-          | inl k ↦
-              let a : placedAt v (absorb epsilon B t reading f .kn) w ≡ max (placedAt v (t .kn) w) (placedAt R (f .kn) w) = absorb-count epsilon B v R reading t f wide e w (omega arith) k in
-              omega arith
-          | inr k ↦
-              let z : placedAt R (f .kn) w ≡ 0 = sound-past n epsilon R f sound w (omega (arith)) in
-              omega arith
+    more : (x : ℕ) → v ≤ x → countAt epsilon R (f .kn) x ≤ countAt epsilon v (absorb epsilon B t reading f .kn) x
+    more x h =
+        elim (lt-or-ge x (v + epsilon)) [
+          | inl k ↦ omega (arith, absorb-here epsilon B v R reading t f wide e x (omega arith) k)
+          | inr k ↦ omega (arith, sound-past n epsilon R f sound (x + epsilon) (omega arith))
         ]
 
 -- right counts
 pub early-bounded :
-    (s : Setup) (floor : ℕ) (nodes : List Node) (v : ℕ) (kn : List ℕ) → length kn ≡ width (s .epsilon) → v + s .epsilon ≤ floor
-    → Bounded s floor nodes v kn
-unfolding width
-early-bounded s floor nodes v kn wide h w k =
-    let z : placedAt v kn w ≡ 0 = count-past v kn w (omega arith) in
-    omega arith
+    (epsilon floor : ℕ) (nodes : List Node) (v : ℕ) (kn : List ℕ) → length kn ≡ width epsilon → v + epsilon ≤ floor
+    → Bounded epsilon floor nodes v kn
+early-bounded epsilon floor nodes v kn wide h x k = omega (arith, past-window epsilon v kn wide x (omega arith))
 
 pub absorb-bounded :
-    (s : Setup) (floor : ℕ) (nodes : List Node) (v reading R : ℕ) (t f : Timestamp) → length (t .kn) ≡ width (s .epsilon) → reading + v ≡ s .modulus + R
-    → Bounded s floor nodes v (t .kn) → Bounded s floor nodes R (f .kn)
-    → Bounded s floor nodes v (absorb (s .epsilon) (s .modulus) t reading f .kn)
-absorb-bounded s floor nodes v reading R t f wide e a b w h =
-    elim (lt-or-ge w v) [
-      | inl k ↦
-          let z : placedAt v (absorb (s .epsilon) (s .modulus) t reading f .kn) w ≡ 0 = count-below v (absorb (s .epsilon) (s .modulus) t reading f .kn) w k in
-          omega arith
-      | inr k ↦ elim (lt-or-ge w (v + width (s .epsilon))) [
-        | inl l ↦
-            let q : placedAt v (absorb (s .epsilon) (s .modulus) t reading f .kn) w ≡ max (placedAt v (t .kn) w) (placedAt R (f .kn) w) =
-            absorb-count (s .epsilon) (s .modulus) v R reading t f wide e w k l in
-            omega (arith, a w h, b w h)
-        | inr l ↦
-            let q : length (absorb (s .epsilon) (s .modulus) t reading f .kn) ≡ width (s .epsilon) = absorb-wide (s .epsilon) (s .modulus) reading t f in
-            let z : placedAt v (absorb (s .epsilon) (s .modulus) t reading f .kn) w ≡ 0 = count-past v (absorb (s .epsilon) (s .modulus) t reading f .kn) w (omega arith) in
-            omega arith
+    (epsilon B floor : ℕ) (nodes : List Node) (v reading R : ℕ) (t f : Timestamp) → length (t .kn) ≡ width epsilon → reading + v ≡ B + R
+    → Bounded epsilon floor nodes v (t .kn) → Bounded epsilon floor nodes R (f .kn)
+    → Bounded epsilon floor nodes v (absorb epsilon B t reading f .kn)
+absorb-bounded epsilon B floor nodes v reading R t f wide e a b x h =
+    elim (lt-or-ge (x + epsilon) v) [
+      | inl k ↦ omega (arith, before-window epsilon v (absorb epsilon B t reading f .kn) x k)
+      | inr k ↦ elim (lt-or-ge x (v + epsilon)) [
+        | inl l ↦ omega (arith, absorb-here epsilon B v R reading t f wide e x k l, a x h, b x h)
+        | inr l ↦ omega (arith, past-window epsilon v (absorb epsilon B t reading f .kn) (absorb-wide epsilon B reading t f) x l)
       ]
     ]
 
 pub bounded-grows :
-    (s : Setup) (floor : ℕ) (nodes nodes′ : List Node) (R : ℕ) (kn : List ℕ) → ((w : ℕ) → reached (s .epsilon) nodes w ≤ reached (s .epsilon) nodes′ w)
-    → Bounded s floor nodes R kn → Bounded s floor nodes′ R kn
-bounded-grows s floor nodes nodes′ R kn g b w h = omega (arith, g w, b w h)
+    (epsilon floor : ℕ) (nodes nodes′ : List Node) (R : ℕ) (kn : List ℕ) → ((x : ℕ) → reached nodes x ≤ reached nodes′ x)
+    → Bounded epsilon floor nodes R kn → Bounded epsilon floor nodes′ R kn
+bounded-grows epsilon floor nodes nodes′ R kn g b x h = omega (arith, g x, b x h)
 
--- the own event is counted once one node more has reached v
+-- the own event is counted at v alone
+pub own-elsewhere :
+    (epsilon v u : ℕ) (t : Timestamp) → length (t .kn) ≡ width epsilon → 1 ≤ epsilon → (x : ℕ) → (x ≡ v → ⊥)
+    → countAt epsilon v (countOwn epsilon u t .kn) x ≡ countAt epsilon v (t .kn) x
+unfolding countAt
+own-elsewhere epsilon v u t wide pos x ne = own-count epsilon v u t wide pos (x + epsilon) (λ e. ne (omega arith))
+
+pub own-there :
+    (epsilon v u : ℕ) (t : Timestamp) → length (t .kn) ≡ width epsilon → 1 ≤ epsilon
+    → countAt epsilon v (countOwn epsilon u t .kn) v ≡ countAt epsilon v (t .kn) v + 1
+unfolding countAt
+own-there epsilon v u t wide pos = own-count-here epsilon v u t wide pos
+
+-- once one station more has reached it
 pub own-bounded :
-    (s : Setup) (floor : ℕ) (nodes nodes′ : List Node) (v x : ℕ) (t : Timestamp) → length (t .kn) ≡ width (s .epsilon) → 1 ≤ s .epsilon
-    → ((w : ℕ) → reached (s .epsilon) nodes w ≤ reached (s .epsilon) nodes′ w)
-    → reached (s .epsilon) nodes′ (v + s .epsilon) ≡ suc (reached (s .epsilon) nodes (v + s .epsilon))
-    → Bounded s floor nodes v (t .kn) → Bounded s floor nodes′ v (countOwn (s .epsilon) x t .kn)
-own-bounded s floor nodes nodes′ v x t wide pos g gain b w h =
-    elim (eq-or-ne w (v + s .epsilon)) [
+    (epsilon floor : ℕ) (nodes nodes′ : List Node) (v u : ℕ) (t : Timestamp) → length (t .kn) ≡ width epsilon → 1 ≤ epsilon
+    → ((x : ℕ) → reached nodes x ≤ reached nodes′ x) → reached nodes′ v ≡ suc (reached nodes v)
+    → Bounded epsilon floor nodes v (t .kn) → Bounded epsilon floor nodes′ v (countOwn epsilon u t .kn)
+own-bounded epsilon floor nodes nodes′ v u t wide pos g gain b x h =
+    elim (eq-or-ne x v) [
       | inl e ↦
-          subst (λ (u : ℕ). placedAt v (countOwn (s .epsilon) x t .kn) u ≤ reached (s .epsilon) nodes′ u) (sym e)
-          (omega (arith, own-count-here (s .epsilon) v x t wide pos, gain, b (v + s .epsilon) (omega arith)))
-      | inr e ↦ omega (arith, own-count (s .epsilon) v x t wide pos w e, g w, b w h)
+          subst (λ (y : ℕ). countAt epsilon v (countOwn epsilon u t .kn) y ≤ reached nodes′ y) (sym e)
+          (omega (arith, own-there epsilon v u t wide pos, gain, b v (omega arith)))
+      | inr e ↦ omega (arith, own-elsewhere epsilon v u t wide pos x e, g x, b x h)
     ]
 
+-- a step of k moves no count to another clock
+step-here : (epsilon k last v : ℕ) (t : Timestamp) (x : ℕ) → last + k ≤ x + epsilon → countAt epsilon (last + k) (step k v t .kn) x ≡ countAt epsilon last (t .kn) x
+unfolding countAt
+step-here epsilon k last v t x h = step-count k last v t (x + epsilon) h
+
 pub step-bounded :
-    (s : Setup) (floor : ℕ) (nodes : List Node) (k x v : ℕ) (t : Timestamp) → Bounded s floor nodes x (t .kn)
-    → Bounded s floor nodes (x + k) (step k v t .kn)
-step-bounded s floor nodes k x v t b w h =
-    elim (lt-or-ge w (x + k)) [
-      | inl l ↦ omega (arith, count-below (x + k) (step k v t .kn) w l)
-      | inr l ↦ omega (arith, step-count k x v t w l, b w h)
+    (epsilon floor : ℕ) (nodes : List Node) (k last v : ℕ) (t : Timestamp) → Bounded epsilon floor nodes last (t .kn)
+    → Bounded epsilon floor nodes (last + k) (step k v t .kn)
+step-bounded epsilon floor nodes k last v t b x h =
+    elim (lt-or-ge (x + epsilon) (last + k)) [
+      | inl l ↦ omega (arith, before-window epsilon (last + k) (step k v t .kn) x l)
+      | inr l ↦ omega (arith, step-here epsilon k last v t x l, b x h)
     ]
 
 -- after a step of k the stamp knows what it knew
-pub under-step : (k x v R : ℕ) (f t : Timestamp) → Under R f x t → Under R f (x + k) (step k v t)
+pub under-step : (epsilon k last v R : ℕ) (f t : Timestamp) → Under epsilon R f last t → Under epsilon R f (last + k) (step k v t)
 unfolding step
-under-step k x v R f t u = record { sums = omega (arith, u .sums); counts = λ w h. omega (arith, u .counts w (omega arith), step-count k x v t w (omega arith)) }
+under-step epsilon k last v R f t u =
+    record { sums = omega (arith, u .sums); counts = λ x h. omega (arith, u .counts x (omega arith), step-here epsilon k last v t x (omega arith)) }
 
 -- and the own event keeps it, with its own clock counted once more
-pub own-under : (epsilon v x R : ℕ) (f t : Timestamp) → length (t .kn) ≡ width epsilon → 1 ≤ epsilon → Under R f v t → Under R f v (countOwn epsilon x t)
+pub own-under : (epsilon v u R : ℕ) (f t : Timestamp) → length (t .kn) ≡ width epsilon → 1 ≤ epsilon → Under epsilon R f v t → Under epsilon R f v (countOwn epsilon u t)
 unfolding countOwn
-own-under epsilon v x R f t wide pos u = record { sums = u .sums; counts = more }
+own-under epsilon v u R f t wide pos under = record { sums = under .sums; counts = more }
   where
-    more : (w : ℕ) → v < w → placedAt R (f .kn) w ≤ placedAt v (countOwn epsilon x t .kn) w
-    more w h =
-        elim (eq-or-ne w (v + epsilon)) [
+    more : (x : ℕ) → v ≤ x → countAt epsilon R (f .kn) x ≤ countAt epsilon v (countOwn epsilon u t .kn) x
+    more x h =
+        elim (eq-or-ne x v) [
           | inl e ↦
-              subst (λ (y : ℕ). placedAt R (f .kn) y ≤ placedAt v (countOwn epsilon x t .kn) y) (sym e)
-              (omega (arith, own-count-here epsilon v x t wide pos, u .counts (v + epsilon) (omega arith)))
-          | inr e ↦ omega (arith, own-count epsilon v x t wide pos w e, u .counts w h)
+              subst (λ (y : ℕ). countAt epsilon R (f .kn) y ≤ countAt epsilon v (countOwn epsilon u t .kn) y) (sym e)
+              (omega (arith, own-there epsilon v u t wide pos, under .counts v (omega arith)))
+          | inr e ↦ omega (arith, own-elsewhere epsilon v u t wide pos x e, under .counts x h)
         ]
 
 pub own-strict :
-    (epsilon v x R : ℕ) (f t : Timestamp) → length (t .kn) ≡ width epsilon → 1 ≤ epsilon → Under R f v t
-    → placedAt R (f .kn) (v + epsilon) < placedAt v (countOwn epsilon x t .kn) (v + epsilon)
-own-strict epsilon v x R f t wide pos u = omega (arith, own-count-here epsilon v x t wide pos, u .counts (v + epsilon) (omega arith))
+    (epsilon v u R : ℕ) (f t : Timestamp) → length (t .kn) ≡ width epsilon → 1 ≤ epsilon → Under epsilon R f v t
+    → countAt epsilon R (f .kn) v < countAt epsilon v (countOwn epsilon u t .kn) v
+own-strict epsilon v u R f t wide pos under = omega (arith, own-there epsilon v u t wide pos, under .counts v (omega arith))

@@ -10,12 +10,12 @@ use mathlib.Core.Logic.{_⊎_, inl, inr}
 use mathlib.Core.Option.{Option, some}
 use lib.Dec.{leb}
 use lib.ListN.{length, take, getD, set, getElem?}
-use Rattle.laws.specs.Lists.{every, any, select, sortBy, placedAt}
+use Rattle.laws.specs.Lists.{every, any, select, sortBy}
 use Rattle.laws.specs.Lex.{lexCompare}
 use Rattle.laws.proofs.Numbers.{and-intro, and-left, and-right, false-of-not, not-of-false}
 use Rattle.laws.proofs.Lists.{countOf, getElem?-lt, getElem?-set-same, getElem?-set-other}
 use Rattle.model.specs.Setup.{Setup}
-use Rattle.model.specs.Timestamp.{Timestamp, clockStep, soundClock, trimmed}
+use Rattle.model.specs.Timestamp.{Timestamp, countAt, clockStep, soundClock, trimmed}
 use Rattle.model.specs.Frame.{Frame, encode}
 use Rattle.model.specs.Order.{readingOf, key, due, dueNear}
 use Rattle.model.specs.Batch.{batchEntries}
@@ -37,39 +37,38 @@ eventFrame s d = frameOf (s .epsilon) (d .own) (newTimestamp s d) (d .call .payl
 unfoldable pub eventKey : Setup → Done → List ℕ
 eventKey s d = key s (d .clock) (eventFrame s d)
 
--- how many stations have reached the clock named w: an observer "is not counted in n"
-unfoldable pub reached : ℕ → List Node → ℕ → ℕ
-reached epsilon nodes w = countOf (λ node. not (node .listens) && leb w (node .clock + epsilon)) nodes
+-- how many stations have reached a clock: an observer "is not counted in n"
+unfoldable pub reached : List Node → ℕ → ℕ
+reached nodes x = countOf (λ node. not (node .listens) && leb x (node .clock)) nodes
 
--- the counts of a timestamp at R are right from the floor on: nobody is counted who has not reached that clock
-abbrev pub Bounded : Setup → ℕ → List Node → ℕ → List ℕ → Type 0
-Bounded s floor nodes R kn =
-    (w : ℕ) → floor + s .epsilon ≤ w → placedAt R kn w ≤ reached (s .epsilon) nodes w
+-- the 2ε counts of a timestamp at R are right from the floor on: nobody is counted who has not reached that clock
+abbrev pub Bounded : ℕ → ℕ → List Node → ℕ → List ℕ → Type 0
+Bounded epsilon floor nodes R kn = (x : ℕ) → floor ≤ x → countAt epsilon R kn x ≤ reached nodes x
 
--- what the timestamp f at R knows is known to t at v
-pub record Under (R : ℕ) (f : Timestamp) (v : ℕ) (t : Timestamp) : Type 0 where
+-- what the timestamp f at R knows of the clocks from v on is known to t at v
+pub record Under (epsilon R : ℕ) (f : Timestamp) (v : ℕ) (t : Timestamp) : Type 0 where
   pub sums : R + f .c ≤ v + t .c
-  pub counts : (w : ℕ) → v < w → placedAt R (f .kn) w ≤ placedAt v (t .kn) w
+  pub counts : (x : ℕ) → v ≤ x → countAt epsilon R (f .kn) x ≤ countAt epsilon v (t .kn) x
 
 -- the message of call k has been heard at a node
 unfoldable pub heardAt : List Done → ℕ → ℕ → Bool
 heardAt past node k = any (heardIn node k) past
 
--- a frame in the queue of a node, at v: of a message that is not covered, or of one that is covered and was heard
+-- a frame in the queue of a node, at v: its sum lies below the floor, or it is a message that was heard
 abbrev pub Explained : Setup → ℕ → List Done → (ℕ → Bool) → ℕ → Frame → Type 0
-Explained s from past heard v f =
-    (readingOf s (v % s .modulus) f + v < s .modulus + from)
-    ⊎ ((k : ℕ) × (m : Done) × (getElem? past k ≡ some m) × (covered from m ≡ true) × (heard k ≡ true) × (f ≡ eventFrame s m)
+Explained s floor past heard v f =
+    (readingOf s (v % s .modulus) f + f .stamp .c + v < s .modulus + floor)
+    ⊎ ((k : ℕ) × (m : Done) × (getElem? past k ≡ some m) × (sends m ≡ true) × (heard k ≡ true) × (f ≡ eventFrame s m)
     × (readingOf s (v % s .modulus) f + v ≡ s .modulus + m .clock))
 
 abbrev pub AllExplained : Setup → ℕ → List Done → (ℕ → Bool) → ℕ → List Frame → Type 0
-AllExplained s from past heard v queue = (f : Frame) → List·Memᴰ f queue → Explained s from past heard v f
+AllExplained s floor past heard v queue = (f : Frame) → List·Memᴰ f queue → Explained s floor past heard v f
 
 pub explained-more :
-    (s : Setup) (from : ℕ) (past : List Done) (heard heard′ : ℕ → Bool) (v : ℕ) (f : Frame) → ((j : ℕ) → heard j ≡ true → heard′ j ≡ true)
-    → Explained s from past heard v f → Explained s from past heard′ v f
-explained-more s from past heard heard′ v f more (inl h) = inl h
-explained-more s from past heard heard′ v f more (inr x) = inr (x .0, x .1, x .2, x .3, more (x .0) (x .4), x .5, x .6)
+    (s : Setup) (floor : ℕ) (past : List Done) (heard heard′ : ℕ → Bool) (v : ℕ) (f : Frame) → ((j : ℕ) → heard j ≡ true → heard′ j ≡ true)
+    → Explained s floor past heard v f → Explained s floor past heard′ v f
+explained-more s floor past heard heard′ v f more (inl h) = inl h
+explained-more s floor past heard heard′ v f more (inr x) = inr (x .0, x .1, x .2, x .3, more (x .0) (x .4), x .5, x .6)
 
 -- each covered message that was heard and is not yet due before v lies in the queue
 abbrev pub AllPresent : Setup → ℕ → List Done → (ℕ → Bool) → ℕ → List Frame → Type 0
@@ -105,14 +104,14 @@ pub record Maker (nodes : List Node) (d : Done) : Type 0 where
 pub record Settled (s : Setup) (floor : ℕ) (nodes : List Node) (d : Done) : Type 0 where
   pub event : CallEvent s d
   pub maker : Maker nodes d
-  pub bounded : Bounded s floor nodes (d .clock) (eventFrame s d .stamp .kn)
+  pub bounded : Bounded (s .epsilon) floor nodes (d .clock) (eventFrame s d .stamp .kn)
 
 -- the call d of a node is its last accepted one or comes before that, and what the last one knew is known to the stamp t at v
 pub record Passed-on (s : Setup) (d : Done) (v : ℕ) (t : Timestamp) : Type 0 where
   pub last : Done
   pub sound : Sound (s .n) (s .epsilon) (eventFrame s last .stamp)
   pub comes : (d ≡ last) ⊎ (lexCompare (eventKey s d) (eventKey s last) ≡ Ordering·lt)
-  pub under : Under (last .clock) (eventFrame s last .stamp) v t
+  pub under : Under (s .epsilon) (last .clock) (eventFrame s last .stamp) v t
 
 -- the nodes alone
 pub record Group (s : Setup) (nodes : List Node) : Type 0 where
@@ -149,15 +148,15 @@ abbrev pub restAt : Setup → ℕ → Node → List Frame
 restAt s v node = select (λ f. not (dueBefore s (v % s .modulus) f)) (openedAt s v node)
 
 -- what a call of node i for v starts from, its clock before that being `last`: the queue as found or emptied, with what is due before v
-pub record OpensQueue (s : Setup) (from : ℕ) (w : World) (i last v : ℕ) (queue : List Frame) : Type 0 where
-  pub members : AllExplained s from (w .past) (heardAt (w .past) i) v queue
+pub record OpensQueue (s : Setup) (floor from : ℕ) (w : World) (i last v : ℕ) (queue : List Frame) : Type 0 where
+  pub members : AllExplained s floor (w .past) (heardAt (w .past) i) v queue
   -- a frame there that is covered is due past `last`
   pub later : (f : Frame) → List·Memᴰ f queue → s .modulus + from ≤ readingOf s (v % s .modulus) f + v → s .modulus + last < dueNear s (v % s .modulus) f + v
   pub waiting : AllWaiting s from (w .past) (heardAt (w .past) i) last queue
 
 -- and the stamp, of a station
 pub record OpensStamp (s : Setup) (floor : ℕ) (w : World) (i v : ℕ) (t : Timestamp) : Type 0 where
-  pub bounded : Bounded s floor (w .nodes) v (t .kn)
+  pub bounded : Bounded (s .epsilon) floor (w .nodes) v (t .kn)
   pub passed-on : (k : ℕ) (d : Done) → getElem? (w .past) k ≡ some d → isEvent d ≡ true → d .node ≡ i → Passed-on s d v t
 
 -- what a call leaves in its node's memory, at the node's own clock: the last clock, and a shelf of frames that pass 10 to 12
@@ -173,7 +172,7 @@ Tables s node = Left (s .n) (s .epsilon) (trimmed (s .epsilon) (node .tables))
 -- a station's stamp as its last accepted call left it
 pub record LeftStamp (s : Setup) (floor : ℕ) (w : World) (i : ℕ) (node : Node) : Type 0 where
   pub tables : Tables s node
-  pub bounded : Bounded s floor (w .nodes) (node .clock) (trimmed (s .epsilon) (node .tables) .kn)
+  pub bounded : Bounded (s .epsilon) floor (w .nodes) (node .clock) (trimmed (s .epsilon) (node .tables) .kn)
   pub passed-on :
       (k : ℕ) (d : Done) → getElem? (w .past) k ≡ some d → isEvent d ≡ true → d .node ≡ i
       → Passed-on s d (node .clock) (trimmed (s .epsilon) (node .tables))
@@ -181,7 +180,7 @@ pub record LeftStamp (s : Setup) (floor : ℕ) (w : World) (i : ℕ) (node : Nod
 -- a node as its last accepted call left it; a fresh node is one too
 pub record LeftAt (s : Setup) (floor from : ℕ) (w : World) (i : ℕ) (node : Node) : Type 0 where
   pub memory : Memory s node
-  pub members : AllExplained s from (w .past) (heardAt (w .past) i) (node .clock) (held (s .epsilon) (node .holdback))
+  pub members : AllExplained s floor (w .past) (heardAt (w .past) i) (node .clock) (held (s .epsilon) (node .holdback))
   pub waiting : AllWaiting s from (w .past) (heardAt (w .past) i) (node .clock) (held (s .epsilon) (node .holdback))
   pub stamp : node .listens ≡ false → LeftStamp s floor w i node
 

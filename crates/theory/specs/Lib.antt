@@ -5,3 +5,4 @@ pub mod Demand2
 pub mod LongClocks
 pub mod Demand3
 pub mod LongAny
+pub mod WiderAny

@@ -11,11 +11,11 @@ use Rattle.model.specs.Setup.{Setup}
 use Rattle.model.specs.Timestamp.{Timestamp}
 use Rattle.model.specs.Frame.{Frame}
 use Rattle.model.specs.Batch.{batchEntries}
-use Rattle.model.specs.Codec.{ReadAnswer, noTimestamp, readBy, frameOf, WriteAnswer, writtenBy}
+use Rattle.model.specs.Codec.{frameOf}
 use Rattle.model.specs.Judge.{Heard}
 use Rattle.model.specs.Tick.{Input, Output, refusal, takenCount}
 use Rattle.model.specs.Long.{longBound, longMost, longEncode, longDecode, longFormed, askLongSetup, longFrameQuestions, longRead, longWriteQuestions, longWrite, longBefore, longHoldbackSize, longHeldBytes, longHeld, longSoundHoldback, longEncodeFrames, longEncodeHoldback, longQuestions, longHear, longCallQuestions, longTablesSound, longLeastDue, longOpened, longHeard, longSent, longDueBy, longDelivered, longKept, longAcceptance, longTick}
-use Rattle.theory.specs.Demand1.{Checked}
+use Rattle.theory.specs.Demand1.{Checked, CheckedRead, CheckedWrite}
 use Rattle.theory.specs.Demand2.{FirstFailed, areBytes, hasWidth, Codec, RoundTrips}
 
 -- ---- demand 1
@@ -23,22 +23,16 @@ use Rattle.theory.specs.Demand2.{FirstFailed, areBytes, hasWidth, Codec,
 abbrev pub Demand1Long : Input → Type 0
 Demand1Long i = Checked Output (λ (o : Output). o .answer .number) (longCallQuestions i) (refusal i) (longAcceptance i) (longTick i)
 
--- 01, of reader and writer: a refused one "answers the number alone and writes nothing"
-abbrev pub notRead : ℕ → ReadAnswer
-notRead number = record { number = number; station = 0; stamp = noTimestamp; payload = [] }
+abbrev pub Demand1LongRead : Type 0
+Demand1LongRead =
+    (s : Setup) (own : ℕ) (bytes : List ℕ)
+    → CheckedRead (askLongSetup s own ∷ longFrameQuestions s bytes) (longDecode (s .epsilon) bytes) (longRead s own bytes)
 
-abbrev pub notWritten : List ℕ → ℕ → WriteAnswer
-notWritten buffer number = record { number = number; size = 0; buffer = buffer }
-
-abbrev pub Demand1Read : Setup → ℕ → List ℕ → Type 0
-Demand1Read s own bytes =
-    Checked ReadAnswer (λ (a : ReadAnswer). a .number) (askLongSetup s own ∷ longFrameQuestions s bytes) notRead
-    (readBy 0 (longDecode (s .epsilon) bytes)) (longRead s own bytes)
-
-abbrev pub Demand1Write : Setup → ℕ → ℕ → Timestamp → List ℕ → List ℕ → Type 0
-Demand1Write s own station t payload buffer =
-    Checked WriteAnswer (λ (a : WriteAnswer). a .number) (longWriteQuestions s own (frameOf (s .epsilon) station t payload) buffer) (notWritten buffer)
-    (writtenBy 0 (longEncode (frameOf (s .epsilon) station t payload)) buffer) (longWrite s own station t payload buffer)
+abbrev pub Demand1LongWrite : Type 0
+Demand1LongWrite =
+    (s : Setup) (own station : ℕ) (t : Timestamp) (payload buffer : List ℕ)
+    → CheckedWrite (longWriteQuestions s own (frameOf (s .epsilon) station t payload) buffer) (longEncode (frameOf (s .epsilon) station t payload)) buffer
+    (longWrite s own station t payload buffer)
 
 -- ---- demand 2, of an accepted call
 

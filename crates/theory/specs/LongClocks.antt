@@ -1,21 +1,21 @@
 -- 02, 2.9: "On every run that keeps drift and delay, hears only frames sent in it and unaltered, steps by 1 to ε, starts fresh, ends below 2^63
 -- and never holds more than 64, its verdict bytes, tables, frames and hand-outs, with r modulo B in two bytes and count 3, are call for call
 -- the station's."
-use Prim.Native.Nat.{ℕ, _+_, _%_}
+use Prim.Native.Nat.{ℕ, _+_, _-_, _%_}
 use mathlib.Core.Path.{_≡_}
 use mathlib.Core.Bool.{Bool, true, false, _&&_, _||_, not}
 use mathlib.Core.List.{List, [], _∷_, _++_, map}
 use mathlib.Core.Option.{Option, none, some}
 use lib.Dec.{leb, ltb}
-use lib.ListN.{length, take, getD, set, getElem?, replicate}
-use Rattle.laws.specs.Lists.{every, joined}
+use lib.ListN.{length, take, drop, getD, set, getElem?, replicate}
+use Rattle.laws.specs.Lists.{every, joined, overlay}
 use Rattle.model.specs.Setup.{Setup, verdictLength}
 use Rattle.model.specs.Timestamp.{Timestamp, fresh, widened}
-use Rattle.model.specs.Frame.{Frame, encode}
+use Rattle.model.specs.Frame.{Frame, twoBytes, encode}
 use Rattle.model.specs.Holdback.{held}
 use Rattle.model.specs.Tick.{Input, Output, openedQueue, heardOf, takenCount}
 use Rattle.model.specs.Run.{Node, Source, sentBy, stale, Call, Done, World, isAccepted, isEvent, inputOf, outputOf, act, atStart, runFrom}
-use Rattle.model.specs.Long.{longBound, longMost, longestLong, longDecode, longHeld, longHoldbackSize, longEncodeHoldback, longTick}
+use Rattle.model.specs.Long.{longBound, longMost, numberAt, longestLong, longDecode, longHeldBytes, longHeld, longHoldbackSize, longEncodeHoldback, longTick}
 use Rattle.theory.specs.Premises.{goodStart, largestClock, keeps, allFresh, noneStale}
 
 -- ---- the same calls, made of engines with long clocks
@@ -120,10 +120,20 @@ reducedStamp modulus t = record { r = t .r % modulus; c = t .c; kn = t .kn }
 unfoldable pub reducedLong : ℕ → Frame → Frame
 reducedLong modulus f = record { station = f .station; stamp = reducedStamp modulus (f .stamp); payload = f .payload }
 
--- "with r modulo B in two bytes and count 3": the station's frame for one with a long clock; none for no bytes
-abbrev pub narrowed : Setup → List ℕ → List ℕ
-narrowed s [] = []
-narrowed s (x ∷ rest) = encode (reducedLong (s .modulus) (longDecode (s .epsilon) (x ∷ rest)))
+-- the frame that a station writes of what an engine's bytes hold; none for no bytes
+abbrev pub rewritten : Setup → List ℕ → List ℕ
+rewritten s [] = []
+rewritten s (x ∷ rest) = encode (reducedLong (s .modulus) (longDecode (s .epsilon) (x ∷ rest)))
+
+-- "with r modulo B in two bytes and count 3": an engine's frame with its r so, and its first count six less: 9 comes to 3, and no other does.
+-- All else is as it is, byte for byte; no bytes for none
+unfoldable pub narrowed : ℕ → List ℕ → List ℕ
+narrowed modulus [] = []
+narrowed modulus (count ∷ rest) = (count - 6) ∷ getD rest 0 0 ∷ (twoBytes (numberAt 8 rest 1 % modulus) ++ drop 9 rest)
+
+-- the same of an engine's hand-out: its two-byte count as it is, then each of its frames so
+unfoldable pub narrowedDelivery : Setup → List ℕ → List ℕ
+narrowedDelivery s bytes = take 2 bytes ++ joined (narrowed (s .modulus)) (longHeldBytes (s .epsilon) bytes)
 
 -- a call of a station, and what comes of the same call of an engine
 pub record SameLong (s : Setup) (d : Done) (o : Output) : Type 0 where
@@ -135,11 +145,13 @@ pub record SameLong (s : Setup) (d : Done) (o : Output) : Type 0 where
   pub taken : o .answer .taken ≡ d .output .answer .taken
   -- "tables"
   pub tables : d .output .answer .tables ≡ reducedStamp (s .modulus) (o .answer .tables)
-  -- "frames"
-  pub frames : take (d .output .answer .sent) (d .output .outgoing) ≡ narrowed s (take (o .answer .sent) (o .outgoing))
-  -- "and hand-outs"
+  -- "frames", byte for byte, and by what they hold
+  pub frames : take (d .output .answer .sent) (d .output .outgoing) ≡ narrowed (s .modulus) (take (o .answer .sent) (o .outgoing))
+  pub framesRead : take (d .output .answer .sent) (d .output .outgoing) ≡ rewritten s (take (o .answer .sent) (o .outgoing))
+  -- "and hand-outs": how many frames; every byte of the station's buffer, of which those beyond the hand-out stay; and what is read back from both
   pub delivered : o .answer .delivered ≡ d .output .answer .delivered
-  pub handouts : held (s .epsilon) (d .output .delivery) ≡ map (reducedLong (s .modulus)) (longHeld (s .epsilon) (o .delivery))
+  pub handouts : d .output .delivery ≡ overlay (narrowedDelivery s (o .delivery)) (d .call .delivery)
+  pub handedOut : held (s .epsilon) (d .output .delivery) ≡ map (reducedLong (s .modulus)) (longHeld (s .epsilon) (o .delivery))
 
 -- the engine of the call's station, as the calls before it left it
 abbrev pub LongMatched : Setup → LongYard → Done → Type 0

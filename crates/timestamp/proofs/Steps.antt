@@ -44,7 +44,7 @@ module _ (epsilon : ℕ) (t : Timestamp) (small : epsilon ≤ 16) (long : length
       rw (trimmed-all, moved, padded-more 32 (take (2 * epsilon - k) (drop k (t .kn))) k fits, ec, e)
 
   -- places past the 2ε counts are 0
-  pub narrow-counts : t ≡ widened (trimmed epsilon t) → t .kn ≡ padded 32 (take (2 * epsilon) (t .kn))
+  narrow-counts : t ≡ widened (trimmed epsilon t) → t .kn ≡ padded 32 (take (2 * epsilon) (t .kn))
   unfolding widened
   narrow-counts narrow = ap (λ (u : Timestamp). u .kn) (narrow ∙ ap widened trimmed-all)
 
@@ -61,7 +61,7 @@ module _ (epsilon : ℕ) (t : Timestamp) (small : epsilon ≤ 16) (long : length
       )
 
   -- of a frame with that c and those counts, the own ones raised where they stand
-  pub absorb-widened : (modulus reading up down count c d : ℕ) (counts kn : List ℕ) → t .kn ≡ padded 32 (take (2 * epsilon) (t .kn)) → length counts ≡ 2 * epsilon
+  pub absorb-widened : (modulus reading up down count c d : ℕ) (counts kn : List ℕ) → t ≡ widened (trimmed epsilon t) → length counts ≡ 2 * epsilon
       → up ≡ reading - modulus → down ≡ modulus - reading → count ≡ 2 * epsilon - (up + down)
       → kn ≡ tab 32 (raisedAt up (t .kn) (take count (drop down counts))) → d ≡ max (t .c) (reading + c - modulus)
       → stampBy (t .r) d kn ≡ widened (absorb epsilon modulus (trimmed epsilon t) reading (stampBy 0 c counts))
@@ -81,7 +81,7 @@ module _ (epsilon : ℕ) (t : Timestamp) (small : epsilon ≤ 16) (long : length
 
       raised : tab 32 (raisedAt up (t .kn) (take count (drop down counts))) ≡ padded 32 (tab (2 * epsilon) (largerAt modulus reading (take (2 * epsilon) (t .kn)) counts))
       raised =
-          ap (λ (l : List ℕ). tab 32 (raisedAt up l (take count (drop down counts)))) narrow
+          ap (λ (l : List ℕ). tab 32 (raisedAt up l (take count (drop down counts)))) (narrow-counts narrow)
           ∙ larger-raised (2 * epsilon) modulus reading up down count counts eu ed ec 32 (t .kn) (omega arith)
           ∙ ap (λ (l : List ℕ). padded 32 (tab (2 * epsilon) (largerAt modulus reading (take (2 * epsilon) (t .kn)) l))) all
 

@@ -8,7 +8,7 @@ ghost use Rattle.laws.specs.Lists.{tab, padded};
 ghost use Rattle.model.specs.Setup.{widest};
 ghost use Rattle.model.specs.Timestamp.{atMost, soundTimestamp, soundBeside, soundTables, trimmed, widened};
 ghost use Rattle.model.specs.Timestamp as model;
-ghost use Rattle.timestamp.specs.Views.{stampOf, stampBy, ofCounts, withinLimits, raisedAt};
+ghost use Rattle.timestamp.specs.Views.{stampOf, ofCounts, withinLimits, raisedAt};
 
 // 01: the stamp.
 pub struct Timestamp {
@@ -56,28 +56,31 @@ impl Timestamp {
         }
     }
 
-    // 01, tick 3: "c and each count become the larger of own and frame's, both placed relative to v", which reads B. The own counts are
-    // raised where they stand, and the answer is c; r, which may be any, stays. A reading past v lays the frame's 2ε counts further up, one
-    // before v further down; where none of them meets an own one, the own counts stay.
+    // 01, tick 3: "c and each count become the larger of own and frame's, both placed relative to v", which reads B. A reading past v lays
+    // the frame's 2ε counts further up, one before v further down; where none of them meets an own one, the own counts stay. r stays too.
     pub fn absorb(
-        kn: &mut [u8],
-        lead: usize,
+        self,
         epsilon: usize,
         modulus: usize,
         reading: usize,
         c: usize,
         counts: &[u8],
-    ) -> usize
+    ) -> Self
         requires { ⌜ (epsilon ≤ 16) × ((modulus ≤ 2 ^ 63) × ((reading ≤ 2 ^ 63) × (c ≤ 2 ^ 16))) ⌝ }
-        requires { ⌜ (ofCounts lead (now kn) ≡ widened (trimmed epsilon (ofCounts lead (now kn)))) × (length (now counts) ≡ 2 * epsilon) ⌝ }
-        ensures { λ d. ⌜ ((r : ℕ) → stampBy r d (now (kn .exit))
-            ≡ widened (model.absorb epsilon modulus (trimmed epsilon (stampBy r lead (now (kn .entry)))) reading (ofCounts c (now (counts .entry))))) ⌝ }
+        requires { ⌜ (stampOf self ≡ widened (trimmed epsilon (stampOf self))) × (length (now counts) ≡ 2 * epsilon) ⌝ }
+        ensures { λ s. ⌜ stampOf s
+            ≡ widened (model.absorb epsilon modulus (trimmed epsilon (stampOf self)) reading (ofCounts c (now (counts .entry)))) ⌝ }
     {
         let up = past(reading, modulus);
         let down = past(modulus, reading);
         let count = past(2 * epsilon, up + down);
-        raise(kn, up, counts, down, count);
-        larger_lead(lead, reading + c, modulus)
+        let mut kn = self.kn;
+        raise(&mut kn, up, counts, down, count);
+        Timestamp {
+            r: self.r,
+            c: larger_lead(self.c, reading + c, modulus),
+            kn,
+        }
     }
 
     // 01, tick 4: "The count at offset 0 rises by one; r is v".

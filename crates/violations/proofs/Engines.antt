@@ -18,9 +18,9 @@ use Rattle.model.specs.Long.{longLimits, askLongSetup, lowFirst, numberAt, long
 use Rattle.theory.specs.Premises.{goodStart, largestClock, keeps, allFresh, noneStale}
 use Rattle.theory.specs.Demand2.{hasWidth}
 use Rattle.theory.specs.LongAny.{longHeardBefore, AnyLong, Demand2Long, longFits}
-use Rattle.theory.specs.LongClocks.{LongYard, longBatch, longInput, longOf, longActed, longAll, longFresh, longStart, endsBelow, holdsFew, reducedStamp, reducedLong, SameLong, LongMatched, LongClocks}
-use Rattle.violations.specs.Engines.{engineVerdictTest, engineRepairTest, engineTakenTest, engineDeliveryTest, engineOrderTest, engineSentTest, engineBoundedTest, engineFewTest, engineTest}
-use Rattle.violations.specs.Engines.{LongTest, longSameNumber, longSameRepair, longSameVerdicts, longSameTaken, longSameTables, longSameFrames, longSameDelivered, sameFrame, longSameDelivery, longSameAll, besideBy, besideTest}
+use Rattle.theory.specs.LongClocks.{LongYard, longBatch, longInput, longOf, longActed, longAll, longFresh, longStart, endsBelow, holdsFew, reducedStamp, reducedLong, narrowed, narrowedDelivery, SameLong, LongMatched, LongClocks}
+use Rattle.violations.specs.Engines.{engineVerdictTest, engineRepairTest, engineTakenTest, engineDeliveryTest, engineOrderTest, engineSentTest, engineKeptTest, engineBoundedTest, engineFewTest, engineTest}
+use Rattle.violations.specs.Engines.{LongTest, longSameNumber, longSameRepair, longSameVerdicts, longSameTaken, longSameTables, longSameFrames, longSameFramesRead, longSameDelivered, longSameDelivery, sameFrame, longSameHeld, longSameAll, besideBy, besideTest}
 use Rattle.violations.proofs.Refuting.{implies-intro, sameEach-eq, every-at, every-step, sameFrames-eq, sameTimestamp-eq}
 use Rattle.violations.proofs.Telling.{telling}
 
@@ -48,6 +48,10 @@ module _ (i : Input) (p : AnyLong i) where
   pub engine-sent : engineSentTest i ≡ true
   unfolding engineSentTest
   engine-sent = and-intro (eq-eqb _ _ (p .sent)) (sameList-eq (p .outgoing))
+
+  pub engine-kept : engineKeptTest i ≡ true
+  unfolding engineKeptTest
+  engine-kept = sameList-eq (p .deliveryKept .behind)
 
   pub engine-bounded : engineBoundedTest i ≡ true
   unfolding engineBoundedTest
@@ -93,13 +97,21 @@ module _ (s : Setup) (d : Done) (o : Output) (p : SameLong s d o) where
   unfolding longSameFrames
   long-frames = sameList-eq (p .frames)
 
+  pub long-frames-read : longSameFramesRead s d o ≡ true
+  unfolding longSameFramesRead
+  long-frames-read = sameList-eq (p .framesRead)
+
   pub long-delivered : longSameDelivered s d o ≡ true
   unfolding longSameDelivered
   long-delivered = eq-eqb _ _ (p .delivered)
 
   pub long-delivery : longSameDelivery s d o ≡ true
   unfolding longSameDelivery
-  long-delivery = sameEach-eq sameFrame same-frame (p .handouts)
+  long-delivery = sameList-eq (p .handouts)
+
+  pub long-held : longSameHeld s d o ≡ true
+  unfolding longSameHeld
+  long-held = sameEach-eq sameFrame same-frame (p .handedOut)
 
 module _ (test : LongTest) (right : (s : Setup) (d : Done) (o : Output) → SameLong s d o → test s d o ≡ true) (s : Setup) where
   beside-matched : (yard : LongYard) (d : Done) → LongMatched s yard d → besideBy test s d (longOf (isEvent d) yard d) ≡ true
@@ -124,5 +136,5 @@ module _ (test : LongTest) (right : (s : Setup) (d : Done) (o : Output) → Same
       clash (beside-true (longStart s nodes) (runFrom (atStart nodes) calls .past) (demand s nodes calls good fresh kept sent ends few)) wrong
 
 unfoldable pub engines : Unit {0}
-unfolding longLimits askLongSetup lowFirst numberAt longEncode longFrameEnd longFormed longDecode longFrameQuestions longestLong longRead longWriteQuestions longWriteFrame longBefore longDue longHoldbackSize longHeldBytes longHeld longPasses longNotEarly longNotOverdue longSoundHoldback longEncodeFrames longEncodeHoldback askLongEarly askHeld longPlaceQuestions longQuestions longJudge longHearOne longHear longAbsorbAll longCallQuestions longClockSound longTablesSound longLeastDue longShelfSound longRepair longOpeningStamp longOpened longHeard longNewStamp longSent longDueBy longDelivered longKept longAcceptance longTick hasWidth longHeardBefore longFits engineVerdictTest engineRepairTest engineTakenTest engineDeliveryTest engineOrderTest engineSentTest engineBoundedTest engineFewTest engineTest longBatch longInput longActed longAll longFresh longStart endsBelow holdsFew reducedStamp reducedLong longSameNumber longSameRepair longSameVerdicts longSameTaken longSameTables longSameFrames longSameDelivered sameFrame longSameDelivery longSameAll besideTest telling
+unfolding longLimits askLongSetup lowFirst numberAt longEncode longFrameEnd longFormed longDecode longFrameQuestions longestLong longRead longWriteQuestions longWriteFrame longBefore longDue longHoldbackSize longHeldBytes longHeld longPasses longNotEarly longNotOverdue longSoundHoldback longEncodeFrames longEncodeHoldback askLongEarly askHeld longPlaceQuestions longQuestions longJudge longHearOne longHear longAbsorbAll longCallQuestions longClockSound longTablesSound longLeastDue longShelfSound longRepair longOpeningStamp longOpened longHeard longNewStamp longSent longDueBy longDelivered longKept longAcceptance longTick hasWidth longHeardBefore longFits engineVerdictTest engineRepairTest engineTakenTest engineDeliveryTest engineOrderTest engineSentTest engineKeptTest engineBoundedTest engineFewTest engineTest longBatch longInput longActed longAll longFresh longStart endsBelow holdsFew reducedStamp reducedLong narrowed narrowedDelivery longSameNumber longSameRepair longSameVerdicts longSameTaken longSameTables longSameFrames longSameFramesRead longSameDelivered longSameDelivery sameFrame longSameHeld longSameAll besideTest telling
 engines = tt

@@ -5,18 +5,18 @@ use mathlib.Core.Bool.{Bool, true, false, _&&_, cond}
 use mathlib.Core.List.{List, [], _∷_, _++_, map}
 use mathlib.Core.Option.{Option, none, some}
 use lib.Dec.{leb, eqb}
-use lib.ListN.{length, take, replicate}
-use Rattle.laws.specs.Lists.{tab, every, chained, joined, sameList}
+use lib.ListN.{length, take, drop, replicate}
+use Rattle.laws.specs.Lists.{tab, every, chained, joined, overlay, sameList}
 use Rattle.model.specs.Setup.{Setup}
 use Rattle.model.specs.Frame.{Frame}
 use Rattle.model.specs.Batch.{batchEntries}
 use Rattle.model.specs.Holdback.{held}
 use Rattle.model.specs.Tick.{Input, Output, takenCount}
 use Rattle.model.specs.Run.{Done, isEvent}
-use Rattle.model.specs.Long.{longMost, longEncode, longBefore, longHoldbackSize, longHeldBytes, longHeld, longSoundHoldback, longQuestions, longTablesSound, longLeastDue, longSent, longDelivered, longTick}
+use Rattle.model.specs.Long.{longMost, longEncode, longBefore, longHoldbackSize, longHeldBytes, longHeld, longSoundHoldback, longEncodeFrames, longQuestions, longTablesSound, longLeastDue, longSent, longDelivered, longTick}
 use Rattle.theory.specs.Premises.{sameTimestamp}
 use Rattle.theory.specs.LongAny.{longHeardBefore}
-use Rattle.theory.specs.LongClocks.{LongYard, longOf, longActed, reducedStamp, reducedLong, narrowed}
+use Rattle.theory.specs.LongClocks.{LongYard, longOf, longActed, reducedStamp, reducedLong, rewritten, narrowed, narrowedDelivery}
 use Rattle.violations.specs.Stories.{freshTables, batchWith}
 use Rattle.violations.specs.Tests.{sameEach, implies, firstFailed, everyStep, sameFrames}
 
@@ -92,6 +92,11 @@ unfoldable pub engineSentTest : Input → Bool
 engineSentTest i =
     eqb (longTick i .answer .sent) (length (longSent i)) && sameList (take (longTick i .answer .sent) (longTick i .outgoing)) (longSent i)
 
+-- the bytes beyond the hand-out stay
+unfoldable pub engineKeptTest : Input → Bool
+engineKeptTest i =
+    sameList (drop (length (longEncodeFrames (longDelivered i))) (longTick i .delivery)) (drop (length (longEncodeFrames (longDelivered i))) (i .delivery))
+
 unfoldable pub engineBoundedTest : Input → Bool
 engineBoundedTest i =
     everyStep (λ k. longTablesSound (i .setup) (i .clock + k) (longTick i .answer .tables)
@@ -104,7 +109,7 @@ engineFewTest i = every (λ k. leb (length (longHeardBefore i k .queue)) longMos
 unfoldable pub engineTest : Input → Bool
 engineTest i =
     engineVerdictTest i && (engineRepairTest i && (engineTakenTest i && (engineDeliveryTest i && (engineOrderTest i
-    && (engineSentTest i && (engineBoundedTest i && engineFewTest i))))))
+    && (engineSentTest i && (engineKeptTest i && (engineBoundedTest i && engineFewTest i)))))))
 
 -- ---- tests of a list of calls
 
@@ -130,23 +135,30 @@ longSameTables s d o = sameTimestamp (d .output .answer .tables) (reducedStamp (
 
 unfoldable pub longSameFrames : LongTest
 longSameFrames s d o =
-    sameList (take (d .output .answer .sent) (d .output .outgoing)) (narrowed s (take (o .answer .sent) (o .outgoing)))
+    sameList (take (d .output .answer .sent) (d .output .outgoing)) (narrowed (s .modulus) (take (o .answer .sent) (o .outgoing)))
+
+unfoldable pub longSameFramesRead : LongTest
+longSameFramesRead s d o =
+    sameList (take (d .output .answer .sent) (d .output .outgoing)) (rewritten s (take (o .answer .sent) (o .outgoing)))
 
 unfoldable pub longSameDelivered : LongTest
 longSameDelivered s d o = eqb (o .answer .delivered) (d .output .answer .delivered)
+
+unfoldable pub longSameDelivery : LongTest
+longSameDelivery s d o = sameList (d .output .delivery) (overlay (narrowedDelivery s (o .delivery)) (d .call .delivery))
 
 -- the two frames are the same
 unfoldable pub sameFrame : Frame → Frame → Bool
 sameFrame f g = eqb (f .station) (g .station) && (sameTimestamp (f .stamp) (g .stamp) && sameList (f .payload) (g .payload))
 
-unfoldable pub longSameDelivery : LongTest
-longSameDelivery s d o =
+unfoldable pub longSameHeld : LongTest
+longSameHeld s d o =
     sameEach sameFrame (held (s .epsilon) (d .output .delivery)) (map (reducedLong (s .modulus)) (longHeld (s .epsilon) (o .delivery)))
 
 unfoldable pub longSameAll : LongTest
 longSameAll s d o =
     longSameNumber s d o && (longSameRepair s d o && (longSameVerdicts s d o && (longSameTaken s d o && (longSameTables s d o
-    && (longSameFrames s d o && (longSameDelivered s d o && longSameDelivery s d o))))))
+    && (longSameFrames s d o && (longSameFramesRead s d o && (longSameDelivered s d o && (longSameDelivery s d o && longSameHeld s d o))))))))
 
 -- the test of a call, where its station has an engine
 abbrev pub besideBy : LongTest → Setup → Done → Option Output → Bool

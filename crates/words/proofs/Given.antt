@@ -16,7 +16,7 @@ use Rattle.laws.proofs.Lists.{every-index, every-append-intro}
 use Rattle.model.specs.Setup.{Setup}
 use Rattle.model.specs.Frame.{Frame}
 use Rattle.model.specs.Question.{Question, firstNo, frameQuestions, askForm, askRange, askStamp}
-use Rattle.model.specs.Judge.{judgeQuestions, placeQuestions, askLate, askEarly, askCounts, askRepeat}
+use Rattle.model.specs.Judge.{judgeQuestions, placeQuestions, observerQuestions, observerPlaceQuestions, askLate, askEarly, askCounts, askRepeat}
 use Rattle.words.specs.Words.{given}
 
 module _ (P : ℕ → Type 0) (p₀ : P 0) (p₁₀ : P 10) (p₁₁ : P 11) (p₁₂ : P 12) (p₁₃ : P 13) (p₁₄ : P 14) (p₁₅ : P 15) (p₁₆ : P 16) where
@@ -56,6 +56,11 @@ given-first (q ∷ qs) h = go (q .holds) (given-first qs (and-right (given (q .n
 pub judged-given : (s : Setup) (v : ℕ) (queue : List Frame) (bytes : List ℕ) → given (firstNo (judgeQuestions s v queue bytes)) ≡ true
 unfolding judgeQuestions frameQuestions placeQuestions askForm askRange askStamp askLate askEarly askCounts askRepeat every given within
 judged-given s v queue bytes = given-first (judgeQuestions s v queue bytes) refl
+
+-- and so does an observer's
+pub observed-given : (s : Setup) (v : ℕ) (queue : List Frame) (bytes : List ℕ) → given (firstNo (observerQuestions s v queue bytes)) ≡ true
+unfolding observerQuestions frameQuestions observerPlaceQuestions askForm askRange askStamp askLate askEarly askRepeat every given within
+observed-given s v queue bytes = given-first (observerQuestions s v queue bytes) refl
 
 -- ---- a test of the first elements, one by one
 

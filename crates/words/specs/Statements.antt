@@ -10,36 +10,73 @@ use Rattle.model.specs.Setup.{Setup, inLimits}
 use Rattle.model.specs.Frame.{Frame, decode}
 use Rattle.model.specs.Batch.{batchEntries}
 use Rattle.model.specs.Question.{firstNo}
-use Rattle.model.specs.Judge.{hear, judgeQuestions}
-use Rattle.model.specs.Tick.{Input, opening, tick}
+use Rattle.model.specs.Judge.{Asking, Heard, hear, judgeQuestions, observerQuestions}
+use Rattle.model.specs.Tick.{Input, openingIn, opening, tick}
+use Rattle.model.specs.Observer.{Listening, observerOpened, listen}
 use Rattle.words.specs.Words.{given, lineOf, wordLines, longestLine, wordsBy, words}
 
--- the shelved frames when a tick judges the entry at a position
-unfoldable pub queueAt : Input → ℕ → List Frame
-queueAt i position =
-    hear (i .setup) (i .clock) (judgeQuestions (i .setup) (i .clock)) (opening i) (take position (batchEntries (i .batch))) .queue
+-- a call that judges a batch, a tick or an observer's call: what it asks of a frame, what its hearing starts from, and the verdict buffer that
+-- it leaves
+pub record Judging : Type 0 where
+  pub setup : Setup
+  pub clock : ℕ
+  pub asking : Asking
+  pub opening : Heard
+  pub batch : List ℕ
+  pub verdicts : List ℕ
+
+-- the shelved frames when it judges the entry at a position
+unfoldable pub queueAt : Judging → ℕ → List Frame
+queueAt j position = hear (j .setup) (j .clock) (j .asking) (j .opening) (take position (batchEntries (j .batch))) .queue
 
 -- the number of the first question about that entry that gets a no; 0 where it is taken
-unfoldable pub numberAt : Input → ℕ → List ℕ → ℕ
-numberAt i position entry = firstNo (judgeQuestions (i .setup) (i .clock) (queueAt i position) entry)
+unfoldable pub numberAt : Judging → ℕ → List ℕ → ℕ
+numberAt j position entry = firstNo (j .asking (queueAt j position) entry)
 
--- the lines of a tick's batch and of the verdict buffer that it leaves
-abbrev pub tickWords : Input → List (List ℕ)
-tickWords i = wordLines (i .setup) (batchEntries (i .batch)) (tick i .verdicts)
+-- the lines of its batch and of the verdict buffer that it leaves
+abbrev pub callWords : Judging → List (List ℕ)
+callWords j = wordLines (j .setup) (batchEntries (j .batch)) (j .verdicts)
 
 -- 02: "a line for each judged frame", from any state: as many lines as entries; each is that of the entry's judgement; and the words
 -- are these lines, one after the other, in any text buffer that is long enough
-pub record TickTold (i : Input) : Type 0 where
-  pub each-one : length (tickWords i) ≡ length (batchEntries (i .batch))
+pub record CallTold (j : Judging) (own : ℕ) : Type 0 where
+  pub each-one : length (callWords j) ≡ length (batchEntries (j .batch))
   pub line-by-line :
-      (position : ℕ) (entry : List ℕ) → getElem? (batchEntries (i .batch)) position ≡ some entry
-      → getElem? (tickWords i) position ≡ some (lineOf (i .setup) position (numberAt i position entry) (decode (i .setup .epsilon) entry))
+      (position : ℕ) (entry : List ℕ) → getElem? (batchEntries (j .batch)) position ≡ some entry
+      → getElem? (callWords j) position ≡ some (lineOf (j .setup) position (numberAt j position entry) (decode (j .setup .epsilon) entry))
   pub written :
-      (text : List ℕ) → longestLine * length (batchEntries (i .batch)) ≤ length text
-      → words (i .setup) (i .own) (i .batch) (tick i .verdicts) text ≡ wordsBy 0 (joined (λ line. line) (tickWords i)) text
+      (text : List ℕ) → longestLine * length (batchEntries (j .batch)) ≤ length text
+      → words (j .setup) own (j .batch) (j .verdicts) text ≡ wordsBy 0 (joined (λ line. line) (callWords j)) text
+
+-- of a tick
+abbrev pub tickJudging : Input → Judging
+tickJudging i =
+    record {
+      setup = i .setup;
+      clock = i .clock;
+      asking = judgeQuestions (i .setup) (i .clock);
+      opening = opening i;
+      batch = i .batch;
+      verdicts = tick i .verdicts;
+    }
 
 abbrev pub TrueWords : Type 0
-TrueWords = (i : Input) → tick i .answer .number ≡ 0 → TickTold i
+TrueWords = (i : Input) → tick i .answer .number ≡ 0 → CallTold (tickJudging i) (i .own)
+
+-- 02, 2.6: of an observer's call, which asks by its own questions, "not 15". It has no own number; the words ask for one, and any below n will do
+abbrev pub listenJudging : Listening → Judging
+listenJudging i =
+    record {
+      setup = i .setup;
+      clock = i .clock;
+      asking = observerQuestions (i .setup) (i .clock);
+      opening = openingIn (i .setup) (i .clock) (observerOpened i);
+      batch = i .batch;
+      verdicts = listen i .verdicts;
+    }
+
+abbrev pub TrueObserverWords : Type 0
+TrueObserverWords = (i : Listening) (own : ℕ) → own < i .setup .n → listen i .number ≡ 0 → CallTold (listenJudging i) own
 
 -- what two lines tell
 pub record SameJudgement (position number : ℕ) (f : Frame) (position′ number′ : ℕ) (f′ : Frame) : Type 0 where

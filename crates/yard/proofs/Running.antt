@@ -4,25 +4,29 @@ use native.Mathlib.Omega.{arith}
 use native.Mathlib.Nat.{zero-add}
 use native.Mathlib.Numerals.{add-one}
 use mathlib.Core.Path.{_≡_, refl, sym, ap, ap₂, _∙_}
+use mathlib.Core.Bool.{Bool, true, false}
 use mathlib.Core.List.{List, [], _∷_, _++_, map, append-assoc, append-nil}
-use lib.ListN.{length, take, length-map}
+use lib.Dec.{eqb}
+use lib.ListN.{length, take, drop, length-map}
+use borrow.Author.Tests.{eqb-true, eqb-false}
 use Rattle.laws.specs.Lists.{joined}
+use Rattle.laws.proofs.Numbers.{clash}
 use Rattle.model.specs.Setup.{Setup}
 use Rattle.model.specs.Question.{firstNo}
 use Rattle.trace.specs.Trace.{endNumber}
 use Rattle.trace.specs.Replay.{stopped}
-use Rattle.rehearsal.specs.Step.{stepEnd}
+use Rattle.rehearsal.specs.Step.{stepEnd, longestStep}
 use Rattle.rehearsal.specs.Group.{Group, newGroup, Stepped, stepped}
 use Rattle.rehearsal.specs.Rehearsal.{rehearseSteps}
 use Rattle.rehearsal.specs.Calls.{steppedAll}
 use Rattle.rehearsal.specs.Views.{figuresOf, notedAll}
-use Rattle.rehearsal.specs.Standing.{groupOf, Standing, Outcome, outcomeOf, outcomeBy}
+use Rattle.rehearsal.specs.Standing.{groupOf, newRehearsal, Standing, Outcome, outcomeOf, outcomeBy, Left, leftOf, stepLeft}
 use Rattle.rehearsal.specs.declared.step.Rehearsal.{Rehearsal}
 use Rattle.rehearsal.specs.declared.step.Rehearsed.{Rehearsed}
 use Rattle.rehearsal.proofs.Figuring.{figures-step}
 use Rattle.rehearsal.proofs.Whole.{next-whole}
 use Rattle.yard.specs.declared.Progress.{Progress}
-use Rattle.yard.specs.Running.{begunGroup, BySteps, verdictsBy, Ran}
+use Rattle.yard.specs.Running.{begunGroup, BySteps, verdictsBy, Buffers, buffersOf, buffersAfter, buffersBy, closedBy, Ran, Ended}
 
 -- ---- step by step
 
@@ -102,10 +106,33 @@ module _ (s : Setup) (y : Rehearsal) (r : Rehearsed) (figures figures′ holdbac
             ∙ ap figuresOf (sym (verdicts-next s came (t .last) bytes (t .turns)));
       }
 
+-- ---- every byte
+
+pub buffers-none : (s : Setup) (y y′ : Rehearsal) (holdbacks slots text : List ℕ) → y ≡ y′
+    → buffersOf y holdbacks slots text ≡ buffersBy s (buffersOf y′ holdbacks slots text) []
+unfolding buffersBy
+buffers-none s y y′ holdbacks slots text e = ap (λ (x : Rehearsal). buffersOf x holdbacks slots text) e
+
+buffers-more : (s : Setup) (b : Buffers) (came : List (List ℕ)) (bytes : List ℕ) → buffersBy s b (came ++ (bytes ∷ [])) ≡ buffersAfter s (buffersBy s b came) bytes
+unfolding buffersBy
+buffers-more s b [] bytes = refl
+buffers-more s b (one ∷ came) bytes = buffers-more s (buffersAfter s b one) came bytes
+
+module _ (s : Setup) (y : Rehearsal) (r : Rehearsed) (holdbacks slots bytes text holdbacks′ slots′ text′ : List ℕ) (b : Buffers) (came : List (List ℕ)) where
+  pub buffers-next : buffersOf y holdbacks slots text ≡ buffersBy s b came → leftOf r holdbacks′ slots′ text′ ≡ stepLeft s y holdbacks slots bytes text
+      → buffersOf (r .group) holdbacks′ slots′ text′ ≡ buffersBy s b (came ++ (bytes ∷ []))
+  unfolding buffersAfter
+  buffers-next so-far e =
+      ap (λ (l : Left). buffersOf (l .answer .group) (l .holdbacks) (l .slots) (l .text)) e
+      ∙ ap (λ (x : Buffers). buffersAfter s x bytes) so-far
+      ∙ sym (buffers-more s b came bytes)
+
 -- between two steps, none was refused yet, and the buffers are as long as they were
 pub record Going (s : Setup) (steps : ℕ) (holdbacks₀ slots₀ bytes₀ text₀ holdbacks slots bytes text : List ℕ) (y : Rehearsal) (figures : List ℕ) : Type 0 where
   pub came : List (List ℕ)
   pub turned : Turned s 0 y figures holdbacks slots came
+  pub buffers : buffersOf y holdbacks slots text ≡ buffersBy s (buffersOf newRehearsal holdbacks₀ slots₀ text₀) came
+  pub past : drop longestStep bytes ≡ drop longestStep bytes₀
   pub standing : Standing s y holdbacks slots
   pub count : length came ≡ y .steps
   pub most : y .steps ≤ steps
@@ -120,39 +147,54 @@ none-more : endNumber 0 ≡ 0
 unfolding endNumber firstNo
 none-more = refl
 
--- at a step that was refused, or whose lines were not written
-pub ran-to : (s : Setup) (steps : ℕ) (p : Progress) (holdbacks slots : List ℕ) (came : List (List ℕ))
-    → Turned s (p .number) (p .group) (p .figures) holdbacks slots came → length came ≤ steps → Ran s steps p holdbacks slots
-ran-to s steps p holdbacks slots came t h =
-    record {
-      came = came;
-      more = 0;
-      last = t .last;
-      turns = t .turns;
-      most = h;
-      refused = λ _. t .number-is;
-      ended = λ e. t .number-is ∙ e ∙ sym none-more;
-      looked = λ _. refl;
-      group = t .group;
-      figures = t .figures-are;
-    }
+module _ (s : Setup) (steps : ℕ) (p : Progress) (holdbacks₀ slots₀ text₀ holdbacks slots text : List ℕ) (came : List (List ℕ)) where
+  -- at a step that was refused, or whose lines were not written
+  pub ran-to : Turned s (p .number) (p .group) (p .figures) holdbacks slots came → length came ≤ steps
+      → buffersOf (p .group) holdbacks slots text ≡ buffersBy s (buffersOf newRehearsal holdbacks₀ slots₀ text₀) came
+      → Ran s steps p holdbacks₀ slots₀ text₀ holdbacks slots text
+  ran-to t h b =
+      record {
+        came = came;
+        more = 0;
+        closed = false;
+        last = t .last;
+        turns = t .turns;
+        most = h;
+        refused = λ _. t .number-is;
+        ended = λ e. t .number-is ∙ e ∙ sym none-more;
+        looked = λ _. refl;
+        closes = λ e. absurd (clash e refl);
+        group = t .group;
+        figures = t .figures-are;
+        buffers = b;
+      }
 
--- after the last of them
-pub ran-all : (s : Setup) (steps : ℕ) (p : Progress) (holdbacks slots : List ℕ) (came : List (List ℕ)) (more : ℕ)
-    → Turned s 0 (p .group) (p .figures) holdbacks slots came → length came ≡ steps → p .number ≡ endNumber more → Ran s steps p holdbacks slots
-ran-all s steps p holdbacks slots came more t h n =
-    record {
-      came = came;
-      more = more;
-      last = t .last;
-      turns = t .turns;
-      most = omega arith;
-      refused = λ some. absurd (some (sym (t .number-is)));
-      ended = λ _. n;
-      looked = λ less. absurd (omega arith);
-      group = t .group;
-      figures = t .figures-are;
-    }
+  -- after the last of them, with the lines of the last in `lines`
+  pub ran-all : (lines : List ℕ) → Turned s 0 (p .group) (p .figures) holdbacks slots came → length came ≡ steps
+      → buffersOf (p .group) holdbacks slots lines ≡ buffersBy s (buffersOf newRehearsal holdbacks₀ slots₀ text₀) came
+      → Ended (p .figures) lines text (p .number) → Ran s steps p holdbacks₀ slots₀ text₀ holdbacks slots text
+  ran-all lines t h b end =
+      record {
+        came = came;
+        more = end .more;
+        closed = eqb (p .number) 0;
+        last = t .last;
+        turns = t .turns;
+        most = omega arith;
+        refused = λ some. absurd (some (sym (t .number-is)));
+        ended = λ _. end .number-is;
+        looked = λ less. absurd (omega arith);
+        closes = λ e. (eqb-true (p .number) 0 e, h);
+        group = t .group;
+        figures = t .figures-are;
+        buffers = closing (eqb (p .number) 0) refl;
+      }
+    where
+      closing : (closed : Bool) → eqb (p .number) 0 ≡ closed
+          → buffersOf (p .group) holdbacks slots text ≡ closedBy closed (p .figures) (buffersBy s (buffersOf newRehearsal holdbacks₀ slots₀ text₀) came)
+      closing true e =
+          ap (buffersOf (p .group) holdbacks slots) (end .lines (eqb-true (p .number) 0 e)) ∙ ap (closedBy true (p .figures)) b
+      closing false e = ap (buffersOf (p .group) holdbacks slots) (end .stays (eqb-false (p .number) 0 e)) ∙ b
 
 -- ---- and their lines are those of the whole text
 

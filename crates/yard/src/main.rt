@@ -20,7 +20,7 @@ use trace::tick_count;
 ghost use mathlib.Core.Path.{_≡_};
 ghost use mathlib.Core.Bool.{true};
 ghost use Prim.Native.Nat.{_≤_};
-ghost use lib.ListN.{length};
+ghost use lib.ListN.{length, drop};
 ghost use Rattle.setup.specs.Views.{setupOf};
 ghost use Rattle.playing.specs.Playing.{among, runNumbers, replayNumbers};
 ghost use Rattle.reading.specs.Coming.{Came};
@@ -32,6 +32,7 @@ ghost use Rattle.yard.specs.Running.{Usable, Begun, Ran, Ended};
 fn read_step(bytes: &mut [u8]) -> usize
     requires { ⌜ longestStep ≤ length (now bytes) ⌝ }
     ensures { λ r. ⌜ Came stepEnd (now (bytes .entry)) (now (bytes .exit)) r ⌝ }
+    ensures { λ _. ⌜ drop longestStep (now (bytes .exit)) ≡ drop longestStep (now (bytes .entry)) ⌝ }
 {
     let mut used = 0;
     let mut end = step_end(&bytes[..0]);
@@ -71,7 +72,7 @@ struct Progress {
 
 // Rehearses `steps` steps as they come, and then looks whether there are more bytes. It stops at a
 // step that is refused. Lines that cannot be written stop it too, with 0: nothing more is read or
-// called.
+// called. Of `bytes` a step's length is for what comes; the rest stays.
 fn rehearse_steps(
     setup: Setup,
     steps: usize,
@@ -81,7 +82,8 @@ fn rehearse_steps(
     text: &mut [u8],
 ) -> Progress
     requires { ⌜ Begun (setupOf setup) steps (now holdbacks) (now slots) (now bytes) (now text) ⌝ }
-    ensures { λ r. ⌜ Ran (setupOf setup) steps r (now (holdbacks .exit)) (now (slots .exit)) ⌝ }
+    ensures { λ r. ⌜ Ran (setupOf setup) steps r (now (holdbacks .entry)) (now (slots .entry)) (now (text .entry)) (now (holdbacks .exit)) (now (slots .exit)) (now (text .exit)) ⌝ }
+    ensures { λ r. ⌜ drop longestStep (now (bytes .exit)) ≡ drop longestStep (now (bytes .entry)) ⌝ }
     ensures { λ r. ⌜ among runNumbers (r .number) ≡ true ⌝ }
 {
     let mut group = new_group();

@@ -3,9 +3,8 @@
 
 use super::{long, Group, Habits, LongCase, Prng, TickCase};
 use crate::holdback::count;
-use crate::long::{holdback_len, split, to_state, LongState};
-use crate::timestamp::fresh;
-use crate::{batch, Answer, Frame, Setup, Timestamp};
+use crate::long::{fresh_tables, holdback_len, split, LongState};
+use crate::{batch, Answer, Frame, Setup};
 use std::collections::HashMap;
 
 /// A group that keeps both limits, and its engines.
@@ -101,12 +100,6 @@ impl Beside {
         let modulus = self.group.setup.modulus;
         self.group.highest() / modulus - self.start / modulus
     }
-}
-
-/// Fresh tables of an engine at a clock.
-pub fn fresh_tables(setup: &Setup, clock: u64) -> LongState {
-    let state = fresh(setup, 0);
-    to_state(&Timestamp { r: clock as i64, c: 0, kn: &state[3..] })
 }
 
 /// An engine's tables as a station's: r modulo B.

@@ -1,7 +1,7 @@
 //! Random frames, sound and damaged.
 
 use super::Prng;
-use crate::{frame, Setup, Timestamp};
+use crate::{frame, Limits, Pairs, Setup, Timestamp};
 
 /// How the counts of a frame are chosen.
 #[derive(Clone, Copy)]
@@ -51,10 +51,23 @@ pub fn encode(node: i64, timestamp: &Timestamp, payload: &[u8]) -> Vec<u8> {
     bytes
 }
 
-/// A frame that passes 10 to 12 and may fail each later check, mostly by little.
-pub fn near(rng: &mut Prng, setup: &Setup, v: i64) -> Vec<u8> {
-    let (node, ahead, c) = place_near(rng, setup);
-    sound(rng, setup, v, node, ahead, c)
+/// One of the pairs that a call knows of: a frame has its width.
+pub fn pair(rng: &mut Prng, pairs: &impl Pairs) -> Setup {
+    match pairs.pairs() {
+        [old, new] if old.epsilon == new.epsilon => old,
+        both => rng.pick(&both),
+    }
+}
+
+/// A frame that is sound by its width and may fail each later check, mostly by little.
+pub fn near(rng: &mut Prng, limits: &impl Limits, v: i64) -> Vec<u8> {
+    let (node, ahead, mut c) = place_near(rng, limits.own());
+    let pair = pair(rng, limits);
+    if pair.epsilon != limits.own().epsilon {
+        let any = rng.below(pair.epsilon);
+        c = rng.pick(&[c.min(pair.epsilon - 1), any]);
+    }
+    sound(rng, &pair, v, node, ahead, c)
 }
 
 /// The node of such a frame, how far its r is ahead of v, and c.
@@ -105,14 +118,24 @@ pub(super) fn damage_with(rng: &mut Prng, setup: &Setup, r: &[u8], frame: &mut V
 }
 
 /// Any bytes for a batch's entry: mostly a frame near v, damaged now and then.
-pub fn any(rng: &mut Prng, setup: &Setup, v: i64) -> Vec<u8> {
+pub fn any(rng: &mut Prng, limits: &impl Limits, v: i64) -> Vec<u8> {
     if rng.one_in(12) {
-        let length = rng.pick(&[0, 1, 7, setup.longest_frame(), 71, 255]);
+        let length = rng.pick(&[0, 1, 7, limits.widest().longest_frame(), 71, 255]);
         return rng.bytes(length);
     }
-    let mut frame = near(rng, setup, v);
+    let mut frame = near(rng, limits, v);
     if rng.one_in(3) {
-        damage(rng, setup, &mut frame);
+        damage(rng, &pair_of(limits, &frame), &mut frame);
     }
     frame
+}
+
+/// The pair that has the width of a sound frame.
+pub fn pair_of(pairs: &impl Pairs, frame: &[u8]) -> Setup {
+    let [old, new] = pairs.pairs();
+    if usize::from(frame[4]) == 1 + old.width() {
+        old
+    } else {
+        new
+    }
 }

@@ -128,6 +128,25 @@ impl LongCase {
     }
 }
 
+/// A call for an engine's start.
+#[derive(Clone, Debug, PartialEq, Eq)]
+pub struct LongFreshCase {
+    pub setup: Setup,
+    pub clock: u64,
+    pub state: LongState,
+}
+
+impl LongFreshCase {
+    /// A call for this clock or one that is mostly none, the setup sometimes wrong.
+    pub fn random(rng: &mut Prng, mut setup: Setup, clock: u64) -> Self {
+        let clock = if rng.one_in(2) { odd_clock(rng, clock) } else { clock };
+        if rng.one_in(4) {
+            spoil::spoil_setup(rng, &mut setup);
+        }
+        LongFreshCase { setup, clock, state: random_tables(rng) }
+    }
+}
+
 /// A call of an engine's reader alone.
 #[derive(Clone, Debug, PartialEq, Eq)]
 pub struct LongReadCase {
@@ -294,7 +313,7 @@ fn held(rng: &mut Prng, setup: &Setup, v: u64, least: i64) -> Vec<Vec<u8>> {
     let mut frames = Vec::new();
     while frames.len() < count && !places.is_empty() {
         let (node, ahead) = places.swap_remove(rng.place(places.len()));
-        let c = memory::held_c(rng, setup, least, ahead);
+        let c = memory::held_c(rng, setup, setup.epsilon, least, ahead).expect("a c");
         frames.push(sound(rng, setup, v, node, ahead, c));
     }
     frames

@@ -3,25 +3,27 @@
 use super::cases::random_state;
 use super::{frames, Prng};
 use crate::holdback::Entry;
-use crate::{ClockState, Frame, Setup};
+use crate::{ClockState, Frame, Limits, Setup};
 
 /// Any clock state for a tick at v, its step often 1 and otherwise up to ε.
-pub fn state(rng: &mut Prng, setup: &Setup, v: i64) -> ClockState {
+pub fn state(rng: &mut Prng, limits: &impl Limits, v: i64) -> ClockState {
     if rng.one_in(8) {
         return random_state(rng);
     }
-    let any = rng.range(1, setup.epsilon);
-    let step = rng.pick(&[1, 1, any, setup.epsilon]);
-    let mut state = sound_state(rng, setup, v, step);
+    let longest = limits.own().epsilon;
+    let any = rng.range(1, longest);
+    let step = rng.pick(&[1, 1, any, longest]);
+    let mut state = sound_state(rng, limits, v, step);
     if rng.one_in(2) {
-        damage_state(rng, setup, &mut state);
+        damage_state(rng, limits.of(-step), &mut state);
     }
     state
 }
 
 /// A clock state whose r lies a step before v, with junk past its counts. It is sound for v if
 /// the step is 1 to ε.
-pub fn sound_state(rng: &mut Prng, setup: &Setup, v: i64, step: i64) -> ClockState {
+pub fn sound_state(rng: &mut Prng, limits: &impl Limits, v: i64, step: i64) -> ClockState {
+    let setup = limits.of(-step);
     let any = rng.below(setup.epsilon);
     // With one node no clock ahead can have been counted.
     let c = if setup.n == 1 { 0 } else { rng.pick(&[0, any, any]) };
@@ -66,17 +68,19 @@ pub fn least_due(rng: &mut Prng, setup: &Setup, step: Option<i64>) -> i64 {
 }
 
 /// Any hold-back queue for a tick at v, mostly with no due clock below the least.
-pub fn holdback(rng: &mut Prng, setup: &Setup, v: i64, least: i64) -> Vec<u8> {
+pub fn holdback(rng: &mut Prng, limits: &impl Limits, v: i64, least: i64) -> Vec<u8> {
+    let setup = limits.widest();
     if rng.one_in(12) {
         return rng.bytes(setup.holdback_len());
     }
     let away = if rng.one_in(8) { rng.pick(&[-1, 1]) } else { 0 };
-    let most = setup.capacity() + usize::from(rng.one_in(8));
-    let mut frames = frames_up_to(rng, setup, v + away, least, most);
+    let most = limits.own().capacity() + usize::from(rng.one_in(8));
+    let scarcity = scarcity(rng, limits.own());
+    let mut frames = frames_up_to(rng, limits, v + away, least, most, scarcity);
     if rng.one_in(3) {
-        damage_frames(rng, setup, v, least, &mut frames);
+        damage_frames(rng, limits, v, least, &mut frames);
     }
-    let mut bytes = assemble(rng, setup, &frames);
+    let mut bytes = assemble(rng, &setup, &frames);
     if rng.one_in(6) {
         let used = 2 + frames.iter().map(Vec::len).sum::<usize>();
         bytes[rng.place(used.min(setup.holdback_len()))] ^= 1 << rng.below(8);
@@ -89,25 +93,44 @@ pub fn holdback(rng: &mut Prng, setup: &Setup, v: i64, least: i64) -> Vec<u8> {
 
 /// Frames that make a sound queue for v with this least due clock: few, or as many as there can
 /// be.
-pub fn sound_frames(rng: &mut Prng, setup: &Setup, v: i64, least: i64) -> Vec<Vec<u8>> {
-    frames_up_to(rng, setup, v, least, setup.capacity())
+pub fn sound_frames(rng: &mut Prng, limits: &impl Limits, v: i64, least: i64) -> Vec<Vec<u8>> {
+    let scarcity = scarcity(rng, limits.own());
+    frames_up_to(rng, limits, v, least, limits.own().capacity(), scarcity)
+}
+
+/// A queue of all frames that can be held at v with this least due clock, but at most so many.
+pub fn crowd(rng: &mut Prng, limits: &impl Limits, v: i64, least: i64, most: usize) -> Vec<u8> {
+    let frames = frames_up_to(rng, limits, v, least, most, 1);
+    assemble(rng, &limits.widest(), &frames)
+}
+
+/// One in how many of the frames that could be held is.
+fn scarcity(rng: &mut Prng, setup: &Setup) -> i64 {
+    rng.pick(&[1, 3, 1 + setup.capacity() as i64 / 4, setup.capacity() as i64])
 }
 
 /// At most so many frames that make a sound queue, but for their number.
-fn frames_up_to(rng: &mut Prng, setup: &Setup, v: i64, least: i64, most: usize) -> Vec<Vec<u8>> {
-    let scarcity = rng.pick(&[1, 3, 1 + setup.capacity() as i64 / 4, setup.capacity() as i64]);
+fn frames_up_to(
+    rng: &mut Prng,
+    limits: &impl Limits,
+    v: i64,
+    least: i64,
+    most: usize,
+    scarcity: i64,
+) -> Vec<Vec<u8>> {
+    let setup = limits.own();
     let mut frames = Vec::new();
     for node in 0..setup.n {
         for ahead in held_range(setup, least) {
             if rng.one_in(scarcity) {
-                frames.push(held_frame(rng, setup, v, least, node, ahead));
+                frames.extend(held_frame(rng, limits, v, least, node, ahead));
             }
         }
     }
     while frames.len() > most {
         frames.swap_remove(rng.place(frames.len()));
     }
-    sort(setup, v, &mut frames);
+    sort(limits, v, &mut frames);
     frames
 }
 
@@ -116,31 +139,55 @@ pub(super) fn held_range(setup: &Setup, least: i64) -> std::ops::Range<i64> {
     least + 1 - setup.delta - 2 * setup.epsilon..setup.epsilon
 }
 
-/// A sound frame that may be held at v: its sum not too far ahead, its due clock not below the
-/// least.
-fn held_frame(rng: &mut Prng, setup: &Setup, v: i64, least: i64, node: i64, ahead: i64) -> Vec<u8> {
-    let c = held_c(rng, setup, least, ahead);
-    frames::sound(rng, setup, v, node, ahead, c)
+/// A sound frame that may be held at v, of a width that the call knows: its sum not too far ahead,
+/// its due clock not below the least. None where no c does that.
+fn held_frame(
+    rng: &mut Prng,
+    limits: &impl Limits,
+    v: i64,
+    least: i64,
+    node: i64,
+    ahead: i64,
+) -> Option<Vec<u8>> {
+    let pair = frames::pair(rng, limits);
+    let c = held_c(rng, limits, pair.epsilon, least, ahead)?;
+    Some(frames::sound(rng, &pair, v, node, ahead, c))
 }
 
-/// A c for it.
-pub(super) fn held_c(rng: &mut Prng, setup: &Setup, least: i64, ahead: i64) -> i64 {
-    let lowest = (least - setup.delta - setup.epsilon - ahead).max(0);
-    let highest = (setup.epsilon - 1 - ahead).min(setup.epsilon - 1);
+/// A c for it, which is below this limit.
+pub(super) fn held_c(
+    rng: &mut Prng,
+    limits: &impl Limits,
+    limit: i64,
+    least: i64,
+    ahead: i64,
+) -> Option<i64> {
+    let epsilon = limits.own().epsilon;
+    let lowest = (0..limit).find(|c| limits.due(ahead + c) >= least)?;
+    let highest = (epsilon - 1 - ahead).min(epsilon.min(limit) - 1);
+    if lowest > highest {
+        return None;
+    }
     let any = rng.range(lowest, highest);
-    rng.pick(&[lowest, highest, any])
+    Some(rng.pick(&[lowest, highest, any]))
 }
 
 /// Sorts sound frames into delivery order.
-fn sort(setup: &Setup, v: i64, frames: &mut [Vec<u8>]) {
-    fn entry<'a>(setup: &Setup, v: i64, bytes: &'a [u8]) -> Entry<'a> {
-        Entry::near(setup, v, Frame::parse(setup, bytes).expect("a sound frame"))
+fn sort(limits: &impl Limits, v: i64, frames: &mut [Vec<u8>]) {
+    fn entry<'a>(limits: &impl Limits, v: i64, bytes: &'a [u8]) -> Entry<'a> {
+        Entry::near(limits, v, Frame::parse(limits, bytes).expect("a sound frame"))
     }
-    frames.sort_by(|a, b| entry(setup, v, a).order(&entry(setup, v, b)));
+    frames.sort_by(|a, b| entry(limits, v, a).order(&entry(limits, v, b)));
 }
 
 /// Breaks the order, or gives a node and r twice.
-fn damage_frames(rng: &mut Prng, setup: &Setup, v: i64, least: i64, frames: &mut Vec<Vec<u8>>) {
+fn damage_frames(
+    rng: &mut Prng,
+    limits: &impl Limits,
+    v: i64,
+    least: i64,
+    frames: &mut Vec<Vec<u8>>,
+) {
     if frames.is_empty() {
         return;
     }
@@ -152,11 +199,11 @@ fn damage_frames(rng: &mut Prng, setup: &Setup, v: i64, least: i64, frames: &mut
         2 => frames.swap(at, next),
         _ => {
             // The same node and r with another c, in order.
-            let frame = Frame::parse(setup, &frames[at]).expect("a sound frame");
-            let ahead = setup.near(frame.timestamp.r, v);
-            if held_range(setup, least).contains(&ahead) {
-                frames.push(held_frame(rng, setup, v, least, frame.node, ahead));
-                sort(setup, v, frames);
+            let frame = Frame::parse(limits, &frames[at]).expect("a sound frame");
+            let ahead = limits.own().near(frame.timestamp.r, v);
+            if held_range(limits.own(), least).contains(&ahead) {
+                frames.extend(held_frame(rng, limits, v, least, frame.node, ahead));
+                sort(limits, v, frames);
             }
         }
     }

@@ -10,18 +10,21 @@ pub mod observers;
 pub mod pairs;
 pub mod polls;
 pub mod prng;
+pub mod season;
 pub mod spoil;
 pub mod traces;
+pub mod wider;
 pub mod yards;
 
-pub use cases::{FreshCase, ReadCase, TickCase, WordsCase, WriteCase};
+pub use cases::{FreshCase, ReadCase, TickCase, WordsCase, WriteCase, WriteInCase};
 pub use engines::{Beside, Pair};
 pub use group::{Group, Habits, Turn};
-pub use long::{LongCase, LongReadCase, LongWriteCase};
-pub use observers::ListenCase;
+pub use long::{LongCase, LongFreshCase, LongReadCase, LongWriteCase};
+pub use observers::{FreshLastCase, ListenCase};
 pub use pairs::CompareCase;
 pub use polls::PollCase;
 pub use prng::Prng;
+pub use season::{Act, Bounds, Season};
 
 use crate::Setup;
 

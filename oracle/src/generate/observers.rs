@@ -1,13 +1,30 @@
 //! Calls of observers (02's listeners).
 
-use super::{Prng, TickCase};
-use crate::{Answer, Buffers, LastClock, Listening, Setup};
+use super::{FreshCase, Prng, TickCase};
+use crate::{Answer, Buffers, LastClock, Limits, Listening, Settings, Setup};
+
+/// A call for an observer's start.
+#[derive(Clone, Debug, PartialEq, Eq)]
+pub struct FreshLastCase {
+    /// The own number is not looked at, and may be any.
+    pub setup: Setup,
+    pub clock: i64,
+    pub last: LastClock,
+}
+
+impl FreshLastCase {
+    /// The call for an observer where a node starts with this one.
+    pub fn of(case: FreshCase) -> Self {
+        let FreshCase { setup, clock, state } = case;
+        FreshLastCase { setup, clock, last: [state[0], state[1]] }
+    }
+}
 
 /// An observer's call.
 #[derive(Clone, Debug, PartialEq, Eq)]
-pub struct ListenCase {
+pub struct ListenCase<S = Setup> {
     /// The own number is not looked at, and may be any.
-    pub setup: Setup,
+    pub setup: S,
     pub clock: i64,
     pub last: LastClock,
     pub holdback: Vec<u8>,
@@ -16,17 +33,17 @@ pub struct ListenCase {
     pub delivery: Vec<u8>,
 }
 
-impl ListenCase {
+impl<S: Settings> ListenCase<S> {
     /// The call of an observer where a node makes this one: its last clock is r of the tables.
-    pub fn of(case: TickCase) -> Self {
+    pub fn of(case: TickCase<S>) -> Self {
         let TickCase { setup, clock, state, holdback, batch, verdicts, delivery, .. } = case;
         ListenCase { setup, clock, last: [state[0], state[1]], holdback, batch, verdicts, delivery }
     }
 
     /// The call of an observer with another memory: a step of 0 to ε + 1, often from the clock 0, and
     /// any queue. Now and then the last clock is B too large: B itself where it should be 0.
-    pub fn stepped(rng: &mut Prng, case: &TickCase) -> Self {
-        let Setup { epsilon, modulus, .. } = case.setup;
+    pub fn stepped(rng: &mut Prng, case: &TickCase<S>) -> Self {
+        let Setup { epsilon, modulus, .. } = *case.setup.at(case.clock).own();
         let clock = if rng.one_in(4) { rng.range(1, epsilon) } else { case.clock };
         let mut case = Self::of(TickCase { clock, ..case.clone() }.stepped(rng));
         let larger = case.last_clock() + modulus;

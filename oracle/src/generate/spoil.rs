@@ -2,15 +2,52 @@
 
 use super::{Prng, TickCase};
 use crate::setup::VERDICTS;
-use crate::Setup;
+use crate::{Both, Settings, Setup};
+
+/// A setup of which a number can be put outside its limits.
+pub trait Spoil: Settings {
+    fn spoil(&mut self, rng: &mut Prng);
+}
+
+impl Spoil for Setup {
+    fn spoil(&mut self, rng: &mut Prng) {
+        spoil_setup(rng, self);
+    }
+}
+
+impl Spoil for Both {
+    /// Any of the nine numbers; often both pairs are in their limits and the wider is the smaller, by
+    /// one or by all, now and then one of them is out of them besides.
+    fn spoil(&mut self, rng: &mut Prng) {
+        let huge = i64::from(u32::MAX);
+        let (epsilon, delta) = (self.old.epsilon, self.old.delta);
+        match rng.below(8) {
+            0 | 1 => spoil_setup(rng, &mut self.old),
+            2 => self.wider_epsilon = rng.pick(&[0, epsilon - 1, 17, huge]),
+            3 => self.wider_delta = rng.pick(&[(delta - 1).max(0), 65, 256, huge]),
+            4 => {
+                let b = self.old.modulus.min(65_535);
+                self.change = rng.pick(&[b, b + 1, 65_536 + self.change.min(b), huge]);
+            }
+            5 => self.marked = rng.pick(&[2, 3, 256, 257, huge]),
+            6 => self.old.modulus = self.wider().least_modulus() - 1,
+            _ => {
+                std::mem::swap(&mut self.old.epsilon, &mut self.wider_epsilon);
+                if rng.one_in(2) {
+                    std::mem::swap(&mut self.old.delta, &mut self.wider_delta);
+                }
+            }
+        }
+    }
+}
 
 /// Spoils one argument of a call, rarely more.
-pub fn spoil(rng: &mut Prng, case: &mut TickCase) {
+pub fn spoil<S: Spoil>(rng: &mut Prng, case: &mut TickCase<S>) {
     loop {
         let (outgoing, delivery) = least_lengths(&case.setup);
         match rng.below(9) {
-            0 => spoil_setup(rng, &mut case.setup),
-            1 => spoil_clock(rng, &case.setup, &mut case.clock),
+            0 => case.setup.spoil(rng),
+            1 => spoil_clock(rng, &case.setup.widest(), &mut case.clock),
             2 => spoil_length(rng, &mut case.holdback),
             3 => {
                 let length = rng.pick(&[33, 34, 64, 255, 256, 300, 65_536]);
@@ -28,9 +65,9 @@ pub fn spoil(rng: &mut Prng, case: &mut TickCase) {
 }
 
 /// The least lengths of the outgoing and the delivery buffer; 0 where the setup is wrong.
-fn least_lengths(setup: &Setup) -> (usize, usize) {
-    if setup.is_valid() {
-        (setup.longest_frame(), setup.holdback_len())
+fn least_lengths(setup: &impl Settings) -> (usize, usize) {
+    if setup.check().is_ok() {
+        (setup.widest().longest_frame(), setup.widest().holdback_len())
     } else {
         (0, 0)
     }

@@ -1,11 +1,12 @@
 //! 02's engine with long clocks.
 
 use crate::common::{fresh_case, packed, run, FILL, SETUP};
-use oracle::generate::engines::{fresh_tables, same, shortened_frame};
+use oracle::generate::engines::{same, shortened_frame};
 use oracle::generate::long::{encode, setup, BOUND};
 use oracle::generate::{Beside, LongCase, Pair, Prng};
-use oracle::long::{holdback_len, longest_frame, to_state};
-use oracle::{abi, batch, long_read, long_write, Answer, LongState, Setup, Timestamp};
+use oracle::long::{fresh_tables, holdback_len, longest_frame, to_state};
+use oracle::{abi, batch, long_read, long_start, long_write};
+use oracle::{Answer, LongState, Setup, Timestamp};
 
 /// An engine's frame by its fields.
 fn frame(node: i64, r: u64, c: i64, kn: &[u8], payload: &[u8]) -> Vec<u8> {
@@ -113,6 +114,21 @@ fn the_sample_as_a_station_has_it() {
     assert_eq!(left.delivery[..shown.len()], shown);
     assert!(left.delivery[shown.len()..].iter().all(|&byte| byte == FILL));
     assert_eq!(left.state[..13], [5, 0, 0, 0, 0, 0, 0, 0, 0, 1, 1, 1, 0]);
+}
+
+#[test]
+fn a_start_asks_1_and_2_and_gives_fresh_tables() {
+    assert_eq!(long_start(&SETUP, 0), Ok(tables(0, 0, &[0, 0, 1, 0])));
+    assert_eq!(long_start(&SETUP, BOUND - 1), Ok(tables(BOUND - 1, 0, &[0, 0, 1, 0])));
+    assert_eq!(long_start(&SETUP, BOUND), Err(2));
+    assert_eq!(long_start(&SETUP, u64::MAX), Err(2));
+    assert_eq!(long_start(&Setup { own: 2, ..SETUP }, BOUND), Err(1));
+    assert_eq!(long_start(&Setup { epsilon: 17, ..SETUP }, 0), Err(1));
+    assert_eq!(long_start(&Setup { modulus: 0, ..SETUP }, 5), long_start(&SETUP, 5), "it has no B");
+    let widest = Setup { n: 16, epsilon: 16, delta: 64, modulus: 0, own: 15 };
+    let made = long_start(&widest, 1 << 40).unwrap();
+    assert_eq!((made[5], made[9 + 16]), (1, 1));
+    assert_eq!(made.iter().map(|&byte| u32::from(byte)).sum::<u32>(), 2);
 }
 
 /// The other rows of docs/RULES.md.

@@ -15,4 +15,6 @@ mod rehearsing;
 mod replaying;
 mod round_trips;
 mod samples;
+mod season;
+mod wider;
 mod words;

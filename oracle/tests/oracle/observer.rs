@@ -6,7 +6,7 @@ use crate::group::{play_all, Kind};
 use crate::nudges::{wide, WIDE};
 use oracle::generate::{self, frames, memory, spoil, Group, Habits, ListenCase, Prng, Turn};
 use oracle::holdback::dues;
-use oracle::{abi, batch, poll, Answer, Setup};
+use oracle::{abi, batch, poll, start_last, Answer, Setup};
 
 /// An observer's call that hears nothing, with these frames on its shelf.
 fn silent<T: AsRef<[u8]>>(setup: Setup, last: i64, v: i64, shelf: &[T]) -> ListenCase {
@@ -18,6 +18,17 @@ fn mend<T: AsRef<[u8]>>(setup: Setup, last: i64, v: i64, shelf: &[T]) -> u8 {
     let (answer, left) = listen(silent(setup, last, v, shelf));
     assert_eq!((answer.number, left.last), (0, (v as u16).to_le_bytes()));
     answer.repair
+}
+
+#[test]
+fn a_start_asks_1_without_the_own_number_and_2() {
+    assert_eq!(start_last(&SETUP, 13), Ok([13, 0]));
+    assert_eq!(start_last(&SETUP, 14), Err(2));
+    assert_eq!(start_last(&Setup { own: 2, ..SETUP }, 13), Ok([13, 0]));
+    assert_eq!(start_last(&Setup { modulus: 13, ..SETUP }, 13), Err(1));
+    let widest = Setup { n: 16, epsilon: 16, delta: 64, modulus: 65_535, own: 16 };
+    assert_eq!(start_last(&widest, 65_534), Ok([0xFE, 0xFF]));
+    assert_eq!(start_last(&widest, 65_541), Err(2), "which is not 5");
 }
 
 #[test]

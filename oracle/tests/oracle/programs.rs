@@ -88,7 +88,17 @@ fn trace_writes_the_samples_and_reports_a_bad_line() {
 fn compare_meets_every_number_and_finds_every_fault() {
     let mut command = Command::new(env!("CARGO_BIN_EXE_compare"));
     let output = command
-        .args(["selfcheck", "--calls", "90000", "--engines", "60000", "--traces", "500"])
+        .args([
+            "selfcheck",
+            "--calls",
+            "90000",
+            "--engines",
+            "60000",
+            "--traces",
+            "500",
+            "--wider",
+            "40000",
+        ])
         .output();
     let output = output.unwrap();
     let text = String::from_utf8(output.stdout).unwrap();

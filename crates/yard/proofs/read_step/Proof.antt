@@ -8,7 +8,7 @@ use borrow.Author.Needs.{needs}
 use borrow.Rule.Slice.PartMut.{putMid}
 use Rattle.rehearsal.specs.Step.{stepEnd, longestStep}
 use Rattle.rehearsal.proofs.Whole.{never-past}
-use Rattle.reading.proofs.Coming.{Coming, coming-none, coming-all, came-few, next-long, came-cut, came-more}
+use Rattle.reading.proofs.Coming.{Coming, coming-none, coming-all, coming-past, came-few, next-long, came-cut, cut-past, came-more}
 use Rattle.yard.proofs.read_step.Statement.{statement}
 use Rattle.yard.proofs.read_step.Tie as tie
 
@@ -55,7 +55,11 @@ same-length c = next-long (c .before .before .before .before .before .before .lo
 returns : tie.Need-returns Inv-loop μ-loop
 returns c =
     let at-loop = c .before .before .before .before .before .before in
-    came-cut (at-loop .loop .inv) (c .before .before .before .before .before .loop-test .taken) (c .before .before .before .read-next .last .0) (c .before .before .bytes .given .0) never-past (c .before .before .before .read-next .result) (c .if1 .taken)
+    let less = c .before .before .before .before .before .loop-test .taken in
+    let got = c .before .before .before .read-next in (
+      came-cut (at-loop .loop .inv) less (got .last .0) (c .before .before .bytes .given .0) never-past (got .result) (c .if1 .taken),
+      cut-past (at-loop .loop .inv) less (got .last .0) (c .before .before .bytes .given .0),
+    )
 
 within : (c : tie.Else1 Inv-loop μ-loop) → c .before .before .before .before .before .before .loop .used + c .before .before .before .read-next .result ≤ length (putMid (c .before .before .before .before .before .before .loop .used) (c .before .before .before .before .before .before .loop .end - c .before .before .before .before .before .before .loop .used) (c .before .before .before .before .before .before .loop .bytes) (c .before .before .before .read-next .last .0))
 within c =
@@ -83,7 +87,7 @@ same-length-2 : tie.Need-same-length-2 Inv-loop μ-loop
 same-length-2 c = c .before .loop .inv .long
 
 returns-2 : tie.Need-returns-2 Inv-loop μ-loop
-returns-2 c = coming-all (c .before .loop .inv) (c .loop-test .left)
+returns-2 c = (coming-all (c .before .loop .inv) (c .loop-test .left), coming-past (c .before .loop .inv))
 
 pub read-step-spec : {M : Type 1} → statement M
 read-step-spec =

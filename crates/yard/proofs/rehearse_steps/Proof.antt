@@ -3,18 +3,20 @@ use Prim.Native.Nat.{ℕ, suc, _+_, _-_, _≤_, _<_}
 use native.Mathlib.Omega.{arith}
 use mathlib.Core.Path.{_≡_, refl, sym, ap, subst, _∙_}
 use mathlib.Core.List.{List, [], _∷_, _++_}
-use lib.ListN.{length, take, length-append}
+use lib.ListN.{length, take, drop, length-append}
 use lib.Seq.{length-take-le}
 use borrow.Author.Needs.{needs}
 use Rattle.setup.specs.Views.{setupOf}
 use Rattle.playing.specs.Playing.{among, runNumbers}
 use Rattle.playing.proofs.Refusals.{end-among}
-use Rattle.rehearsal.specs.Standing.{groupOf}
+use Rattle.rehearsal.specs.Step.{longestStep}
+use Rattle.rehearsal.specs.Standing.{groupOf, newRehearsal}
 use Rattle.rehearsal.specs.declared.step.Rehearsal.{Rehearsal}
 use Rattle.rehearsal.proofs.OneStep.{steps-next, outcome-within}
 use Rattle.rehearsal.proofs.Beginning.{group-new, stands-new}
 use Rattle.rehearsal.proofs.Figuring.{figures-start}
-use Rattle.yard.proofs.Running.{Turned, turned-none, turned-next, Going, ran-to, ran-all}
+use Rattle.yard.proofs.Running.{Turned, turned-none, turned-next, buffers-none, buffers-next, Going, ran-to, ran-all}
+use Rattle.yard.specs.Running.{buffersOf, buffersBy}
 use Rattle.yard.proofs.rehearse_steps.Statement.{statement}
 use Rattle.yard.proofs.rehearse_steps.Tie as tie
 
@@ -51,7 +53,7 @@ next c =
     let p = rehearsed c in
     let l = at-loop p .loop in
     turned-next (setupOf (start p .args .setup)) (l .group) (p .rehearse-step .result) (l .figures) (c .note-verdicts .result) (l .holdbacks) (l .slots) _ (l .text) _ _ _ (l .inv .came)
-    (l .inv .turned) (l .inv .count) (p .rehearse-step .ensures .0) (c .note-verdicts .ensures)
+    (l .inv .turned) (l .inv .count) (p .rehearse-step .ensures .1 .0) (c .note-verdicts .ensures)
 
 -- and was not refused
 good : (c : tie.After-note-verdicts Inv-loop μ-loop) → rehearsed c .rehearse-step .result .number ≡ 0
@@ -83,7 +85,18 @@ few p = omega (arith, came-long p, less p)
 one-more : (p : tie.After-rehearse-step Inv-loop μ-loop) → p .rehearse-step .result .number ≡ 0 → p .rehearse-step .result .group .steps ≡ suc (at-loop p .loop .group .steps)
 one-more p e =
     let l = at-loop p .loop in
-    steps-next (setupOf (start p .args .setup)) (l .group) (p .rehearse-step .result) (l .holdbacks) (l .slots) _ (l .text) _ _ _ (p .rehearse-step .ensures .0) e
+    steps-next (setupOf (start p .args .setup)) (l .group) (p .rehearse-step .result) (l .holdbacks) (l .slots) _ (l .text) _ _ _ (p .rehearse-step .ensures .1 .0) e
+
+-- every byte, with this step
+buffers-now : (p : tie.After-rehearse-step Inv-loop μ-loop)
+    → buffersOf (p .rehearse-step .result .group) (p .rehearse-step .last .1 .1 .0) (p .rehearse-step .last .1 .1 .1 .0) (p .rehearse-step .last .1 .1 .1 .1 .1 .0)
+    ≡ buffersBy (setupOf (start p .args .setup)) (buffersOf newRehearsal (start p .args .holdbacks .now) (start p .args .slots .now) (start p .args .text .now)) (came-now p)
+buffers-now p =
+    let l = at-loop p .loop in
+    buffers-next (setupOf (start p .args .setup)) (l .group) (p .rehearse-step .result) (l .holdbacks) (l .slots) _ (l .text) _ _ _ _ (l .inv .came) (l .inv .buffers) (p .rehearse-step .ensures .0)
+
+past-now : (p : tie.After-rehearse-step Inv-loop μ-loop) → drop longestStep (read p .read-step .last .0) ≡ drop longestStep (start p .args .bytes .now)
+past-now p = read p .read-step .ensures .1 ∙ at-loop p .loop .inv .past
 
 -- the buffers are as long as they were
 queues-long : (p : tie.After-rehearse-step Inv-loop μ-loop) → length (p .rehearse-step .last .1 .1 .0) ≡ length (start p .args .holdbacks .now)
@@ -100,13 +113,13 @@ text-long p = p .rehearse-step .kept .1 .1 .1 .1 .1 .0 ∙ at-loop p .loop .inv 
 
 -- its lines stand in the text
 within : (p : tie.After-rehearse-step Inv-loop μ-loop) → p .rehearse-step .result .size ≤ length (p .rehearse-step .last .1 .1 .1 .1 .1 .0)
-within p = outcome-within _ _ _ (p .rehearse-step .ensures .0)
+within p = outcome-within _ _ _ (p .rehearse-step .ensures .1 .0)
 
 -- and its verdicts in their buffer
 heard-within : (p : tie.After-rehearse-step Inv-loop μ-loop) → p .rehearse-step .result .heard ≤ length (p .rehearse-step .result .verdicts)
 heard-within p =
     let long : length (p .rehearse-step .result .verdicts) ≡ 255 = search (needs, p .rehearse-step .ok) in
-    omega (arith, p .rehearse-step .ensures .1 .1 .0)
+    omega (arith, p .rehearse-step .ensures .1 .1 .1 .0)
 
 new-group-requires : tie.Need-new-group-requires Inv-loop μ-loop
 new-group-requires c κs = search needs
@@ -123,6 +136,8 @@ loop-holds c =
           turned-none s _ _ _ _
           (ap (λ (y : Rehearsal). groupOf s y (a .holdbacks .now) (a .slots .now)) (c .new-group .ensures) ∙ group-new s (a .holdbacks .now) (a .slots .now) (begun .usable .limits) (begun .empty))
           (sym figures-start);
+      buffers = buffers-none s (c .new-group .result) newRehearsal (a .holdbacks .now) (a .slots .now) (a .text .now) (c .new-group .ensures);
+      past = refl;
       standing = rw (c .new-group .ensures) (stands-new s (a .holdbacks .now) (a .slots .now) (begun .usable .limits) (begun .usable .small) (begun .queues) (begun .size));
       count = ap (λ (y : Rehearsal). y .steps) (sym (c .new-group .ensures));
       most = omega (arith, ap (λ (y : Rehearsal). y .steps) (c .new-group .ensures));
@@ -136,10 +151,10 @@ read-step-requires : tie.Need-read-step-requires Inv-loop μ-loop
 read-step-requires c κs = omega (arith, c .before .before .before .before .before .before .before .before .before .pre .space, c .before .before .before .loop .inv .same-bytes)
 
 slice-reshare-prefix-rehearse-step : tie.Need-slice-reshare-prefix-rehearse-step Inv-loop μ-loop
-slice-reshare-prefix-rehearse-step c = c .before .before .before .before .read-step .ensures .within
+slice-reshare-prefix-rehearse-step c = c .before .before .before .before .read-step .ensures .0 .within
 
 slice-aggregate-rehearse-step : tie.Need-slice-aggregate-rehearse-step Inv-loop μ-loop
-slice-aggregate-rehearse-step c = sym (length-take-le _ _ (c .before .before .before .before .before .read-step .ensures .within))
+slice-aggregate-rehearse-step c = sym (length-take-le _ _ (c .before .before .before .before .before .read-step .ensures .0 .within))
 
 rehearse-step-requires : tie.Need-rehearse-step-requires Inv-loop μ-loop
 rehearse-step-requires c κs =
@@ -172,7 +187,9 @@ same-length-4 : tie.Need-same-length-4 Inv-loop μ-loop
 same-length-4 c = text-long (c .before .before .before .before .before .before .before .before .before .before .before .before .before)
 
 returns : tie.Need-returns Inv-loop μ-loop
-returns c = (ran-to _ _ _ _ _ _ (next (c .before .before .before)) (few (c .before .before .before .before .before .before .before .before .before .before .before .before .before)), c .before .before .before .before .before .before .before .before .before .before .before .before .before .rehearse-step .ensures .1 .1 .1)
+returns c =
+    let p = c .before .before .before .before .before .before .before .before .before .before .before .before .before in
+    (ran-to _ _ _ _ _ _ _ _ _ _ (next (c .before .before .before)) (few p) (buffers-now p), (past-now p, p .rehearse-step .ensures .1 .1 .1 .1))
 
 slice-reshare-prefix-write-all : tie.Need-slice-reshare-prefix-write-all Inv-loop μ-loop
 slice-reshare-prefix-write-all c = within (c .before .before .before .before .before .before .before .before .before .before .before .before .before)
@@ -198,7 +215,8 @@ same-length-8 c = text-long (c .before .before .before .before .before .before .
 returns-2 : tie.Need-returns-2 Inv-loop μ-loop
 returns-2 c =
     let e = c .before .before .before .if2 .left in
-    (ran-to _ _ _ _ _ _ (good (c .before .before .before .before .before .before) e) (few (c .before .before .before .before .before .before .before .before .before .before .before .before .before .before .before .before)), ap (among runNumbers) (sym e) ∙ c .before .before .before .before .before .before .before .before .before .before .before .before .before .before .before .before .rehearse-step .ensures .1 .1 .1)
+    let p = c .before .before .before .before .before .before .before .before .before .before .before .before .before .before .before .before in
+    (ran-to _ _ _ _ _ _ _ _ _ _ (good (c .before .before .before .before .before .before) e) (few p) (buffers-now p), (past-now p, ap (among runNumbers) (sym e) ∙ p .rehearse-step .ensures .1 .1 .1 .1))
 
 loop-less : tie.Need-loop-less Inv-loop μ-loop
 loop-less c = omega (arith, one-more (c .before .before .before .before .before .before .before .before .before .before .before .before .before .before .before .before) (c .before .before .before .if2 .left), less (c .before .before .before .before .before .before .before .before .before .before .before .before .before .before .before .before))
@@ -210,7 +228,9 @@ loop-again c =
     record {
       came = came-now p;
       turned = good (c .before .before .before .before .before .before) e;
-      standing = p .rehearse-step .ensures .1 .0;
+      buffers = buffers-now p;
+      past = past-now p;
+      standing = p .rehearse-step .ensures .1 .1 .0;
       count = came-long p ∙ sym (one-more p e);
       most = omega (arith, one-more p e, less p);
       same-queues = queues-long p;
@@ -238,8 +258,8 @@ returns-3 : tie.Need-returns-3 Inv-loop μ-loop
 returns-3 c =
     let inv = c .before .before .before .before .before .before .loop .inv in
     let ended = c .before .before .finish .ensures in (
-      ran-all _ _ _ _ _ _ (ended .more) (inv .turned) (omega (arith, inv .count, inv .most, c .before .before .before .before .if1 .left)) (ended .number-is),
-      ap (among runNumbers) (ended .number-is) ∙ end-among (ended .more),
+      ran-all _ _ _ _ _ _ _ _ _ _ _ (inv .turned) (omega (arith, inv .count, inv .most, c .before .before .before .before .if1 .left)) (inv .buffers) ended,
+      (inv .past, ap (among runNumbers) (ended .number-is) ∙ end-among (ended .more)),
     )
 
 pub rehearse-steps-spec : {M : Type 1} → statement M

@@ -11,13 +11,14 @@ type Row = (&'static str, &'static [(u8, u64)]);
 /// differ much, or a kind is rare, half of that or less, so that any seed will do.
 const CALLS: u64 = 200_000;
 const ENGINES: u64 = 200_000;
+const WIDER: u64 = 100_000;
 const TRACES: u64 = 4_000;
 
 /// Of calls. The numbers of `no line` are verdicts for which the words answered 6. For `sent` and
 /// `gave` (was a frame sent, was one handed out) 1 is yes. The numbers of `early`, `overdue` and
 /// `step` are kinds: see `nudges`; so are those of `count`: see `reasons`; those of the rows of polls
 /// but the first: see `polls`; and those of the rows of observers: see `observers`.
-const OF_CALLS: [Row; 33] = [
+const OF_CALLS: [Row; 34] = [
     ("call", &[(0, 37_000), (1, 910), (2, 800), (3, 790), (4, 720), (5, 1_300), (6, 1_700)]),
     ("compare", &[(0, 18_000), (1, 2_100), (2, 2_100), (10, 2_200), (11, 710), (12, 660)]),
     ("count", &[(0, 1_000), (1, 3_300), (2, 260)]),
@@ -37,6 +38,7 @@ const OF_CALLS: [Row; 33] = [
         ],
     ),
     ("fresh", &[(0, 860), (1, 320), (2, 230)]),
+    ("fresh last", &[(0, 1_000), (1, 300), (2, 300)]),
     ("gave", &[(0, 25_000), (1, 10_000)]),
     (
         "line",
@@ -90,10 +92,10 @@ const OF_CALLS: [Row; 33] = [
     ("words", &[(0, 18_000), (1, 1_500), (5, 1_500), (6, 4_300)]),
     ("writer", &[(0, 3_300), (1, 500), (4, 970), (6, 810), (11, 1_700), (12, 1_100)]),
 ];
-/// Of calls of engines. The numbers of `long`, `long frame`, `long mend`, `long reader` and `long writer` are
+/// Of calls of engines. The numbers of `long`, `long frame`, `long fresh`, `long mend`, `long reader` and `long writer` are
 /// what they are for other calls; those of `beside` are what ended a run (0: its length); all others are
 /// kinds: see `engines`.
-const OF_ENGINES: [Row; 20] = [
+const OF_ENGINES: [Row; 21] = [
     ("beside", &[(0, 290), (2, 13), (18, 16)]),
     ("beside early", &[(0, 15_000), (1, 660), (2, 1_000), (3, 20_000)]),
     ("beside frame", &[(0, 90_000), (16, 220_000)]),
@@ -118,6 +120,7 @@ const OF_ENGINES: [Row; 20] = [
             (18, 17_000),
         ],
     ),
+    ("long fresh", &[(0, 1_200), (1, 440), (2, 750)]),
     ("long gave", &[(0, 50_000), (1, 49_000)]),
     ("long held", &[(0, 7_400), (1, 70_000), (2, 420), (3, 1_100), (4, 1_700)]),
     ("long mend", &[(0, 81_000), (1, 3_200), (2, 11_000), (3, 8_700)]),
@@ -127,6 +130,47 @@ const OF_ENGINES: [Row; 20] = [
     ("long sent", &[(0, 34_000), (1, 69_000)]),
     ("long step", &[(0, 2_400), (1, 73_000), (2, 5_900), (3, 8_500), (4, 2_300), (5, 950)]),
     ("long writer", &[(0, 4_200), (1, 520), (4, 1_500), (6, 2_000), (11, 2_200), (12, 2_700)]),
+];
+
+/// Of calls with both pairs; what is no number of an answer is a kind: see `wider`.
+const OF_WIDER: [Row; 22] = [
+    ("in 13", &[(0, 17_000), (1, 1_300)]),
+    (
+        "in call",
+        &[(0, 26_000), (1, 350), (2, 400), (3, 370), (4, 360), (5, 640), (6, 820), (19, 33)],
+    ),
+    ("in compare", &[(0, 6_400), (1, 620), (2, 770), (10, 780), (11, 250), (12, 490), (19, 66)]),
+    ("in count", &[(0, 950), (1, 320)]),
+    ("in due", &[(0, 23_000), (1, 16_000)]),
+    (
+        "in frame",
+        &[
+            (0, 35_000),
+            (10, 23_000),
+            (11, 4_900),
+            (12, 7_900),
+            (13, 19_000),
+            (14, 1_900),
+            (15, 5_400),
+            (16, 20_000),
+        ],
+    ),
+    ("in fresh", &[(0, 650), (1, 220), (2, 200), (19, 21)]),
+    ("in listen", &[(0, 9_100), (1, 330), (2, 400), (3, 370), (5, 680), (6, 580), (19, 33)]),
+    ("in listen mend", &[(0, 4_900), (1, 900), (2, 1_600), (3, 1_400)]),
+    ("in mend", &[(0, 20_000), (1, 1_200), (2, 2_900), (3, 1_800)]),
+    ("in poll", &[(0, 8_500), (1, 370), (2, 360), (3, 300), (19, 34)]),
+    ("in poll next", &[(0, 3_200), (1, 5_000)]),
+    ("in reader", &[(0, 2_700), (1, 230), (10, 1_200), (11, 200), (12, 190), (19, 22)]),
+    ("in reader wide", &[(0, 1_700), (1, 930)]),
+    ("in reason", &[(0, 2_200), (1, 2_200), (2, 1_300), (3, 240), (4, 190)]),
+    ("in side", &[(0, 11_000), (1, 14_000)]),
+    ("in tables", &[(0, 7_500), (1, 1_600), (2, 7_300), (3, 5_000)]),
+    ("in width", &[(0, 11_000), (1, 2_700), (2, 11_000), (3, 8_900)]),
+    ("in widths", &[(0, 4_200), (1, 2_000)]),
+    ("in words", &[(0, 4_500), (1, 290), (5, 350), (6, 1_000), (19, 32)]),
+    ("in writer", &[(0, 1_500), (1, 220), (4, 530), (6, 350), (11, 950), (12, 960), (19, 21)]),
+    ("in writer wide", &[(0, 800), (1, 730)]),
 ];
 
 /// Of traces. 3 and 6 are not among them: the program's own buffers are right.
@@ -203,14 +247,15 @@ impl Coverage {
         self.0.get(&(what, number)).copied().unwrap_or(0)
     }
 
-    /// The numbers that were met too rarely in a run of this many calls, calls of engines, traces and
-    /// rehearsals.
-    pub fn gaps(&self, calls: u64, engines: u64, traces: u64, rehearsals: u64) -> Vec<String> {
+    /// The numbers that were met too rarely in a run of this many calls, calls of engines, calls with
+    /// both pairs, traces and rehearsals.
+    pub fn gaps(&self, [calls, engines, wider, traces, rehearsals]: [u64; 5]) -> Vec<String> {
         let of_calls = self.below(&OF_CALLS, calls, CALLS);
         let of_engines = self.below(&OF_ENGINES, engines, ENGINES);
+        let of_wider = self.below(&OF_WIDER, wider, WIDER);
         let of_traces = self.below(&OF_TRACES, traces, TRACES);
         let of_yards = self.below(&OF_YARDS, rehearsals, TRACES);
-        [of_calls, of_engines, of_traces, of_yards].concat()
+        [of_calls, of_engines, of_wider, of_traces, of_yards].concat()
     }
 
     /// The numbers of some rows that a run of this length met less often than it should.

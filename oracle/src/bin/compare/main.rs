@@ -1,14 +1,16 @@
 //! Compares the oracle with the proved library and the proved programs, call by call.
 //!
 //! ```text
-//! compare --replay PATH --yard PATH [--seed S] [--calls N] [--engines N] [--traces N] [--plant K]
-//! compare selfcheck [--seed S] [--calls N] [--engines N] [--traces N]
+//! compare --replay PATH --yard PATH [--seed S] [--calls N] [--engines N] [--wider N] [--traces N] [--plant K]
+//! compare selfcheck [--seed S] [--calls N] [--engines N] [--wider N] [--traces N]
 //! ```
 //!
 //! The first form needs the feature `abi`; `--plant K` (feature `plant`) puts fault K into the
 //! oracle, and the comparison should then fail. The second form (feature `plant`) needs no
 //! library: it compares the oracle with itself, and then with itself and each fault in turn; for
-//! those of `yard` it makes no calls, and for those of engines only calls of engines.
+//! those of `yard` it makes no calls, for those of engines only calls of engines, and for those of
+//! calls with both pairs only such. The library has none of the latter yet: once it has, the feature
+//! `wider` lets the first form make them.
 
 mod coverage;
 mod engines;
@@ -18,6 +20,7 @@ mod polls;
 mod reasons;
 mod run;
 mod subject;
+mod wider;
 mod yards;
 
 use oracle::fault;
@@ -36,6 +39,7 @@ struct Options {
     seed: u64,
     calls: u64,
     engines: u64,
+    wider: u64,
     traces: u64,
     fault: u8,
     replay: Option<String>,
@@ -49,6 +53,7 @@ impl Options {
             seed: 1,
             calls: 200_000,
             engines: 200_000,
+            wider: 100_000,
             traces: 2_000,
             fault: 0,
             replay: None,
@@ -65,6 +70,7 @@ impl Options {
                 "--seed" => options.seed = number()?,
                 "--calls" => options.calls = number()?,
                 "--engines" => options.engines = number()?,
+                "--wider" => options.wider = number()?,
                 "--traces" => options.traces = number()?,
                 "--plant" => options.fault = number()?.min(255) as u8,
                 "--replay" => options.replay = Some(value),
@@ -108,10 +114,12 @@ fn compare<'s>(
     right: &'s mut dyn Subject,
 ) -> (Comparison<'s>, Result<(), String>) {
     let (mut rng, mut other) = (Prng::new(options.seed), Prng::new(!options.seed));
+    let mut third = Prng::new(options.seed ^ 0x5555);
     let mut comparison = Comparison::new(left, right);
     let result = comparison
         .run_calls(&mut rng, options.calls)
         .and_then(|()| comparison.run_engines(&mut other, options.engines))
+        .and_then(|()| comparison.run_wider(&mut third, options.wider))
         .and_then(|()| comparison.run_traces(&mut rng, options.traces))
         .and_then(|()| comparison.run_yards(&mut rng, options.traces));
     (comparison, result.map_err(|difference| format!("seed {}, {difference}", options.seed)))
@@ -128,13 +136,15 @@ fn compare_alike(
     result?;
     println!("{}", done.coverage);
     let (seconds, seed) = (start.elapsed().as_secs_f64(), options.seed);
-    let Comparison { calls, engine_calls, pairs, traces, rehearsals, .. } = done;
+    let Comparison { calls, engine_calls, wider_calls, pairs, traces, rehearsals, .. } = done;
     println!(
         "{calls} calls, {traces} traces and {rehearsals} rehearsals alike, seed {seed}, {seconds:.1} s"
     );
     let engines = engine_calls - pairs;
     println!("{engines} of the calls are of engines, {pairs} of a node beside one");
-    match done.coverage.gaps(calls - engine_calls, engine_calls, traces, rehearsals) {
+    println!("{wider_calls} of the calls have both pairs");
+    let plain = calls - engine_calls - wider_calls;
+    match done.coverage.gaps([plain, engine_calls, wider_calls, traces, rehearsals]) {
         gaps if gaps.is_empty() => Ok(()),
         gaps => Err(format!("met too rarely: {}", gaps.join(", "))),
     }
@@ -159,6 +169,9 @@ fn compare_with_library(options: &Options) -> Result<(), String> {
         }
     }
     let mut oracle = Oracle { fault: options.fault };
+    // The library has no calls with both pairs without the feature.
+    let wider = if cfg!(feature = "wider") { options.wider } else { 0 };
+    let options = &Options { wider, ..options.clone() };
     compare_alike(options, &mut oracle, &mut subject::Proved { replay, yard })
 }
 
@@ -173,10 +186,13 @@ fn compare_with_library(options: &Options) -> Result<(), String> {
 fn for_fault(options: &Options, fault: u8) -> Options {
     let mut options = options.clone();
     if fault::OF_YARD.contains(&fault) {
-        (options.calls, options.engines) = (0, 0);
+        (options.calls, options.engines, options.wider) = (0, 0, 0);
     }
     if fault::OF_ENGINES.contains(&fault) {
-        (options.calls, options.traces) = (0, 0);
+        (options.calls, options.wider, options.traces) = (0, 0, 0);
+    }
+    if fault::OF_WIDER.contains(&fault) {
+        (options.calls, options.engines, options.traces) = (0, 0, 0);
     }
     options
 }

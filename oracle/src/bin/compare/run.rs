@@ -5,8 +5,8 @@ use crate::subject::Subject;
 use crate::{engines, nudges, observers, polls, reasons, yards};
 use oracle::abi;
 use oracle::generate::{self, spoil, Beside, Group, Habits, Pair, Prng, Turn};
-use oracle::generate::{CompareCase, FreshCase, ListenCase, PollCase, ReadCase};
-use oracle::generate::{LongCase, LongReadCase, LongWriteCase};
+use oracle::generate::{CompareCase, FreshCase, FreshLastCase, ListenCase, PollCase, ReadCase};
+use oracle::generate::{LongCase, LongFreshCase, LongReadCase, LongWriteCase};
 use oracle::generate::{TickCase, WordsCase, WriteCase};
 use oracle::playing::hex;
 use oracle::{Answer, Timestamp};
@@ -15,7 +15,7 @@ use oracle::{Answer, Timestamp};
 const SHOWN: usize = 1_000;
 
 /// A call that any subject can make.
-trait Case: Clone {
+pub trait Case: Clone {
     fn call(&mut self, subject: &mut dyn Subject) -> u64;
     /// The arguments that are not buffers.
     fn numbers(&self) -> String;
@@ -56,6 +56,20 @@ impl Case for FreshCase {
 
     fn buffers(&self) -> Vec<(&'static str, &[u8])> {
         vec![("tables", &self.state)]
+    }
+}
+
+impl Case for FreshLastCase {
+    fn call(&mut self, subject: &mut dyn Subject) -> u64 {
+        subject.fresh_last(self)
+    }
+
+    fn numbers(&self) -> String {
+        format!("observer's start: {:?} clock {}", self.setup, self.clock)
+    }
+
+    fn buffers(&self) -> Vec<(&'static str, &[u8])> {
+        vec![("last", &self.last)]
     }
 }
 
@@ -149,6 +163,20 @@ impl Case for ListenCase {
     }
 }
 
+impl Case for LongFreshCase {
+    fn call(&mut self, subject: &mut dyn Subject) -> u64 {
+        subject.long_fresh(self)
+    }
+
+    fn numbers(&self) -> String {
+        format!("engine's start: {:?} clock {}", self.setup, self.clock)
+    }
+
+    fn buffers(&self) -> Vec<(&'static str, &[u8])> {
+        vec![("tables", &self.state)]
+    }
+}
+
 impl Case for LongCase {
     fn call(&mut self, subject: &mut dyn Subject) -> u64 {
         subject.long_tick(self)
@@ -208,6 +236,8 @@ pub struct Comparison<'s> {
     pub calls: u64,
     /// Those that were made for engines, the nodes beside them included.
     pub engine_calls: u64,
+    /// Those with both pairs (02, 2.10).
+    pub wider_calls: u64,
     /// Calls that a node and its engine made side by side.
     pub pairs: u64,
     pub traces: u64,
@@ -217,8 +247,18 @@ pub struct Comparison<'s> {
 impl<'s> Comparison<'s> {
     pub fn new(left: &'s mut dyn Subject, right: &'s mut dyn Subject) -> Self {
         let coverage = Coverage::default();
-        let [calls, engine_calls, pairs, traces, rehearsals] = [0; 5];
-        Comparison { left, right, coverage, calls, engine_calls, pairs, traces, rehearsals }
+        let [calls, engine_calls, wider_calls, pairs, traces, rehearsals] = [0; 6];
+        Comparison {
+            left,
+            right,
+            coverage,
+            calls,
+            engine_calls,
+            wider_calls,
+            pairs,
+            traces,
+            rehearsals,
+        }
     }
 
     /// Plays groups until at least this many calls are made.
@@ -279,7 +319,10 @@ impl<'s> Comparison<'s> {
             self.tick(other)?;
         }
         if rng.one_in(16) {
-            let (_, word) = self.case(FreshCase::random(rng, case.setup))?;
+            let case = FreshCase::random(rng, case.setup);
+            let (_, word) = self.case(FreshLastCase::of(case.clone()))?;
+            self.coverage.meet("fresh last", abi::number(word));
+            let (_, word) = self.case(case)?;
             self.coverage.meet("fresh", abi::number(word));
         }
         if rng.one_in(3) {
@@ -376,7 +419,7 @@ impl<'s> Comparison<'s> {
     }
 
     /// Makes one call to both; what it left, and the answer.
-    fn case<C: Case>(&mut self, case: C) -> Result<(C, u64), String> {
+    pub fn case<C: Case>(&mut self, case: C) -> Result<(C, u64), String> {
         let (mut left, mut right) = (case.clone(), case.clone());
         let answers = [left.call(self.left), right.call(self.right)];
         self.calls += 1;
@@ -455,6 +498,10 @@ impl<'s> Comparison<'s> {
         if rng.one_in(2) {
             let other = case.stepped(rng).noisy(rng);
             self.long(other)?;
+        }
+        if rng.one_in(16) {
+            let (_, word) = self.case(LongFreshCase::random(rng, case.setup, case.clock))?;
+            self.coverage.meet("long fresh", abi::number(word));
         }
         if rng.one_in(3) {
             let (_, word) = self.case(LongReadCase::random(rng, case.setup, case.clock))?;

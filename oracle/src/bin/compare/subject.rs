@@ -1,14 +1,15 @@
 //! The programs that are compared.
 
 use oracle::abi;
-use oracle::generate::{CompareCase, FreshCase, ListenCase, PollCase, ReadCase};
-use oracle::generate::{LongCase, LongReadCase, LongWriteCase};
-use oracle::generate::{TickCase, WordsCase, WriteCase};
-use oracle::{fault, long, replay, yard, Frame};
+use oracle::generate::{CompareCase, FreshCase, FreshLastCase, ListenCase, PollCase, ReadCase};
+use oracle::generate::{LongCase, LongFreshCase, LongReadCase, LongWriteCase};
+use oracle::generate::{TickCase, WordsCase, WriteCase, WriteInCase};
+use oracle::{fault, long, replay, yard, Both, Frame, Settings};
 
 /// Something that makes the calls and plays traces. Answers are packed as the library's.
 pub trait Subject {
     fn fresh(&mut self, case: &mut FreshCase) -> u64;
+    fn fresh_last(&mut self, case: &mut FreshLastCase) -> u64;
     fn tick(&mut self, case: &mut TickCase) -> u64;
     fn read(&mut self, case: &mut ReadCase) -> u64;
     fn write(&mut self, case: &mut WriteCase) -> u64;
@@ -16,9 +17,18 @@ pub trait Subject {
     fn compare(&mut self, case: &mut CompareCase) -> u64;
     fn poll(&mut self, case: &mut PollCase) -> u64;
     fn listen(&mut self, case: &mut ListenCase) -> u64;
+    fn long_fresh(&mut self, case: &mut LongFreshCase) -> u64;
     fn long_tick(&mut self, case: &mut LongCase) -> u64;
     fn long_read(&mut self, case: &mut LongReadCase) -> u64;
     fn long_write(&mut self, case: &mut LongWriteCase) -> u64;
+    fn fresh_in(&mut self, case: &mut FreshCase<Both>) -> u64;
+    fn tick_in(&mut self, case: &mut TickCase<Both>) -> u64;
+    fn read_in(&mut self, case: &mut ReadCase<Both>) -> u64;
+    fn write_in(&mut self, case: &mut WriteInCase) -> u64;
+    fn words_in(&mut self, case: &mut WordsCase<Both>) -> u64;
+    fn compare_in(&mut self, case: &mut CompareCase<Both>) -> u64;
+    fn poll_in(&mut self, case: &mut PollCase<Both>) -> u64;
+    fn listen_in(&mut self, case: &mut ListenCase<Both>) -> u64;
     fn replay(&mut self, trace: &[u8]) -> Result<String, String>;
     fn yard(&mut self, trace: &[u8]) -> Result<String, String>;
 }
@@ -36,15 +46,38 @@ impl Oracle {
         fault::plant(0);
         result
     }
+
+    /// The start, of any setup.
+    fn fresh_by<S: Settings>(&self, case: &mut FreshCase<S>) -> u64 {
+        started(self.faulty(|| oracle::start(&case.setup, case.clock)), &mut case.state)
+    }
+
+    /// The words, of any setup.
+    fn words_by<S: Settings>(&self, case: &mut WordsCase<S>) -> u64 {
+        let WordsCase { setup, batch, verdicts, text } = case;
+        match self.faulty(|| oracle::words(setup, batch, verdicts, text)) {
+            Ok(length) => abi::pack_words(length as u64),
+            Err(number) => abi::pack_refusal(number),
+        }
+    }
+
+    /// The comparison, of any setup.
+    fn compare_by<S: Settings>(&self, case: &CompareCase<S>) -> u64 {
+        let CompareCase { setup, clock, first, second } = case;
+        match self.faulty(|| oracle::compare(setup, *clock, first, second)) {
+            Ok((order, reason)) => abi::pack_compare(order, reason),
+            Err(number) => abi::pack_refusal(number),
+        }
+    }
 }
 
 impl Subject for Oracle {
     fn fresh(&mut self, case: &mut FreshCase) -> u64 {
-        match self.faulty(|| oracle::start(&case.setup, case.clock)) {
-            Ok(state) => case.state = state,
-            Err(number) => return abi::pack_refusal(number),
-        }
-        0
+        self.fresh_by(case)
+    }
+
+    fn fresh_last(&mut self, case: &mut FreshLastCase) -> u64 {
+        started(self.faulty(|| oracle::start_last(&case.setup, case.clock)), &mut case.last)
     }
 
     fn tick(&mut self, case: &mut TickCase) -> u64 {
@@ -70,19 +103,11 @@ impl Subject for Oracle {
     }
 
     fn words(&mut self, case: &mut WordsCase) -> u64 {
-        let WordsCase { setup, batch, verdicts, text } = case;
-        match self.faulty(|| oracle::words(setup, batch, verdicts, text)) {
-            Ok(length) => abi::pack_words(length as u64),
-            Err(number) => abi::pack_refusal(number),
-        }
+        self.words_by(case)
     }
 
     fn compare(&mut self, case: &mut CompareCase) -> u64 {
-        let CompareCase { setup, clock, first, second } = case;
-        match self.faulty(|| oracle::compare(setup, *clock, first, second)) {
-            Ok((order, reason)) => abi::pack_compare(order, reason),
-            Err(number) => abi::pack_refusal(number),
-        }
+        self.compare_by(case)
     }
 
     fn poll(&mut self, case: &mut PollCase) -> u64 {
@@ -91,6 +116,10 @@ impl Subject for Oracle {
 
     fn listen(&mut self, case: &mut ListenCase) -> u64 {
         abi::pack_tick(&self.faulty(|| case.run()))
+    }
+
+    fn long_fresh(&mut self, case: &mut LongFreshCase) -> u64 {
+        started(self.faulty(|| oracle::long_start(&case.setup, case.clock)), &mut case.state)
     }
 
     fn long_tick(&mut self, case: &mut LongCase) -> u64 {
@@ -115,6 +144,52 @@ impl Subject for Oracle {
         }
     }
 
+    fn fresh_in(&mut self, case: &mut FreshCase<Both>) -> u64 {
+        self.fresh_by(case)
+    }
+
+    fn tick_in(&mut self, case: &mut TickCase<Both>) -> u64 {
+        abi::pack_tick(&self.faulty(|| case.run()))
+    }
+
+    fn read_in(&mut self, case: &mut ReadCase<Both>) -> u64 {
+        let read = self.faulty(|| {
+            let frame = oracle::read(&case.setup, &case.frame)?;
+            Ok((frame, case.setup.is_wide(frame.timestamp.kn.len())))
+        });
+        match read {
+            Ok((frame, is_wide)) => {
+                case.state = frame.timestamp.to_state();
+                pack_frame(&frame) | abi::pack_wide(is_wide)
+            }
+            Err(number) => abi::pack_refusal(number),
+        }
+    }
+
+    fn write_in(&mut self, case: &mut WriteInCase) -> u64 {
+        let WriteInCase { setup, wide, node, state, payload, out } = case;
+        match self.faulty(|| oracle::write_in(setup, *node, *wide, state, payload, out)) {
+            Ok(length) => abi::pack_write(length as u64),
+            Err(number) => abi::pack_refusal(number),
+        }
+    }
+
+    fn words_in(&mut self, case: &mut WordsCase<Both>) -> u64 {
+        self.words_by(case)
+    }
+
+    fn compare_in(&mut self, case: &mut CompareCase<Both>) -> u64 {
+        self.compare_by(case)
+    }
+
+    fn poll_in(&mut self, case: &mut PollCase<Both>) -> u64 {
+        abi::pack_poll(self.faulty(|| case.run()))
+    }
+
+    fn listen_in(&mut self, case: &mut ListenCase<Both>) -> u64 {
+        abi::pack_tick(&self.faulty(|| case.run()))
+    }
+
     fn replay(&mut self, trace: &[u8]) -> Result<String, String> {
         Ok(self.faulty(|| replay::replay_text(trace)))
     }
@@ -122,6 +197,15 @@ impl Subject for Oracle {
     fn yard(&mut self, trace: &[u8]) -> Result<String, String> {
         Ok(self.faulty(|| yard::yard_text(trace)))
     }
+}
+
+/// A start's answer; where it is accepted, what is made of it is kept.
+fn started<T>(made: Result<T, u8>, kept: &mut T) -> u64 {
+    match made {
+        Ok(made) => *kept = made,
+        Err(number) => return abi::pack_refusal(number),
+    }
+    0
 }
 
 /// A reader's answer.
@@ -141,6 +225,10 @@ pub struct Proved {
 impl Subject for Proved {
     fn fresh(&mut self, case: &mut FreshCase) -> u64 {
         abi::library::fresh(case)
+    }
+
+    fn fresh_last(&mut self, case: &mut FreshLastCase) -> u64 {
+        abi::library::fresh_last(case)
     }
 
     fn tick(&mut self, case: &mut TickCase) -> u64 {
@@ -171,6 +259,10 @@ impl Subject for Proved {
         abi::library::listen(case)
     }
 
+    fn long_fresh(&mut self, case: &mut LongFreshCase) -> u64 {
+        abi::library::long_fresh(case)
+    }
+
     fn long_tick(&mut self, case: &mut LongCase) -> u64 {
         abi::library::long_tick(case)
     }
@@ -181,6 +273,38 @@ impl Subject for Proved {
 
     fn long_write(&mut self, case: &mut LongWriteCase) -> u64 {
         abi::library::long_write(case)
+    }
+
+    fn fresh_in(&mut self, case: &mut FreshCase<Both>) -> u64 {
+        abi::library_in::fresh(case)
+    }
+
+    fn tick_in(&mut self, case: &mut TickCase<Both>) -> u64 {
+        abi::library_in::tick(case)
+    }
+
+    fn read_in(&mut self, case: &mut ReadCase<Both>) -> u64 {
+        abi::library_in::read(case)
+    }
+
+    fn write_in(&mut self, case: &mut WriteInCase) -> u64 {
+        abi::library_in::write(case)
+    }
+
+    fn words_in(&mut self, case: &mut WordsCase<Both>) -> u64 {
+        abi::library_in::words(case)
+    }
+
+    fn compare_in(&mut self, case: &mut CompareCase<Both>) -> u64 {
+        abi::library_in::compare(case)
+    }
+
+    fn poll_in(&mut self, case: &mut PollCase<Both>) -> u64 {
+        abi::library_in::poll(case)
+    }
+
+    fn listen_in(&mut self, case: &mut ListenCase<Both>) -> u64 {
+        abi::library_in::listen(case)
     }
 
     fn replay(&mut self, trace: &[u8]) -> Result<String, String> {

@@ -7,7 +7,6 @@ use Rattle.model.specs.Timestamp.{trimmed, widened, absorb}
 use Rattle.model.specs.Frame.{decode}
 use Rattle.model.specs.Long.{longDecode}
 use Rattle.timestamp.specs.Views.{stampOf}
-use Rattle.node.proofs.StampTurns.{narrow-any}
 use Rattle.long.proofs.Judging.{given, askable}
 use Rattle.long.proofs.hearing.absorb_frame.Statement.{statement}
 use Rattle.long.proofs.hearing.absorb_frame.Tie as tie
@@ -25,23 +24,15 @@ module _ (c : tie.After-r-of) where
   clock : c .r-of .result ≡ longDecode (begin .args .setup .epsilon) (begin .args .s .now) .stamp .r
   clock = c .r-of .ensures (begin .args .setup .epsilon)
 
-slice-aggregate-absorb-counts : tie.Need-slice-aggregate-absorb-counts
-slice-aggregate-absorb-counts c = search needs
-
 absorb-counts-requires : tie.Need-absorb-counts-requires
-absorb-counts-requires c κs =
-    let read = c .before .before in
-    let start = begin read in
-    let t = start .args .stamp in
-    (rw (read .before .six-on .ensures) (askable (read .r-of .result) (start .pre .0) (clock read)), narrow-any (start .args .setup .epsilon) (t .r) (t .c) (t .kn) (start .pre .1))
+absorb-counts-requires c κs = (rw (c .before .six-on .ensures) (askable (c .r-of .result) (begin c .pre .0) (clock c)), begin c .pre .1)
 
 returns : tie.Need-returns
 unfolding longDecode absorb
 returns c =
-    let read = c .before .before .before .before in
-    let a = begin read .args in
-    c .before .absorb-counts .ensures (a .stamp .r)
-    ∙ ap₂ (λ (x : ℕ) (l : List ℕ). widened (absorb (a .setup .epsilon) (a .clock) (trimmed (a .setup .epsilon) (stampOf (a .stamp))) x (decode (a .setup .epsilon) l .stamp))) (clock read) (read .before .six-on .ensures)
+    let a = begin (c .before) .args in
+    c .absorb-counts .ensures
+    ∙ ap₂ (λ (x : ℕ) (l : List ℕ). widened (absorb (a .setup .epsilon) (a .clock) (trimmed (a .setup .epsilon) (stampOf (a .stamp))) x (decode (a .setup .epsilon) l .stamp))) (clock (c .before)) (c .before .before .six-on .ensures)
 
 pub absorb-frame-spec : {M : Type 1} → statement M
-absorb-frame-spec = tie.close (tie.spec six-on-requires r-of-requires slice-aggregate-absorb-counts absorb-counts-requires returns)
+absorb-frame-spec = tie.close (tie.spec six-on-requires r-of-requires absorb-counts-requires returns)

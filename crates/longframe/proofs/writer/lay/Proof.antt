@@ -1,58 +1,63 @@
--- `longframe::writer::lay` meets its contract: what is left of the buffer six bytes on is lent on to the writer of the later sections. Assumes nothing.
+-- `longframe::writer::lay` meets its contract: what was built in bytes of its own is laid down whole. Assumes nothing.
 use native.Mathlib.Omega.{arith}
+use mathlib.Core.Path.{_≡_, _∙_}
+use lib.ListN.{length}
 use borrow.Author.Needs.{needs}
-use Rattle.frame.proofs.Laying.{length-later}
-use Rattle.longframe.proofs.Asking.{frame-laid, length-frame}
+use Rattle.frame.proofs.Laying.{Whole, whole}
+use Rattle.longframe.proofs.Asking.{length-frame}
 use Rattle.timestamp.specs.Views.{stampOf}
+use Rattle.model.specs.Frame.{Frame}
+use Rattle.model.specs.Codec.{frameOf}
+use Rattle.model.specs.Long.{longEncode}
 use Rattle.longframe.proofs.writer.lay.Statement.{statement}
 use Rattle.longframe.proofs.writer.lay.Tie as tie
 
-put-node-requires : tie.Need-put-node-requires
-put-node-requires c κs = search needs
+-- the frame of the arguments
+abbrev frame : tie.Start → Frame
+frame c = frameOf (c .args .epsilon) (c .args .station) (stampOf (c .args .stamp)) (c .args .payload .now)
 
-sub-lay-later : tie.Need-sub-lay-later
-sub-lay-later c = search needs
+slice-aggregate-build : tie.Need-slice-aggregate-build
+slice-aggregate-build c = search needs
 
-part-lay-later-start : tie.Need-part-lay-later-start
-part-lay-later-start c = search needs
+build-requires : tie.Need-build-requires
+build-requires c κs = search needs
 
-part-lay-later-end : tie.Need-part-lay-later-end
-part-lay-later-end c = search needs
+-- it is what was built
+built : (c : tie.After-build) → let start = c .before .before .before .before in
+    Whole (start .args .out .now) (longEncode (frame start)) (c .build .last .1 .1 .1 .1 .0) (c .build .result)
+built c =
+    let start = c .before .before .before .before in
+    let a = start .args in
+    let own : length (c .build .last .1 .1 .1 .1 .0) ≡ 77 = search needs in
+    let long = length-frame (a .epsilon) (a .station) (stampOf (a .stamp)) (a .payload .now) in
+    whole (a .out .now) (longEncode (frame start)) _ (c .build .last .1 .1 .1 .1 .0) (c .build .result) (c .build .ensures .long) (c .build .ensures .bytes)
+    (omega (arith, long, own, start .pre .narrow, start .pre .payload-fits)) (omega (arith, long, start .pre .room))
 
-lay-later-requires : tie.Need-lay-later-requires
-lay-later-requires c κs = search needs
+array-share-prefix-built : tie.Need-array-share-prefix-built
+array-share-prefix-built c = built (c .before .before) .there
 
-add-result : tie.Need-add-result
-add-result c =
-    let start = c .before .before .before .before .before .before .before .before .before .before in
-    omega (arith, c .before .before .lay-later .ensures .long, length-later (start .args .epsilon) 0 (stampOf (start .args .stamp)) (start .args .payload .now), start .pre .narrow, start .pre .payload-fits)
+slice-aggregate-copy-into : tie.Need-slice-aggregate-copy-into
+slice-aggregate-copy-into c = built (c .before .before .before) .taken
+
+copy-into-requires : tie.Need-copy-into-requires
+copy-into-requires c κs = built (c .before .before .before) .fits
 
 same-length : tie.Need-same-length
 same-length c = search needs
 
 returns : tie.Need-returns
 returns c =
-    let start = c .before .before .before .before .before .before .before .before .before .before in
-    let a = start .args in
-    let t = stampOf (a .stamp) in
-    let node = c .before .before .before .before .before .before .put-node in
-    let later = c .before .before .lay-later in
-    record {
-      long = omega (arith, later .ensures .long, length-later (a .epsilon) 0 t (a .payload .now), length-frame (a .epsilon) (a .station) t (a .payload .now));
-      bytes =
-          frame-laid (a .out .now) (a .epsilon) (a .station) t (a .payload .now) (node .last .0) (later .last .1 .1 .1 .0)
-          (omega (arith, start .pre .room)) (node .ensures) (node .kept .0) (later .ensures .bytes);
-    }
+    let after = c .before .before .before .before .before .before in
+    record { long = after .build .ensures .long; bytes = c .before .before .copy-into .ensures ∙ built after .laid }
 
 pub lay-spec : {M : Type 1} → statement M
 lay-spec =
     tie.close
     (tie.spec
-    put-node-requires
-    sub-lay-later
-    part-lay-later-start
-    part-lay-later-end
-    lay-later-requires
-    add-result
+    slice-aggregate-build
+    build-requires
+    array-share-prefix-built
+    slice-aggregate-copy-into
+    copy-into-requires
     same-length
     returns)

@@ -9,7 +9,7 @@ use Rattle.model.specs.Holdback.{soundHoldback}
 use Rattle.model.specs.Poll.{pollBy}
 use Rattle.setup.specs.Views.{setupOf}
 use Rattle.holdback.proofs.Judging.{sound-lower}
-use Rattle.polling.proofs.Asking.{size-two, polled-unsound, polled-sound, polled-count, polled-starts}
+use Rattle.polling.proofs.Asking.{size-two, polled-unsound, polled-sound, polled-count}
 use Rattle.lemmas.proofs.Questions.{limits-from}
 use Rattle.polling.proofs.call.ask_queue.Statement.{statement}
 use Rattle.polling.proofs.call.ask_queue.Tie as tie
@@ -46,30 +46,24 @@ returns c =
 sound-walk : (c : tie.Else1) → soundHoldback (setupOf (c .before .before .before .before .before .before .before .before .before .args .setup)) (c .before .before .before .before .before .before .before .before .before .args .clock) (c .before .before .before .before .before .before .before .before .before .args .setup .modulus + 1) (c .before .before .before .before .before .before .before .before .before .args .holdback .now) ≡ true
 sound-walk c = sym (c .before .before .before .before .sound .ensures .sound-is) ∙ not-false (c .before .before .before .before .sound .result .sound) (c .if1 .left)
 
-slice-aggregate-tell : tie.Need-slice-aggregate-tell
-slice-aggregate-tell c = search needs
-
 tell-requires : tie.Need-tell-requires
 tell-requires c κs =
-    let start = c .before .before .before .before .before .before .before .before .before .before in
+    let start = c .before .before .before .before .before .before .before .before .before in
     let s = setupOf (start .args .setup) in
-    let walk = c .before .before .before .before .before .sound .ensures in
-    let sound = sound-walk (c .before) in (
+    let walk = c .before .before .before .before .sound .ensures in
+    let sound = sound-walk c in (
       start .pre .0,
       (
-        (
-          sound-lower s (start .args .clock) (s .modulus + 1) (start .args .holdback .now) sound (s .modulus) (omega arith),
-          (size-two s (start .args .holdback .now) (start .pre .1), polled-count s (start .args .clock) (start .args .holdback .now) sound (walk .count-is)),
-        ),
-        polled-starts s (start .args .clock) (start .args .holdback .now) sound (walk .starts-is),
+        sound-lower s (start .args .clock) (s .modulus + 1) (start .args .holdback .now) sound (s .modulus) (omega arith),
+        (size-two s (start .args .holdback .now) (start .pre .1), polled-count s (start .args .clock) (start .args .holdback .now) sound (walk .count-is)),
       ),
     )
 
 returns-2 : tie.Need-returns-2
 returns-2 c =
-    let start = c .before .before .before .before .before .before .before .before .before .before .before in
+    let start = c .before .before .before .before .before .before .before .before .before .before in
     let s = setupOf (start .args .setup) in
-    c .tell .ensures ∙ ap (pollBy 0 s (start .args .clock) (start .args .d)) (sym (polled-sound s (start .args .clock) (start .args .holdback .now) (sound-walk (c .before .before))))
+    c .tell .ensures ∙ ap (pollBy 0 s (start .args .clock) (start .args .d)) (sym (polled-sound s (start .args .clock) (start .args .holdback .now) (sound-walk (c .before))))
 
 pub ask-queue-spec : {M : Type 1} → statement M
 ask-queue-spec =
@@ -82,6 +76,5 @@ ask-queue-spec =
     sound-requires
     nothing-requires
     returns
-    slice-aggregate-tell
     tell-requires
     returns-2)

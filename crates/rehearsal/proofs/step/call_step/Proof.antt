@@ -10,7 +10,7 @@ use Rattle.setup.specs.Views.{setupOf}
 use Rattle.rehearsal.specs.Step.{stationOf}
 use Rattle.rehearsal.specs.Group.{labelled}
 use Rattle.rehearsal.specs.Standing.{movedBy}
-use Rattle.rehearsal.proofs.OneStep.{place, lines-within, sent-within, number-known, stands, outcome-is}
+use Rattle.rehearsal.proofs.OneStep.{place, lines-within, sent-within, number-known, stands, outcome-is, left-is}
 use Rattle.rehearsal.proofs.step.call_step.Statement.{statement}
 use Rattle.rehearsal.proofs.step.call_step.Tie as tie
 
@@ -107,14 +107,18 @@ returns c =
     = c .before .moved .ensures ∙ ap (λ (j : ℕ). movedBy (a .group) j (p .station)) same in
     let fits : p .sent ≤ 71 = omega (arith, in-buffer played, long played) in
     let labels = subst (λ (j : ℕ). Put (a .text .now) 0 (labelled j (take (p .size) lines)) (put .put-labelled .last .0) (put .put-labelled .result)) same (put .put-labelled .ensures) in (
-      outcome-is s (a .group) (a .holdbacks .now) (a .slots .now) (a .bytes .now) (start played .pre .0) p holdbacks _ lines (ensures .1 .0)
+      left-is s (a .group) (a .holdbacks .now) (a .slots .now) (a .bytes .now) (start played .pre .0) p holdbacks _ lines (ensures .1 .0)
           (ensures .0) (ensures .1 .1) (played .play-step .kept .1 .1 .0) fits (kept .keep-frame .ensures) moves (c .heard-count .ensures .0) labels,
       (
-        stands s (a .group) (a .holdbacks .now) (a .slots .now) (a .bytes .now) (start played .pre .0) p holdbacks _ lines (ensures .1 .0)
-            (ensures .0) (ensures .1 .1) (played .play-step .kept .1 .1 .0) fits (kept .keep-frame .ensures) moves,
+        outcome-is s (a .group) (a .holdbacks .now) (a .slots .now) (a .bytes .now) (start played .pre .0) p holdbacks _ lines (ensures .1 .0)
+            (ensures .0) (ensures .1 .1) (played .play-step .kept .1 .1 .0) fits (kept .keep-frame .ensures) moves (c .heard-count .ensures .0) labels,
         (
-          c .heard-count .ensures .1,
-          number-known s (a .group) (a .holdbacks .now) (a .slots .now) (a .bytes .now) (start played .pre .0) p holdbacks _ lines (ensures .1 .0),
+          stands s (a .group) (a .holdbacks .now) (a .slots .now) (a .bytes .now) (start played .pre .0) p holdbacks _ lines (ensures .1 .0)
+              (ensures .0) (ensures .1 .1) (played .play-step .kept .1 .1 .0) fits (kept .keep-frame .ensures) moves,
+          (
+            c .heard-count .ensures .1,
+            number-known s (a .group) (a .holdbacks .now) (a .slots .now) (a .bytes .now) (start played .pre .0) p holdbacks _ lines (ensures .1 .0),
+          ),
         ),
       ),
     )

@@ -1,5 +1,5 @@
 -- `rehearsal::step::play_at` meets its contract. Assumes nothing.
-use mathlib.Core.Path.{ap, _∙_}
+use mathlib.Core.Path.{_≡_, ap, _∙_}
 use mathlib.Core.List.{List}
 use Prim.Native.Nat.{ℕ}
 use native.Mathlib.Omega.{arith}
@@ -7,8 +7,9 @@ use borrow.Author.Needs.{needs}
 use Rattle.lemmas.proofs.Questions.{limits-from}
 use Rattle.setup.specs.Views.{setupOf}
 use Rattle.timestamp.specs.Views.{stampOf}
-use Rattle.trace.specs.Replay.{turnAt}
+use Rattle.trace.specs.Replay.{Turn, turnAt}
 use Rattle.playing.specs.Playing.{resultOf, resultBy}
+use Rattle.rehearsal.specs.Standing.{queueOf}
 use Rattle.rehearsal.proofs.Lending.{lent-within, lent-small, lent-is, lent-ready, back-here, back-pasted}
 use Rattle.rehearsal.proofs.step.play_at.Statement.{statement}
 use Rattle.rehearsal.proofs.step.play_at.Tie as tie
@@ -76,14 +77,17 @@ returns c =
     let s = setupOf (a .setup) in
     let size = sized .holdback-length .result in
     let q = played .play-next .last .1 .1 .0 in
-    let here = back-here s (a .at) size (a .holdbacks .now) (a .lines .now) (start sized .pre .0) (sized .holdback-length .ensures) q (played .play-next .kept .1 .1 .0) in (
+    let here = back-here s (a .at) size (a .holdbacks .now) (a .lines .now) (start sized .pre .0) (sized .holdback-length .ensures) q (played .play-next .kept .1 .1 .0) in
+    let turn : List ℕ → Turn = λ l. turnAt (a .station .ticks) (record { setup = s; own = a .at }) (stampOf (a .station .tables)) l (a .tick .now) in
+    let lines = played .play-next .last .1 .1 .1 .1 .0 in
+    let turned : resultOf (played .play-next .result) q lines ≡ resultBy (turn (queueOf s (a .holdbacks .now) (a .at))) (a .lines .now)
+    = played .play-next .ensures .1
+    ∙ ap (λ (l : List ℕ). resultBy (turn l) (a .lines .now)) (lent-is s (a .at) size (a .holdbacks .now) (a .lines .now) (start sized .pre .0) (sized .holdback-length .ensures)) in (
       played .play-next .ensures .0,
       (
-        ap (λ (l : List ℕ). resultOf (played .play-next .result) l (played .play-next .last .1 .1 .1 .1 .0)) here
-            ∙ played .play-next .ensures .1
-            ∙ ap (λ (l : List ℕ). resultBy (turnAt (a .station .ticks) (record { setup = s; own = a .at }) (stampOf (a .station .tables)) l (a .tick .now)) (a .lines .now))
-            (lent-is s (a .at) size (a .holdbacks .now) (a .lines .now) (start sized .pre .0) (sized .holdback-length .ensures)),
-        back-pasted s (a .at) size (a .holdbacks .now) (a .lines .now) (start sized .pre .0) (sized .holdback-length .ensures) q (played .play-next .kept .1 .1 .0),
+        ap (λ (l : List ℕ). resultOf (played .play-next .result) l lines) here ∙ turned,
+        back-pasted s (a .at) size (a .holdbacks .now) (a .lines .now) (start sized .pre .0) (sized .holdback-length .ensures) q (played .play-next .kept .1 .1 .0)
+            (played .play-next .result) (turn (queueOf s (a .holdbacks .now) (a .at))) lines turned,
       ),
     )
 

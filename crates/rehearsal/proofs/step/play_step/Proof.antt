@@ -1,6 +1,6 @@
 -- `rehearsal::step::play_step` meets its contract. Assumes nothing.
 use Prim.Native.Nat.{ℕ, suc, _*_}
-use mathlib.Core.Path.{sym, ap, _∙_}
+use mathlib.Core.Path.{sym, ap, ap₂, _∙_}
 use native.Mathlib.Omega.{arith}
 use lib.Seq.{length-take-le}
 use borrow.Author.Needs.{needs}
@@ -68,13 +68,14 @@ returns c =
     let at = read .station-of .result in
     let same = read .station-of .ensures .0 in
     let holdbacks = called .play-at .last .1 .1 .1 .0 in
-    let lines = called .play-at .last .1 .1 .1 .1 .1 .0 in (
+    let lines = called .play-at .last .1 .1 .1 .1 .1 .0 in
+    let turn-same = turn-is s (a .group) (a .holdbacks .now) (a .slots .now) (a .bytes .now) (start read .pre .0) at _ same (put-front (put .ensures .0)) in (
       called .play-at .ensures .0 ∙ ap (λ (j : ℕ). suc (stationAt (a .group) j .ticks)) same,
       (
         ap (λ (j : ℕ). resultOf (called .play-at .result) (queueOf s holdbacks j) lines) (sym same)
             ∙ called .play-at .ensures .1 .0
-            ∙ ap (λ (t : Turn). resultBy t (a .lines .now)) (turn-is s (a .group) (a .holdbacks .now) (a .slots .now) (a .bytes .now) (start read .pre .0) at _ same (put-front (put .ensures .0))),
-        called .play-at .ensures .1 .1 ∙ ap (λ (j : ℕ). pasted (a .holdbacks .now) (j * holdbackSize s) (queueOf s holdbacks j)) same,
+            ∙ ap (λ (t : Turn). resultBy t (a .lines .now)) turn-same,
+        called .play-at .ensures .1 .1 ∙ ap₂ (λ (j : ℕ) (t : Turn). pasted (a .holdbacks .now) (j * holdbackSize s) (t .holdback)) same turn-same,
       ),
     )
 

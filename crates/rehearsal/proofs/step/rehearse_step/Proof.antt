@@ -5,9 +5,9 @@ use borrow.Author.Needs.{needs}
 use Rattle.setup.specs.Views.{setupOf}
 use Rattle.playing.specs.Playing.{among, runNumbers}
 use Rattle.rehearsal.specs.Group.{Stepped}
-use Rattle.rehearsal.specs.Standing.{outcomeOf, outcomeBy}
+use Rattle.rehearsal.specs.Standing.{outcomeOf, outcomeBy, leftOf}
 use Rattle.rehearsal.specs.declared.step.Rehearsed.{Rehearsed}
-use Rattle.rehearsal.proofs.OneStep.{called-is, not-called-is, step-among}
+use Rattle.rehearsal.proofs.OneStep.{called-is, not-called-is, left-called, left-not-called, step-among}
 use Rattle.rehearsal.proofs.step.rehearse_step.Statement.{statement}
 use Rattle.rehearsal.proofs.step.rehearse_step.Tie as tie
 
@@ -30,11 +30,15 @@ returns c =
     let a = start .args in
     let s = setupOf (a .setup) in
     let e = judged .step-number .ensures in (
-      ap (λ (r : Rehearsed). outcomeOf s r (a .holdbacks .now) (a .slots .now) (a .text .now)) (c .not-called .ensures)
-          ∙ not-called-is s (a .group) (a .holdbacks .now) (a .slots .now) (a .bytes .now) (judged .step-number .result) (a .text .now) e (c .before .if1 .taken),
+      ap (λ (r : Rehearsed). leftOf r (a .holdbacks .now) (a .slots .now) (a .text .now)) (c .not-called .ensures)
+          ∙ left-not-called s (a .group) (a .holdbacks .now) (a .slots .now) (a .bytes .now) (judged .step-number .result) (a .text .now) e (c .before .if1 .taken),
       (
-        rw (c .not-called .ensures) (start .pre .0),
-        (rw (c .not-called .ensures) (omega arith), rw (c .not-called .ensures) (ap (among runNumbers) e ∙ step-among _ _ (a .bytes .now))),
+        ap (λ (r : Rehearsed). outcomeOf s r (a .holdbacks .now) (a .slots .now) (a .text .now)) (c .not-called .ensures)
+            ∙ not-called-is s (a .group) (a .holdbacks .now) (a .slots .now) (a .bytes .now) (judged .step-number .result) (a .text .now) e (c .before .if1 .taken),
+        (
+          rw (c .not-called .ensures) (start .pre .0),
+          (rw (c .not-called .ensures) (omega arith), rw (c .not-called .ensures) (ap (among runNumbers) e ∙ step-among _ _ (a .bytes .now))),
+        ),
       ),
     )
 
@@ -56,9 +60,13 @@ returns-2 c =
     let passed = called .before .before .before .before in
     let a = passed .before .before .before .before .before .before .before .before .args in (
       called .call-step .ensures .0
-          ∙ ap (λ (one : Stepped). outcomeBy one (a .text .now))
-          (called-is (setupOf (a .setup)) (a .group) (a .holdbacks .now) (a .slots .now) (a .bytes .now) (passed .before .step-number .ensures) (passed .if1 .left)),
-      called .call-step .ensures .1,
+          ∙ left-called (setupOf (a .setup)) (a .group) (a .holdbacks .now) (a .slots .now) (a .bytes .now) (a .text .now) (passed .before .step-number .ensures) (passed .if1 .left),
+      (
+        called .call-step .ensures .1 .0
+            ∙ ap (λ (one : Stepped). outcomeBy one (a .text .now))
+            (called-is (setupOf (a .setup)) (a .group) (a .holdbacks .now) (a .slots .now) (a .bytes .now) (passed .before .step-number .ensures) (passed .if1 .left)),
+        called .call-step .ensures .1 .1,
+      ),
     )
 
 pub rehearse-step-spec : {M : Type 1} → statement M
