@@ -17,7 +17,7 @@ use Rattle.model.specs.Frame.{Frame, twoAt, decode}
 use Rattle.model.specs.Holdback.{cutBy, sameOrigin, encodeHoldback}
 use Rattle.model.specs.Timestamp.{sum}
 use Rattle.model.specs.Question.{firstNo}
-use Rattle.model.specs.Order.{due}
+use Rattle.model.specs.Order.{sumDue, due}
 use Rattle.model.specs.Long.{longBound, longMost, longFrameEnd, longFormed, longDecode, longFrameQuestions, longDue, sixOn, longestLong, longHeldBytes, longHeld, longPasses, longNotEarly, longNotOverdue, longSoundHoldback, longEncodeHoldback, longHoldbackSize}
 use Rattle.lemmas.proofs.LongFrames.{long-passes-formed, long-passes-decode}
 use Rattle.lemmas.proofs.LongPassing.{long-size, long-end-inside}
@@ -132,19 +132,19 @@ module _ (s : Setup) (v least : ℕ) (bytes : List ℕ) where
     unfolding longNotEarly sum
     early-is-not = ap (λ (n : ℕ). leb n (v + (s .epsilon - 1))) (sym (ap₂ _+_ er ec))
 
-    overdue-is-not : longNotOverdue s least own ≡ leb least (r + c + s .delta + s .epsilon)
+    overdue-is-not : longNotOverdue s least own ≡ leb least (sumDue s (r + c))
     unfolding longNotOverdue longDue due sum
-    overdue-is-not = ap (λ (n : ℕ). leb least (n + s .delta + s .epsilon)) (sym (ap₂ _+_ er ec))
+    overdue-is-not = ap (λ (n : ℕ). leb least (sumDue s n)) (sym (ap₂ _+_ er ec))
 
     pub untimely : v + (s .epsilon - 1) < r + c → false ≡ timely s v least bytes
     unfolding timely
     untimely h =
         sym (ap (λ (t : Bool). t && longNotOverdue s least own) (early-is-not ∙ lt-leb (r + c) (v + (s .epsilon - 1)) h))
 
-    pub timely-rest : r + c ≤ v + (s .epsilon - 1) → leb least (r + c + s .delta + s .epsilon) ≡ timely s v least bytes
+    pub timely-rest : {after : ℕ} → r + c ≤ v + (s .epsilon - 1) → after ≡ sumDue s (r + c) → leb least after ≡ timely s v least bytes
     unfolding timely
-    timely-rest h =
-        sym (ap₂ _&&_ (early-is-not ∙ le-leb (r + c) (v + (s .epsilon - 1)) h) overdue-is-not)
+    timely-rest h e =
+        ap (leb least) e ∙ sym (ap₂ _&&_ (early-is-not ∙ le-leb (r + c) (v + (s .epsilon - 1)) h) overdue-is-not)
 
 module _ (s : Setup) (v least : ℕ) (b : List ℕ) (at size : ℕ) (inside : at ≤ length b) (ends : size ≡ longFrameEnd (s .epsilon) (lent b at)) where
   abbrev given : List ℕ

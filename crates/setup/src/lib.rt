@@ -10,6 +10,7 @@ pub use limits::holdback_length;
 pub use limits::in_limits;
 pub use limits::in_limits_but_modulus;
 pub use limits::longest_frame;
+pub use limits::sum_due;
 pub use limits::valid_for;
 pub use questions::board_roomy;
 pub use questions::check_holdback;
