@@ -8,6 +8,8 @@ use crate::packing::put_long_tables;
 use long::tick;
 use longframe::BOUND;
 use longframe::valid_for;
+use setup::BAD_CLOCK;
+use setup::BAD_SETUP;
 use setup::Setup;
 use timestamp::Timestamp;
 ghost use mathlib.Core.Path.{_≡_};
@@ -144,11 +146,11 @@ pub extern "C" fn yarngravel_long_fresh(
         modulus: 0,
     };
     if !valid_for(setup, own) {
-        return 1;
+        return BAD_SETUP as u64;
     }
     let v = clock as usize;
     if BOUND <= v {
-        return 2;
+        return BAD_CLOCK as u64;
     }
     let stamp = Timestamp::fresh(epsilon as usize, v);
     put_long_tables(tables, stamp);

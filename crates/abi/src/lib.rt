@@ -15,6 +15,8 @@ use packing::pack_reading;
 use packing::pack_written;
 use packing::put_tables;
 use packing::tables_of;
+use setup::BAD_CLOCK;
+use setup::BAD_SETUP;
 use setup::Setup;
 use setup::in_limits;
 use setup::valid_for;
@@ -277,10 +279,10 @@ pub extern "C" fn yarngravel_fresh(
         modulus,
     };
     if !valid_for(setup, own) {
-        return 1;
+        return BAD_SETUP as u64;
     }
     if modulus <= clock {
-        return 2;
+        return BAD_CLOCK as u64;
     }
     let stamp = Timestamp::fresh(epsilon as usize, clock as usize);
     put_tables(tables, stamp);
@@ -308,10 +310,10 @@ pub extern "C" fn yarngravel_fresh_last(
         modulus,
     };
     if !in_limits(setup) {
-        return 1;
+        return BAD_SETUP as u64;
     }
     if setup.modulus <= clock {
-        return 2;
+        return BAD_CLOCK as u64;
     }
     splice::put_u16(last, 0, clock as usize);
     0

@@ -1,5 +1,8 @@
 // The form of a frame and its questions 10 to 12: where its counts say that it ends, whether they are right, and what stands at its fixed places.
 // Any bytes get an answer; a place past the end reads as 0.
+use setup::BAD_FORM;
+use setup::BAD_RANGE;
+use setup::BAD_STAMP;
 use setup::LONGEST_PAYLOAD;
 use setup::Setup;
 use splice::byte_at;
@@ -126,17 +129,17 @@ pub fn check(setup: Setup, s: &[u8]) -> u8
     let epsilon = setup.epsilon as usize;
     let modulus = setup.modulus as usize;
     if !well_formed(epsilon, s) {
-        return 10;
+        return BAD_FORM;
     }
     if n <= station_of(s) {
-        return 11;
+        return BAD_RANGE;
     }
     if modulus <= r_of(s) {
-        return 11;
+        return BAD_RANGE;
     }
     let c = c_of(s);
     if !sound_counts(&s[COUNTS_AT..COUNTS_AT + 2 * epsilon], c, n, epsilon) {
-        return 12;
+        return BAD_STAMP;
     }
     0
 }

@@ -3,6 +3,7 @@ use crate::form::OVERHEAD;
 use crate::form::check;
 use crate::form::stamp_of;
 use crate::form::station_of;
+use setup::BAD_SETUP;
 use setup::Setup;
 use setup::valid_for;
 use timestamp::Timestamp;
@@ -26,7 +27,7 @@ fn check_read(setup: Setup, own: u32, frame: &[u8]) -> u8
     ensures { λ r. ⌜ r ≡ firstNo (codec.readQuestions (setupOf setup) own (now (frame .entry))) ⌝ }
 {
     if !valid_for(setup, own) {
-        return 1;
+        return BAD_SETUP;
     }
     check(setup, frame)
 }

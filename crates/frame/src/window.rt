@@ -6,6 +6,9 @@ use crate::form::NODE_SIZE;
 use crate::form::R_AT;
 use crate::form::STAMP_AT;
 use crate::form::STATION_AT;
+use setup::BAD_FORM;
+use setup::BAD_RANGE;
+use setup::BAD_STAMP;
 use setup::LONGEST_PAYLOAD;
 use setup::Setup;
 use timestamp::sound_window;
@@ -65,14 +68,14 @@ pub fn check_window(setup: Setup, limits: &[u8], w: &[u8]) -> u8
 {
     let epsilon = setup.epsilon as usize;
     if !formed_window(epsilon, w) {
-        return 10;
+        return BAD_FORM;
     }
     if !ranged_window(setup.n as usize, setup.modulus as usize, w) {
-        return 11;
+        return BAD_RANGE;
     }
     let c = w[C_AT] as usize;
     if !sound_window(&w[COUNTS_AT..WINDOW], c, limits, epsilon) {
-        return 12;
+        return BAD_STAMP;
     }
     0
 }

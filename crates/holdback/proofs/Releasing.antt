@@ -32,9 +32,10 @@ use Rattle.holdback.specs.Seen.{Placeable, Within, tableLength, rankSlot
 use Rattle.holdback.specs.Starts.{startUnit, usedPlaces, framesBelow, startOf, startsOf, loweredStarts}
 use Rattle.holdback.specs.Early.{SoundBy, earlyFrames, otherFrames, EarlyFront, releasedBuffer, Left, Released}
 use Rattle.holdback.proofs.RoundTrip.{Bytes, passing}
-use Rattle.holdback.proofs.Frames.{start-zero, held-tab, lent}
+use Rattle.lemmas.proofs.FrameWalk.{lent, Seeking, seek-starts, seek-turns}
+use Rattle.holdback.proofs.Frames.{start-zero, held-tab}
 use Rattle.holdback.proofs.Judging.{fitting, frame-fits, sound-few, sound-passes, sound-ordered, sound-single, sound-frames, sound-formed}
-use Rattle.holdback.proofs.Searching.{Led, led-starts, led-frame, led-turns}
+use Rattle.holdback.proofs.Searching.{sound-stand, seek-frame}
 use Rattle.holdback.proofs.Seen.{fitting-placeable, within, rank-slot, same-slot, seen-own, seen-less, length-seen}
 use Rattle.holdback.proofs.Order.{early-prefix, early-rest}
 use Rattle.holdback.proofs.Started.{changed-long, changed-at, changed-past, starts-at, starts-past, starts-by, spans-small, leading-mono}
@@ -80,12 +81,14 @@ apart-drop (suc i) (x ∷ l) h = apart-drop i l (and-right (not (any (sameOrigin
 
 -- a walk over the front that has taken the marks of i frames away
 pub record Unmarking (s : Setup) (v least : ℕ) (b table : List ℕ) (index i at : ℕ) : Type 0 where
-  pub led : Led (λ _. true) s v least b (twoAt b 0) i at
+  pub sound : soundHoldback s v least b ≡ true
+  pub seek : Seeking (frameEnd (s .epsilon)) (decode (s .epsilon)) (passes s) (λ _. true) b 2 (twoAt b 0) i at
   pub table-is : table ≡ seenTable s v (drop i (held (s .epsilon) b))
   pub most : i ≤ index
 
 pub unmarking-starts : {s : Setup} {v least : ℕ} {b table : List ℕ} {index : ℕ} → soundHoldback s v least b ≡ true → 2 ≤ length b → table ≡ seenTable s v (held (s .epsilon) b) → Unmarking s v least b table index 0 2
-unmarking-starts sound two e = record { led = led-starts (sound, (two, refl)); table-is = e; most = zero-le }
+unmarking-starts {s} {v} {least} {b} sound two e =
+    record { sound = sound; seek = seek-starts (sound-stand s v least b sound two refl); table-is = e; most = zero-le }
 
 module _ {s : Setup} {v least : ℕ} {b table : List ℕ} {index i at : ℕ} (walk : Unmarking s v least b table index i at) (more : i < twoAt b 0)
     (limits : Limits s) (below : v < s .modulus) (near : Recent s least) where
@@ -95,7 +98,7 @@ module _ {s : Setup} {v least : ℕ} {b table : List ℕ} {index i at : ℕ} (wa
   placeable-at : (k : ℕ) → k < twoAt b 0 → Placeable s v (frameAt (s .epsilon) b k)
   unfolding frameAt
   placeable-at k h =
-      fitting-placeable s v least (bytesAt (s .epsilon) b k) near (fitting s v least (bytesAt (s .epsilon) b k) (frame-fits s v least b k (sound-frames s v least b (walk .led .sound) k h)))
+      fitting-placeable s v least (bytesAt (s .epsilon) b k) near (fitting s v least (bytesAt (s .epsilon) b k) (frame-fits s v least b k (sound-frames s v least b (walk .sound) k h)))
 
   placeable-of : (g : Frame) → List·Memᴰ g (held (s .epsilon) b) → Placeable s v g
   placeable-of g m =
@@ -119,11 +122,11 @@ module _ {s : Setup} {v least : ℕ} {b table : List ℕ} {index i at : ℕ} (wa
       (λ g m. same-slot s v limits below own g (placeable-at i more) (placeable-of g (mem-of-drop (suc i) (held (s .epsilon) b) m)))
       ∙ false-of-not (any (sameOrigin own) (drop (suc i) (held (s .epsilon) b)))
       (and-left (not (any (sameOrigin own) (drop (suc i) (held (s .epsilon) b)))) (apart sameOrigin (drop (suc i) (held (s .epsilon) b)))
-      (rw front at (apart-drop i (held (s .epsilon) b) (sound-single s v least b (walk .led .sound)))))
+      (rw front at (apart-drop i (held (s .epsilon) b) (sound-single s v least b (walk .sound)))))
 
   module _ {size : ℕ} (es : size ≡ frameEnd (s .epsilon) (lent b at)) (rank : Rank) (er : rank ≡ rankOf s v (decode (s .epsilon) (take (at + size - at) (drop at b)))) where
     own-rank : rank ≡ rankOf s v own
-    own-rank = er ∙ ap (rankOf s v) (led-frame (walk .led) more es)
+    own-rank = er ∙ ap (rankOf s v) (seek-frame s (walk .seek) es)
 
     pub unmarking-within : Within s rank
     unmarking-within = within s v limits below own rank (placeable-at i more) own-rank
@@ -141,7 +144,8 @@ module _ {s : Setup} {v least : ℕ} {b table : List ℕ} {index i at : ℕ} (wa
     unfolding any
     unmarking-turns l few e =
         record {
-          led = led-turns (walk .led) more es {t = true} refl refl;
+          sound = walk .sound;
+          seek = seek-turns (walk .seek) more es {t = true} refl refl;
           table-is =
               e ∙ ap₂ withoutMark marks (rank-slot s v own rank own-rank)
               ∙ seen-less s v limits below (drop (suc i) (held (s .epsilon) b)) (own ∷ drop (suc i) (held (s .epsilon) b)) own (λ p. refl) (placeable-at i more) alone

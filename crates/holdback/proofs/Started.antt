@@ -11,23 +11,25 @@ use lib.Dec.{ltb, eqb, leb·suc-suc}
 use lib.ListN.{length, take, getD, set, getD-replicate}
 use lib.Seq.{getD-set-same, getD-set-other}
 use borrow.Author.Tests.{lt-ltb, le-ltb, ltb-true, leb-true, eq-eqb, ne-eqb}
-use Rattle.laws.specs.Lists.{tab, every, leading, insertAt}
+use Rattle.laws.specs.Lists.{every, leading, insertAt}
 use Rattle.laws.proofs.Numbers.{lt-or-ge, eq-or-ne, true-or-false, cond-same}
-use Rattle.laws.proofs.Lists.{length-tab, getD-tab, tab-getD, eq-tab, tab-ext, set-tab, replicate-tab, take-tab, leading-le, leading-ext, every-leading}
+use Rattle.laws.proofs.Lists.{length-tab, getD-tab, tab-getD, eq-tab, tab-ext, set-tab, replicate-tab, leading-le, leading-ext, every-mono, every-leading}
 use Rattle.model.specs.Setup.{Setup, width, longestFrame, depth}
 use Rattle.model.specs.Timestamp.{sum}
-use Rattle.model.specs.Frame.{Frame, twoAt, decode}
+use Rattle.model.specs.Frame.{Frame, twoAt, decode, frameEnd}
 use Rattle.model.specs.Order.{due, dueNear, before}
-use Rattle.model.specs.Holdback.{held, soundHoldback, notEarly, notOverdue}
+use Rattle.model.specs.Holdback.{held, passes, soundHoldback, notEarly, notOverdue}
 use Rattle.model.specs.Poll.{dueWithin}
+use Rattle.lemmas.specs.Standing.{leftBy, endBy}
 use Rattle.lemmas.proofs.Bounds.{Limits}
+use Rattle.lemmas.proofs.FrameWalk.{Seeking, seek-from}
 use Rattle.setup.proofs.InLimits.{depth-most}
 use Rattle.holdback.specs.Queue.{frameStart, frameAt, Stands}
 use Rattle.holdback.specs.Sound.{fits, follows, frameSound}
 use Rattle.holdback.specs.Starts.{startUnit, startLimit, startPlaces, usedPlaces, front, allFront, sumPlace, framesBelow, startOf, startsOf, changed, filled, highest, spreadStarts, movedStarts, Moving}
-use Rattle.holdback.proofs.Frames.{start-zero, start-most, held-tab, leading-held, FormedUpTo}
-use Rattle.holdback.proofs.Judging.{every-tab-at, fitting, frame-follows, sound-few, sound-frames, sound-formed}
-use Rattle.holdback.proofs.Searching.{Led}
+use Rattle.holdback.proofs.Frames.{start-zero, start-most, leading-held, FormedUpTo}
+use Rattle.holdback.proofs.Judging.{fitting, frame-follows, sound-few, sound-frames, sound-formed}
+use Rattle.holdback.proofs.Searching.{start-by, sound-stand, stand-held}
 use Rattle.holdback.proofs.Order.{due-first, due-before}
 use Rattle.holdback.proofs.Changes.{length-held}
 
@@ -304,23 +306,18 @@ module _ (s : Setup) (v least : ℕ) (queue : List ℕ) (limits : Limits s) (sou
 
   -- a search that starts at an entry, for a frame that is not due before v
   pub start-leads : {count m : ℕ} (k : ℕ) (f : Frame) → 2 ≤ length queue → count ≡ twoAt queue 0 → m ≡ startOf s v queue k → s .modulus + k ≡ dueNear s v f
-      → Led (λ g. before s v g f) s v least queue count (m / startUnit) (m % startUnit)
+      → Seeking (frameEnd (s .epsilon)) (decode (s .epsilon)) (passes s) (λ g. before s v g f) queue 2 count (m / startUnit) (m % startUnit)
   start-leads {count} {m} k f two count-is e own =
       let i : ℕ = framesBelow s v queue k in
-      let frame : ℕ → Frame = frameAt (s .epsilon) queue in
-      let most : i ≤ twoAt queue 0 = below-most s v queue k in
-      let all : every (λ g. ltb (dueNear s v g) (s .modulus + k)) (tab i frame) ≡ true =
-      ap (every (λ g. ltb (dueNear s v g) (s .modulus + k))) (sym (ap (take i) (held-tab (s .epsilon) queue) ∙ take-tab i (twoAt queue 0) frame most)) ∙ every-leading (λ g. ltb (dueNear s v g) (s .modulus + k)) (held (s .epsilon) queue) in
       let index : m / startUnit ≡ i = start-parts k m e .0 in
       let next : m % startUnit ≡ frameStart (s .epsilon) queue i = start-parts k m e .1 in
-      record {
-        sound = sound;
-        two = two;
-        count-is = count-is;
-        starts = next ∙ ap (frameStart (s .epsilon) queue) (sym index);
-        most = omega arith;
-        ahead = λ j h. due-before s v (frame j) f (omega (arith, ltb-true (dueNear s v (frame j)) (s .modulus + k) (every-tab-at (λ g. ltb (dueNear s v g) (s .modulus + k)) i frame all j (omega arith)), own));
-      }
+      let ahead : every (λ g. before s v g f) (take (m / startUnit) (leftBy (frameEnd (s .epsilon)) (decode (s .epsilon)) queue 2 count)) ≡ true =
+      ap₂ (λ (n : ℕ) (l : List Frame). every (λ g. before s v g f) (take n l)) index (stand-held (s .epsilon) queue count-is)
+      ∙ every-mono (λ g. ltb (dueNear s v g) (s .modulus + k)) (λ g. before s v g f) (take i (held (s .epsilon) queue))
+      (λ g h. due-before s v g f (omega (arith, ltb-true (dueNear s v g) (s .modulus + k) h, own)))
+      (every-leading (λ g. ltb (dueNear s v g) (s .modulus + k)) (held (s .epsilon) queue)) in
+      seek-from (decode (s .epsilon)) (λ g. before s v g f) queue count 2 (m / startUnit) (m % startUnit) (sound-stand s v least queue sound two count-is)
+      (omega (arith, below-most s v queue k)) ahead (next ∙ start-by (s .epsilon) queue i ∙ ap (endBy (frameEnd (s .epsilon)) queue 2) (sym index))
 
 -- ---- a frame put at its place
 

@@ -36,7 +36,8 @@ use Rattle.holdback.specs.Sound.{fits, follows, isNew, frameSound, timel
 use Rattle.holdback.specs.Seen.{Placeable, Within, rankSlot, slotOf, hasMark, withMark, isMarked, marked, seenTable, tableLength, wordLength}
 use Rattle.holdback.specs.Starts.{startUnit, startPlaces, usedPlaces, front, allFront, placesTo, startsOf, highest, spreadStarts}
 use Rattle.holdback.proofs.RoundTrip.{Bytes, passing}
-use Rattle.holdback.proofs.Frames.{start-zero, start-suc, start-inside, start-most, counts-at, counts-bytes, bytes-drop, held-tab, FormedUpTo, lent, lent-is, lent-frame, next-start, bytes-part}
+use Rattle.lemmas.proofs.FrameWalk.{lent, lent-is}
+use Rattle.holdback.proofs.Frames.{start-zero, start-suc, start-inside, start-most, counts-at, counts-bytes, bytes-drop, held-tab, FormedUpTo, lent-frame, next-start, bytes-part}
 use Rattle.holdback.proofs.Judging.{fitting, frame-fits, frame-follows, frame-new, sound-by, sound-few, sound-frames, sound-formed}
 use Rattle.holdback.proofs.Started.{used-most, highest-before, highest-set, highest-front, spread-long, spread-below, spread-past, place-inside, sums-rise, starts-by, starts-none, start-at, spans-small}
 use Rattle.holdback.proofs.Seen.{fitting-placeable, within, rank-below, rank-slot, seen-at, seen-more, length-seen}

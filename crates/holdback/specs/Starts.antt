@@ -9,7 +9,7 @@ use lib.ListN.{length, getD, replicate}
 use Rattle.laws.specs.Lists.{tab, leading}
 use Rattle.model.specs.Setup.{Setup}
 use Rattle.model.specs.Frame.{Frame}
-use Rattle.model.specs.Order.{due, dueNear}
+use Rattle.model.specs.Order.{sumDue, due, dueNear}
 use Rattle.model.specs.Holdback.{held}
 use Rattle.timestamp.specs.declared.ordering.Rank.{Rank}
 use Rattle.holdback.specs.Queue.{frameStart}
@@ -38,13 +38,13 @@ front = 2
 abbrev pub allFront : List ℕ
 allFront = replicate startPlaces front
 
--- the place for a sum: how far its due clock, sum + δ + ε, lies past v, which reads B
+-- the place for a sum: how far its due clock lies past v, which reads B
 unfoldable pub rankPlace : Setup → Rank → ℕ
 rankPlace s rank = due s (rank .reading) (rank .c) - s .modulus
 
 -- the places up to that of a sum: none where it is due before v
 unfoldable pub placesTo : Setup → ℕ → ℕ
-placesTo s total = total + s .delta + s .epsilon + 1 - s .modulus
+placesTo s total = sumDue s total + 1 - s .modulus
 
 -- the place for the sum of a frame
 unfoldable pub sumPlace : Setup → ℕ → Frame → ℕ

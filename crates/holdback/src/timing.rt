@@ -2,6 +2,7 @@
 // of a reading.
 use crate::compare::rank_at;
 use setup::Setup;
+use setup::sum_due;
 use std::num::wrapping_sub_u64;
 use timestamp::Rank;
 use timestamp::near;
@@ -39,27 +40,26 @@ fn sum_of(s: Setup, v: usize, frame: &[u8]) -> usize
     reading_of(s, v, frame) + frame::c_of(frame)
 }
 
-// 01: "each sum at most ε − 1 past v", and its due clock, sum + δ + ε, not before the least allowed, of one frame: one test for both, since a
-// due clock before the least lies far past it in numbers that wrap.
+// 01: "each sum at most ε − 1 past v", and its due clock not before the least allowed, of one frame: one test for both, since a due clock
+// before the least lies far past it in numbers that wrap.
 pub fn timely(s: Setup, least: usize, rank: Rank) -> bool
     requires { ⌜ (inLimits (setupOf s) ≡ true) × Recent (setupOf s) least ⌝ }
     requires { ⌜ (rank .reading ≤ 2 ^ 17) × (rank .c < s .epsilon) ⌝ }
     ensures { λ b. ⌜ b ≡ timely (setupOf s) least rank ⌝ }
 {
-    let delta = s.delta as usize;
-    let epsilon = s.epsilon as usize;
-    let due = rank.reading + rank.c + delta + epsilon;
-    let span = s.modulus as usize + delta + 2 * epsilon - 1 - least;
+    let latest = s.modulus as usize + (s.epsilon as usize - 1);
+    let due = sum_due(s, rank.reading + rank.c);
+    let span = sum_due(s, latest) - least;
     wrapping_sub_u64(due as u64, least as u64) <= span as u64
 }
 
-// Its due clock, sum + δ + ε, with r read near v.
+// Its due clock, with r read near v.
 pub fn due_of(s: Setup, v: usize, frame: &[u8]) -> usize
     requires { ⌜ (inLimits (setupOf s) ≡ true) × (v < s .modulus) ⌝ }
     requires { ⌜ passes (setupOf s) (now frame) ≡ true ⌝ }
     ensures { λ r. ⌜ (r ≡ dueNear (setupOf s) v (decode (s .epsilon) (now (frame .entry)))) × (r < 2 ^ 18) ⌝ }
 {
-    sum_of(s, v, frame) + s.delta as usize + s.epsilon as usize
+    sum_due(s, sum_of(s, v, frame))
 }
 
 // The clock modulo B of a reading near v, which reads B.
@@ -76,7 +76,7 @@ pub fn rank_place(s: Setup, rank: Rank) -> usize
     requires { ⌜ (rank .reading ≤ 2 ^ 17) × ((rank .c < s .epsilon) × (timely (setupOf s) (s .modulus) rank ≡ true)) ⌝ }
     ensures { λ r. ⌜ r ≡ rankPlace (setupOf s) rank ⌝ }
 {
-    rank.reading + rank.c + s.delta as usize + s.epsilon as usize - s.modulus as usize
+    sum_due(s, rank.reading + rank.c) - s.modulus as usize
 }
 
 // The places up to that of a sum: none where it is due before v.
@@ -84,7 +84,7 @@ pub fn places_to(s: Setup, sum: usize) -> usize
     requires { ⌜ (inLimits (setupOf s) ≡ true) × (sum ≤ 2 ^ 18) ⌝ }
     ensures { λ r. ⌜ r ≡ placesTo (setupOf s) sum ⌝ }
 {
-    let next = sum + s.delta as usize + s.epsilon as usize + 1;
+    let next = sum_due(s, sum) + 1;
     let modulus = s.modulus as usize;
     if next < modulus {
         return 0;

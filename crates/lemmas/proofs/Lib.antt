@@ -3,6 +3,7 @@ pub mod Questions
 pub mod Reading
 pub mod Counts
 pub mod RoundTrip
+pub mod FrameWalk
 pub mod LongFrames
 pub mod LongPassing
 pub mod LongStamps

@@ -5,7 +5,9 @@ use longframe::r_of;
 use longframe::six_on;
 use longqueue::repeats;
 use node::check_time;
+use setup::REPEAT;
 use setup::Setup;
+use setup::TOO_MANY;
 ghost use mathlib.Core.Path.{_≡_};
 ghost use Rattle.model.specs.Frame.{twoAt};
 ghost use Rattle.model.specs.Question.{firstNo};
@@ -31,10 +33,10 @@ pub fn judge(setup: Setup, clock: usize, holdback: &[u8], count: usize, s: &[u8]
     }
     let repeated = repeats(setup.epsilon as usize, holdback, count, s);
     if repeated {
-        return 16;
+        return REPEAT;
     }
     if MOST <= count {
-        return 18;
+        return TOO_MANY;
     }
     0
 }

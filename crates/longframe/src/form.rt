@@ -3,6 +3,9 @@
 use crate::limits::BOUND;
 use frame::c_of;
 use frame::counts_part;
+use setup::BAD_FORM;
+use setup::BAD_RANGE;
+use setup::BAD_STAMP;
 use setup::Setup;
 use splice::byte_at;
 use splice::eight_at;
@@ -92,18 +95,18 @@ pub fn check(setup: Setup, s: &[u8]) -> u8
     let n = setup.n as usize;
     let epsilon = setup.epsilon as usize;
     if !well_formed(epsilon, s) {
-        return 10;
+        return BAD_FORM;
     }
     if n <= station_of(s) {
-        return 11;
+        return BAD_RANGE;
     }
     if BOUND <= r_of(s) {
-        return 11;
+        return BAD_RANGE;
     }
     let later = six_on(s);
     let c = c_of(later);
     if !sound_counts(counts_part(epsilon, later), c, n, epsilon) {
-        return 12;
+        return BAD_STAMP;
     }
     0
 }

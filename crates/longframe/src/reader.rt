@@ -7,6 +7,7 @@ use crate::limits::valid_for;
 use frame::Reading;
 use frame::payload_part;
 use frame::refused;
+use setup::BAD_SETUP;
 use setup::Setup;
 ghost use mathlib.Core.Path.{_≡_};
 ghost use mathlib.Core.List.{_∷_};
@@ -20,7 +21,7 @@ fn check_read(setup: Setup, own: u32, frame: &[u8]) -> u8
     ensures { λ r. ⌜ r ≡ firstNo (askLongSetup (setupOf setup) own ∷ longFrameQuestions (setupOf setup) (now (frame .entry))) ⌝ }
 {
     if !valid_for(setup, own) {
-        return 1;
+        return BAD_SETUP;
     }
     check(setup, frame)
 }

@@ -2,6 +2,7 @@
 use crate::origins::all_apart;
 use longframe::MOST;
 use setup::Setup;
+use setup::sum_due;
 ghost use mathlib.Core.Path.{_≡_};
 ghost use mathlib.Core.Bool.{true};
 ghost use Prim.Native.Nat.{_≤_, _<_};
@@ -17,7 +18,7 @@ pub struct Walk {
     pub end: usize,
 }
 
-// 01: "each sum at most ε − 1 past v", and its due clock, sum + δ + ε, not before the least allowed, of a frame that passes 10 to 12.
+// 01: "each sum at most ε − 1 past v", and its due clock not before the least allowed, of a frame that passes 10 to 12.
 fn timely(s: Setup, v: usize, least: usize, frame: &[u8]) -> bool
     requires { ⌜ (longLimits (setupOf s) ≡ true) × (v < longBound) ⌝ }
     requires { ⌜ longPasses (setupOf s) (now frame) ≡ true ⌝ }
@@ -28,7 +29,7 @@ fn timely(s: Setup, v: usize, least: usize, frame: &[u8]) -> bool
     if v + (epsilon - 1) < sum {
         return false;
     }
-    least <= sum + s.delta as usize + epsilon
+    least <= sum_due(s, sum)
 }
 
 // Where the frame at `at` ends, 0 where it does not fit: it ends past the buffer, does not pass 10 to 12, or is not timely.

@@ -7,6 +7,10 @@ use frame::counts_part;
 use holdback::place_for;
 use holdback::reading_of;
 use holdback::repeats;
+use setup::BAD_COUNT;
+use setup::EARLY;
+use setup::LATE;
+use setup::REPEAT;
 use setup::Setup;
 use timestamp::counts_at_most;
 ghost use mathlib.Core.Path.{_≡_};
@@ -26,10 +30,10 @@ pub fn check_time(setup: Setup, at: usize, listens: bool, s: &[u8], reading: usi
 {
     let epsilon = setup.epsilon as usize;
     if reading + (setup.delta as usize + epsilon) < at {
-        return 13;
+        return LATE;
     }
     if at + (epsilon - 1) < reading + c_of(s) {
-        return 14;
+        return EARLY;
     }
     if listens {
         return 0;
@@ -37,7 +41,7 @@ pub fn check_time(setup: Setup, at: usize, listens: bool, s: &[u8], reading: usi
     let counts = counts_part(epsilon, s);
     let from = at + epsilon - reading;
     if !counts_at_most(counts, from, counts.len(), setup.n as usize - 1) {
-        return 15;
+        return BAD_COUNT;
     }
     0
 }
@@ -72,7 +76,7 @@ pub fn judge(
         return Verdict::Refused(time);
     }
     if repeats(setup, clock, s, reading, seen) {
-        return Verdict::Refused(16);
+        return Verdict::Refused(REPEAT);
     }
     let place = place_for(setup, clock, holdback, count, starts, s, reading);
     Verdict::Taken(Placed { place, reading })

@@ -1,4 +1,7 @@
 // The questions of an observer's call.
+use setup::BAD_BATCH;
+use setup::BAD_BUFFERS;
+use setup::BAD_SETUP;
 use setup::Setup;
 use setup::board_roomy;
 use setup::check_holdback;
@@ -23,17 +26,17 @@ pub fn check_listen(
         (now (verdicts .entry)) (now (delivery .entry))))) ⌝ }
 {
     if !in_limits(setup) {
-        return 1;
+        return BAD_SETUP;
     }
     let number = check_holdback(setup, clock, holdback);
     if number != 0 {
         return number;
     }
     if !batch::exact(batch) {
-        return 5;
+        return BAD_BATCH;
     }
     if !board_roomy(holdback, verdicts, delivery) {
-        return 6;
+        return BAD_BUFFERS;
     }
     0
 }

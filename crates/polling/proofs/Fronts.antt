@@ -14,14 +14,15 @@ use Rattle.laws.specs.Lists.{tab, leading, chained, smallest}
 use Rattle.laws.proofs.Lists.{every-mem, every-of-mem, every-map, leading-le, smallest-first}
 use Rattle.laws.proofs.Sorted.{pairwise-head}
 use Rattle.model.specs.Setup.{Setup}
-use Rattle.model.specs.Frame.{Frame, twoAt}
+use Rattle.model.specs.Frame.{Frame, twoAt, decode, frameEnd}
 use Rattle.model.specs.Order.{compareFrames, before, dueNear, clockAt}
 use Rattle.model.specs.Holdback.{held, soundHoldback}
 use Rattle.model.specs.Poll.{soonestDue, nextDue, dueWithin, numberWithin}
-use Rattle.holdback.specs.Queue.{frameAt, Stands}
+use Rattle.lemmas.specs.Standing.{leftBy}
+use Rattle.holdback.specs.Queue.{frameAt}
 use Rattle.holdback.proofs.Frames.{held-tab}
 use Rattle.holdback.proofs.Judging.{sound-ordered}
-use Rattle.holdback.proofs.Searching.{Led}
+use Rattle.holdback.proofs.Searching.{stand-held}
 use Rattle.holdback.proofs.Order.{due-first, in-order, within-prefix}
 
 -- a queue in order: its first frame is due soonest
@@ -70,12 +71,12 @@ module _ (s : Setup) (v : ℕ) (b : List ℕ) where
 
 -- ---- by a walk from the front
 
--- where it stands when it stops, or at the end
-pub within-stands :
-    {s : Setup} {v least : ℕ} {b : List ℕ} {count number at : ℕ} (d : ℕ) → Led (dueWithin s v d) s v least b count number at
-    → Stands (s .epsilon) b (leading (dueWithin s v d) (held (s .epsilon) b)) number at → number ≡ numberWithin s v d (held (s .epsilon) b)
-within-stands {s} {v} {least} {b} d led stands =
-    stands .frames ∙ number-leading s v d (held (s .epsilon) b) (sound-ordered s v least b (led .sound))
+-- how many it has passed when it stops, or at the end
+pub within-number :
+    (s : Setup) (v least d : ℕ) (b : List ℕ) {count number : ℕ} → soundHoldback s v least b ≡ true → count ≡ twoAt b 0
+    → number ≡ leading (dueWithin s v d) (leftBy (frameEnd (s .epsilon)) (decode (s .epsilon)) b 2 count) → number ≡ numberWithin s v d (held (s .epsilon) b)
+within-number s v least d b sound count-is e =
+    e ∙ ap (leading (dueWithin s v d)) (stand-held (s .epsilon) b count-is) ∙ number-leading s v d (held (s .epsilon) b) (sound-ordered s v least b sound)
 
 pub some-frame : (count : ℕ) → (count ≡ 0 → ⊥) → 0 < count
 some-frame zero h = absurd (h refl)

@@ -6,6 +6,7 @@ use holdback::FRONT;
 use holdback::START_PLACES;
 use holdback::TABLE_LENGTH;
 use holdback::sound;
+use setup::BAD_SETUP;
 use setup::Setup;
 use setup::check_holdback;
 use setup::valid_for;
@@ -37,7 +38,7 @@ fn check_poll(setup: Setup, own: u32, clock: usize, holdback: &[u8]) -> u8
     ensures { λ r. ⌜ r ≡ firstNo (pollQuestions (setupOf setup) own clock (now (holdback .entry))) ⌝ }
 {
     if !valid_for(setup, own) {
-        return 1;
+        return BAD_SETUP;
     }
     check_holdback(setup, clock, holdback)
 }

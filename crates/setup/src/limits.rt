@@ -2,9 +2,10 @@
 // node's, and these are the group's.
 ghost use mathlib.Core.Path.{_≡_};
 ghost use mathlib.Core.Bool.{_&&_};
-ghost use Prim.Native.Nat.{_≤_};
+ghost use Prim.Native.Nat.{_+_, _≤_, _<_};
 ghost use Rattle.model.specs.Setup.{inLimits, isMember, longestFrame, depth, holdbackLength};
-ghost use Rattle.model.specs.Long.{longLimits};
+ghost use Rattle.model.specs.Order.{sumDue};
+ghost use Rattle.model.specs.Long.{longBound, longLimits};
 ghost use Rattle.setup.specs.Views.{setupOf};
 
 // 01: "A ticket is 0 to 32 bytes"; here the payload.
@@ -88,4 +89,12 @@ pub fn holdback_length(n: usize, epsilon: usize, delta: usize) -> usize
     ensures { λ r. ⌜ r ≡ holdbackLength n epsilon delta ⌝ }
 {
     2 + longest_frame(epsilon) * depth(n, epsilon, delta)
+}
+
+// 01: "sum + δ + ε (its due clock)", of a sum. An engine's (02, 2.9) is the largest: a clock below 2^63 and a c below ε.
+pub fn sum_due(s: Setup, sum: usize) -> usize
+    requires { ⌜ sum < longBound + 16 ⌝ }
+    ensures { λ r. ⌜ r ≡ sumDue (setupOf s) sum ⌝ }
+{
+    sum + s.delta as usize + s.epsilon as usize
 }

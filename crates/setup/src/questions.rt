@@ -2,6 +2,8 @@
 use crate::limits::Setup;
 use crate::limits::VERDICT_LENGTH;
 use crate::limits::holdback_length;
+use crate::numbers::BAD_CLOCK;
+use crate::numbers::BAD_HOLDBACK;
 ghost use mathlib.Core.Path.{_≡_};
 ghost use mathlib.Core.Bool.{true, _&&_};
 ghost use lib.Dec.{leb};
@@ -17,10 +19,10 @@ pub fn check_holdback(s: Setup, clock: usize, holdback: &[u8]) -> u8
     ensures { λ r. ⌜ r ≡ firstNo (holdbackQuestions (setupOf s) clock (now (holdback .entry))) ⌝ }
 {
     if s.modulus as usize <= clock {
-        return 2;
+        return BAD_CLOCK;
     }
     if holdback.len() != holdback_length(s.n as usize, s.epsilon as usize, s.delta as usize) {
-        return 3;
+        return BAD_HOLDBACK;
     }
     0
 }

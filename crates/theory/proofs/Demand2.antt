@@ -13,7 +13,7 @@ use borrow.Author.Tests.{ne-eqb}
 use Rattle.laws.proofs.Numbers.{eq-or-ne, true-or-false, clash, and-intro, and-left, and-right}
 use Rattle.laws.proofs.Lists.{getElem?-lt, getElem?-set-same, getElem?-set-other, getElem?-snoc-cases}
 use Rattle.model.specs.Setup.{Setup}
-use Rattle.model.specs.Published.{Message, Process, deliverableBy, buffered, advanced, eventOf, nextEvent, messageOf}
+use Rattle.model.specs.Published.{Message, Process, deliverableBy, buffered, advanced, eventOf, nextEvent, messageOf, messageDue}
 use Rattle.model.specs.Run.{Node, Call, Done, World, isAccepted, outputOf, doneOf, nodeAfter, act, runFrom, atStart, isEvent, sends}
 use Rattle.theory.specs.Premises.{goodStart, allFresh, largestClock, staleUntil, allowed, keeps, noneStale}
 use Rattle.theory.specs.Demand2.{Published, messagesHeard, outcomeOf, publishOn, publish, publishAll, publishedStart, Matched, Demand2Fresh}
@@ -26,7 +26,6 @@ use Rattle.theory.proofs.Promises.{ends}
 use Rattle.theory.proofs.Invariant.{step-good}
 use Rattle.theory.proofs.Start.{allowed-fact}
 use Rattle.theory.proofs.Fresh.{settles-fresh, legal-fresh, none-stale-before, last-sent}
-use Rattle.theory.proofs.PublishedQueue.{messageDue}
 use Rattle.theory.proofs.PublishedRun.{Copies, Twin, Paired, LastAs, sent-as-snoc, ranked-snoc, twin-stays}
 use Rattle.theory.proofs.PublishedCall.{heardHere, none-overdue, frame-is, same-as, ranked-last, twin-moves}
 use Rattle.theory.proofs.PublishedStart.{paired-fresh}
@@ -39,7 +38,7 @@ sentHere s sent call v p = cond (call .send) (some (messageOf (s .epsilon) v p (
 abbrev pub NoneOverdue : Setup → Published → Done → Type 0
 NoneOverdue s u d =
     (p : Process) → getElem? (u .processes) (d .node) ≡ some p
-    → (m : Message) → List·Memᴰ m (buffered p (messagesHeard (u .sent) (d .call .sources))) → d .clock ≤ messageDue s m
+    → (m : Message) → List·Memᴰ m (buffered p (messagesHeard (u .sent) (d .call .sources))) → d .clock ≤ messageDue (s .epsilon) (s .delta) m
 
 -- an accepted call and the published program as it stands before that
 abbrev pub Follows : Setup → Published → Done → Type 0
@@ -163,7 +162,7 @@ module _ (s : Setup) (w : World) (u : Published) (call : Call) (node : Node) (v 
     (p, p-at, same-as s w (u .sent) call node v p (paired .good) legal (paired .sent-as) (paired .ranked) twin station),
     λ one q q-at m t.
         let same : q ≡ p = some-inj (sym q-at ∙ p-at) in
-        subst (λ (n : ℕ). n ≤ messageDue s m) (sym moved)
+        subst (λ (n : ℕ). n ≤ messageDue (s .epsilon) (s .delta) m) (sym moved)
         (none-overdue s w (u .sent) call node v p (paired .good) legal (paired .sent-as) (paired .ranked) twin station one m
         (subst (λ (x : Process). List·Memᴰ m (buffered x (heardHere (u .sent) call))) same t)),
   )

@@ -24,7 +24,7 @@ use Rattle.model.specs.Holdback.{sameOrigin, notEarly, held, encodeFrames}
 use Rattle.model.specs.Question.{firstNo}
 use Rattle.model.specs.Judge.{Heard, judgeQuestions, absorbAll}
 use Rattle.model.specs.Tick.{Input, Output, openingStamp, openedQueue, heardOf, takenCount, acceptedWith}
-use Rattle.model.specs.Published.{Message, Process, rank, sameMessage, nextEvent, eventOf, deliverableBy, inOrder, buffered, deliveredAt, advanced, messageOf}
+use Rattle.model.specs.Published.{Message, Process, rank, sameMessage, nextEvent, eventOf, deliverableBy, inOrder, buffered, deliveredAt, advanced, messageOf, messageDue}
 use Rattle.model.specs.Run.{Node, Call, World, inputOf, doneOf}
 use Rattle.model.specs.Long.{longBound, plainly, longLimits, askLongSetup, lowFirst, longEncode, longestLong, longMost, longHoldbackSize, longHeldBytes, longHeld, longPasses, longNotEarly, longNotOverdue, longDue, longSoundHoldback, longEncodeFrames, longEncodeHoldback, longHear, longAbsorbAll, longCallQuestions, longClockSound, longTablesSound, longLeastDue, longShelfSound, longRepair, longOpeningStamp, longOpened, longBefore, longDueBy, longHeard, longNewStamp, longSent, longDelivered, longKept, longAcceptance, longTickBy, longTick}
 use Rattle.theory.specs.Demand2.{reduced, reducedFrame, verdictsOn, Outcome, outcomeOf, SameAs}
@@ -41,7 +41,7 @@ use Rattle.theory.proofs.Boards.{board-at}
 use Rattle.theory.proofs.Entries.{startHere, heard-all}
 use Rattle.theory.proofs.Readers.{held-delivery}
 use Rattle.theory.proofs.PublishedEvent.{ReadsTrue, event-wide}
-use Rattle.theory.proofs.PublishedQueue.{messageDue, SameMembers, order-same}
+use Rattle.theory.proofs.PublishedQueue.{SameMembers, order-same}
 use Rattle.theory.proofs.PublishedRun.{SentAs, RankedSent, Twin, one-rank, copied-ok}
 use Rattle.theory.proofs.PublishedCall.{heardHere, newHere, ticks, limits, tables-sound, open-stamp, open-queue, next, news-here, all-reads, all-sent, all-ranked, rest-queue, heard-event, taken-are, verdicts-heard, delivered-is, same-as, stamp-is as station-stamp}
 use Rattle.theory.proofs.LongHear.{plainStamp, plainFrame, longBytes, plain-sound, plain-ok, longEntries, long-hears, long-absorbs}
@@ -301,9 +301,9 @@ module _ (s : Setup) (w : World) (sent : List (Option Message)) (call : Call) (n
   not-overdue : (m : Message) → List·Memᴰ m (p .buffer) → longNotOverdue s (longLeastDue s v (here .tables)) (plainFrame m) ≡ true
   unfolding longNotOverdue longLeastDue longDue due sum widened
   not-overdue m t =
-      let later : node .clock < m .event .r + m .event .c + s .delta + s .epsilon = unfold messageDue in (twin .undue m t) in
+      let later : node .clock < messageDue (s .epsilon) (s .delta) m = twin .undue m t in
       rw sound-here
-      (le-leb (v + 1 - (v - p .last .r)) (m .event .r + m .event .c + s .delta + s .epsilon)
+      (le-leb (v + 1 - (v - p .last .r)) (messageDue (s .epsilon) (s .delta) m)
       (omega (arith, step-is, later, twin .clock-is, next s w sent call node v p good legal sent-as ranked twin station)))
 
   apart-here : apart sameOrigin (map plainFrame (p .buffer)) ≡ true

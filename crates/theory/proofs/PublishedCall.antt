@@ -25,7 +25,7 @@ use Rattle.model.specs.Batch.{batchEntries}
 use Rattle.model.specs.Holdback.{encodeFrames, encodeHoldback}
 use Rattle.model.specs.Judge.{Asking, Heard, hear, judgeQuestions, absorbAll}
 use Rattle.model.specs.Tick.{Output, holdbackSize, openingStamp, openedQueue, earlyOf, repairOf, heardOf, newStamp, sentBytes, dueBefore, dueNow, deliveredOf, takenCount, acceptance}
-use Rattle.model.specs.Published.{Event, Message, Process, known, rank, sameMessage, newOnes, nextEvent, eventOf, deliverableBy, inOrder, buffered, deliveredAt, advanced, messageOf}
+use Rattle.model.specs.Published.{Event, Message, Process, known, rank, sameMessage, newOnes, nextEvent, eventOf, deliverableBy, inOrder, buffered, deliveredAt, advanced, messageOf, messageDue}
 use Rattle.model.specs.Run.{Node, Call, Done, World, inputOf, outputOf, doneOf, nodeAfter}
 use Rattle.theory.specs.Demand2.{reduced, reducedFrame, messagesHeard, verdictsOn, outcomeOf, SameAs}
 use Rattle.theory.specs.Demand3.{isFrom, heardIn}
@@ -42,7 +42,7 @@ use Rattle.theory.proofs.Entries.{heardTo, startHere, stateAt, asking-i
 use Rattle.theory.proofs.Fresh.{settles-fresh}
 use Rattle.theory.proofs.Promises.{around, unreached, entry-at, queue-at}
 use Rattle.theory.proofs.PublishedEvent.{ReadsTrue, absorbEvents, event-stamp, event-wide, Knows, knows-refl, knows-trans, next-knows, next-more}
-use Rattle.theory.proofs.PublishedQueue.{messageDue, before-same, SameMembers, members-select, delivered-members, kept-members, order-same, rank-before}
+use Rattle.theory.proofs.PublishedQueue.{before-same, SameMembers, members-select, delivered-members, kept-members, order-same, rank-before}
 use Rattle.theory.proofs.PublishedHear.{SeenIs, News, same-self, news-stamp, news-queue, news-taken, news-from, news-all, news-sent, news-apart, news-verdicts}
 use Rattle.theory.proofs.PublishedRun.{SentAs, RankedSent, Waits, Twin, heard-snoc, grown-at, waits-reads, waits-next, told, one-rank, copied-ok, news-of}
 
@@ -115,8 +115,7 @@ module _ (s : Setup) (w : World) (sent : List (Option Message)) (call : Call) (n
       (entry-at s 0 0 (settles-fresh s) w call node v good legal)
 
   -- the new messages
-  new-undue : (m : Message) → List·Memᴰ m (newHere sent call p) → v ≤ messageDue s m
-  unfolding messageDue
+  new-undue : (m : Message) → List·Memᴰ m (newHere sent call p) → v ≤ messageDue (s .epsilon) (s .delta) m
   new-undue m t =
       let (k, bytes, a, first, there) = news-from s v sent news-here m t in
       omega (arith, a .not-late)
@@ -135,7 +134,7 @@ module _ (s : Setup) (w : World) (sent : List (Option Message)) (call : Call) (n
   all-waits m t = elim (List·Memᴰ·append-cases (p .buffer) t) [ inl q ↦ open-waits m q | inr q ↦ new-waits m q ]
 
   -- after a step of one nothing that the process holds is due before v
-  pub none-overdue : call .step ≡ 1 → (m : Message) → List·Memᴰ m (buffered p (heardHere sent call)) → v ≤ messageDue s m
+  pub none-overdue : call .step ≡ 1 → (m : Message) → List·Memᴰ m (buffered p (heardHere sent call)) → v ≤ messageDue (s .epsilon) (s .delta) m
   unfolding buffered
   none-overdue one m t =
       elim (List·Memᴰ·append-cases (p .buffer) t) [
@@ -204,17 +203,17 @@ module _ (s : Setup) (w : World) (sent : List (Option Message)) (call : Call) (n
       (setup-at s node call (legal .called)) (clock-at s node call (legal .called))
       ∙ heard-event)
 
-  pub rest-queue : SameMembers (s .modulus) (restAt s v node) (select (λ m. not (ltb (messageDue s m) v)) (p .buffer))
+  pub rest-queue : SameMembers (s .modulus) (restAt s v node) (select (λ m. not (ltb (messageDue (s .epsilon) (s .delta) m) v)) (p .buffer))
   rest-queue =
-      members-select (s .modulus) (λ f. not (dueBefore s (v % s .modulus) f)) (λ m. not (ltb (messageDue s m) v)) (openedAt s v node) (p .buffer) open-queue
+      members-select (s .modulus) (λ f. not (dueBefore s (v % s .modulus) f)) (λ m. not (ltb (messageDue (s .epsilon) (s .delta) m) v)) (openedAt s v node) (p .buffer) open-queue
       (λ m t. ap not (before-same s v m (all-reads m (Memᴰ·append-left (newHere sent call p) t))))
 
-  queue-is : SameMembers (s .modulus) (heardOn s v node call .queue) (select (λ m. not (ltb (messageDue s m) v)) (p .buffer) ++ newHere sent call p)
+  queue-is : SameMembers (s .modulus) (heardOn s v node call .queue) (select (λ m. not (ltb (messageDue (s .epsilon) (s .delta) m) v)) (p .buffer) ++ newHere sent call p)
   queue-is =
       subst
       (λ (asking : Asking). SameMembers (s .modulus) (hear s (v % s .modulus) asking (startHere s v node call) (batchEntries (call .batch)) .queue)
-      (select (λ m. not (ltb (messageDue s m) v)) (p .buffer) ++ newHere sent call p))
-      (sym (asking-is s v node call ticks)) (news-queue s v sent (select (λ m. not (ltb (messageDue s m) v)) (p .buffer)) news-here rest-queue)
+      (select (λ m. not (ltb (messageDue (s .epsilon) (s .delta) m) v)) (p .buffer) ++ newHere sent call p))
+      (sym (asking-is s v node call ticks)) (news-queue s v sent (select (λ m. not (ltb (messageDue (s .epsilon) (s .delta) m) v)) (p .buffer)) news-here rest-queue)
 
   queue-sorted : Sorted (keyNear s (v % s .modulus)) (heardOn s v node call .queue)
   unfolding before compareFrames
@@ -383,10 +382,10 @@ module _ (s : Setup) (w : World) (sent : List (Option Message)) (call : Call) (n
             | inr e ↦ Memᴰ·append-right (p .received) (news-all s v sent news-here k m at-old (heard-start k ∙ e) h)
           ]
 
-  kept-later : (m : Message) → List·Memᴰ m (select (λ m. not (deliverableBy (s .epsilon) (s .delta) v m)) all) → v < messageDue s m
-  unfolding deliverableBy messageDue
+  kept-later : (m : Message) → List·Memᴰ m (select (λ m. not (deliverableBy (s .epsilon) (s .delta) v m)) all) → v < messageDue (s .epsilon) (s .delta) m
+  unfolding deliverableBy
   kept-later m t =
-      leb-false (messageDue s m) v (false-of-not (leb (messageDue s m) v) (mem-of-select (λ m. not (deliverableBy (s .epsilon) (s .delta) v m)) all t .1))
+      leb-false (messageDue (s .epsilon) (s .delta) m) v (false-of-not (leb (messageDue (s .epsilon) (s .delta) m) v) (mem-of-select (λ m. not (deliverableBy (s .epsilon) (s .delta) v m)) all t .1))
 
   kept-waits : (m : Message) → List·Memᴰ m (select (λ m. not (deliverableBy (s .epsilon) (s .delta) v m)) all) → Waits s v m
   kept-waits m t = all-waits m (mem-of-select (λ m. not (deliverableBy (s .epsilon) (s .delta) v m)) all t .0)
@@ -416,7 +415,7 @@ module _ (s : Setup) (w : World) (sent : List (Option Message)) (call : Call) (n
             (sym (leaves-queue s node call (legal .called))) kept-is;
         single = apart-select sameMessage (λ m. not (deliverableBy (s .epsilon) (s .delta) v m)) all all-single;
         waiting = λ m t. subst (λ (n : ℕ). Waits s n m) (sym (after-clock s node call (legal .called))) (kept-waits m t);
-        undue = λ m t. subst (λ (n : ℕ). n < messageDue s m) (sym (after-clock s node call (legal .called))) (kept-later m t);
+        undue = λ m t. subst (λ (n : ℕ). n < messageDue (s .epsilon) (s .delta) m) (sym (after-clock s node call (legal .called))) (kept-later m t);
         from-received = kept-received;
         received = seen-next x;
         knows = λ k m d at d-at here.

@@ -22,7 +22,7 @@ use Rattle.model.specs.Codec.{frameOf}
 use Rattle.model.specs.Question.{firstNo}
 use Rattle.model.specs.Judge.{Heard, hearOne, judgeQuestions}
 use Rattle.model.specs.Holdback.{held}
-use Rattle.model.specs.Published.{Message, Process, rank, sameMessage, newOnes}
+use Rattle.model.specs.Published.{Message, Process, rank, sameMessage, newOnes, messageDue}
 use Rattle.model.specs.Run.{Node, Source, sentBy, stale, Done, World, sends, messageBytes}
 use Rattle.theory.specs.Demand2.{reduced, reducedFrame, messagesHeard, Published}
 use Rattle.theory.specs.Demand3.{covered, isFrom, heardIn}
@@ -32,7 +32,7 @@ use Rattle.theory.proofs.World.{sends-event, event-kind, eventFrame, he
 use Rattle.theory.proofs.Fresh.{settles-fresh}
 use Rattle.theory.proofs.HearLoop.{Arrival, Entry, Around, Unreached, QueueLoop, some-inj, loop-verdict, judged-once, queue-one}
 use Rattle.theory.proofs.PublishedEvent.{ReadsTrue, Knows}
-use Rattle.theory.proofs.PublishedQueue.{messageDue, SameMembers, rank-sender}
+use Rattle.theory.proofs.PublishedQueue.{SameMembers, rank-sender}
 use Rattle.theory.proofs.PublishedHear.{Incoming, Told, SeenIs, also, News, none-left, again, new, seen-any, seen-again, seen-new, heard-cons, new-ones-again, new-ones-new}
 
 -- the message m of the published program is the frame of the call d
@@ -60,7 +60,7 @@ RankedSent s past sent =
 pub record Waits (s : Setup) (v : ℕ) (m : Message) : Type 0 where
   pub close : m .event .c < s .epsilon
   pub not-ahead : m .event .r < v + s .epsilon
-  pub not-long-due : v < messageDue s m + s .epsilon
+  pub not-long-due : v < messageDue (s .epsilon) (s .delta) m + s .epsilon
 
 -- a station and its process
 pub record Twin (s : Setup) (past : List Done) (sent : List (Option Message)) (i : ℕ) (node : Node) (p : Process) : Type 0 where
@@ -71,7 +71,7 @@ pub record Twin (s : Setup) (past : List Done) (sent : List (Option Message)) (i
   pub queue : SameMembers (s .modulus) (held (s .epsilon) (node .holdback)) (p .buffer)
   pub single : apart sameMessage (p .buffer) ≡ true
   pub waiting : (m : Message) → List·Memᴰ m (p .buffer) → Waits s (node .clock) m
-  pub undue : (m : Message) → List·Memᴰ m (p .buffer) → node .clock < messageDue s m
+  pub undue : (m : Message) → List·Memᴰ m (p .buffer) → node .clock < messageDue (s .epsilon) (s .delta) m
   pub from-received : (m : Message) → List·Memᴰ m (p .buffer) → List·Memᴰ m (p .received)
   pub received : SeenIs sent (heardAt past i) (p .received)
   pub knows :
@@ -88,12 +88,11 @@ pub record Paired (s : Setup) (w : World) (u : Published) : Type 0 where
       → (p : Process) × (getElem? (u .processes) i ≡ some p) × Twin s (w .past) (u .sent) i node p
 
 pub waits-reads : (s : Setup) (v : ℕ) (m : Message) → Limits s → Waits s v m → ReadsTrue (s .epsilon) (s .modulus) v (m .event .r)
-unfolding messageDue
 waits-reads s v m l h =
     near-true (s .epsilon) (s .modulus) v (m .event .r) (l .epsilon-pos) (omega (arith, l .modulus-least)) (h .not-ahead) (omega (arith, l .modulus-least, h))
 
 -- a message that is due later is held until the next clock, at most ε later
-pub waits-next : (s : Setup) (v k : ℕ) (m : Message) → k ≤ s .epsilon → v < messageDue s m → Waits s v m → Waits s (v + k) m
+pub waits-next : (s : Setup) (v k : ℕ) (m : Message) → k ≤ s .epsilon → v < messageDue (s .epsilon) (s .delta) m → Waits s v m → Waits s (v + k) m
 waits-next s v k m few later h = record { close = h .close; not-ahead = omega (arith, h .not-ahead); not-long-due = omega arith }
 
 -- a copy has its sender

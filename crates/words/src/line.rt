@@ -1,6 +1,12 @@
 // The parts of a line, each written at a position where there is room for it; the answer is where it ends.
 use frame::r_of;
 use frame::station_of;
+use setup::BAD_COUNT;
+use setup::BAD_FORM;
+use setup::BAD_RANGE;
+use setup::BAD_STAMP;
+use setup::EARLY;
+use setup::LATE;
 use setup::Setup;
 use text::put_decimal;
 use text::put_field;
@@ -22,7 +28,7 @@ fn put_or_dash(buf: &mut [u8], at: usize, number: u8, x: usize) -> usize
     requires { ⌜ at + length (space ++ orDash number x) ≤ length (now buf) ⌝ }
     ensures { λ r. ⌜ Put (now (buf .entry)) at (space ++ orDash number x) (now (buf .exit)) r ⌝ }
 {
-    if number == 10 {
+    if number == BAD_FORM {
         return put_word(buf, at, b" -");
     }
     put_field(buf, at, b" ", x)
@@ -33,22 +39,22 @@ fn put_rule(buf: &mut [u8], at: usize, number: u8) -> usize
     requires { ⌜ at + length (space ++ ruleWord number) ≤ length (now buf) ⌝ }
     ensures { λ r. ⌜ Put (now (buf .entry)) at (space ++ ruleWord number) (now (buf .exit)) r ⌝ }
 {
-    if number == 10 {
+    if number == BAD_FORM {
         return put_word(buf, at, b" form");
     }
-    if number == 11 {
+    if number == BAD_RANGE {
         return put_word(buf, at, b" range");
     }
-    if number == 12 {
+    if number == BAD_STAMP {
         return put_word(buf, at, b" stamp");
     }
-    if number == 13 {
+    if number == LATE {
         return put_word(buf, at, b" late");
     }
-    if number == 14 {
+    if number == EARLY {
         return put_word(buf, at, b" early");
     }
-    if number == 15 {
+    if number == BAD_COUNT {
         return put_word(buf, at, b" count");
     }
     put_word(buf, at, b" repeat")
@@ -102,19 +108,19 @@ fn limits_of(setup: Setup, number: u8) -> RuleLimits
     let n = setup.n as usize;
     let epsilon = setup.epsilon as usize;
     let delta = setup.delta as usize;
-    if number == 11 {
+    if number == BAD_RANGE {
         return two(n, setup.modulus as usize);
     }
-    if number == 12 {
+    if number == BAD_STAMP {
         return two(n, epsilon - 1);
     }
-    if number == 13 {
+    if number == LATE {
         return one(delta + epsilon);
     }
-    if number == 14 {
+    if number == EARLY {
         return one(epsilon - 1);
     }
-    if number == 15 {
+    if number == BAD_COUNT {
         return one(n - 1);
     }
     RuleLimits {

@@ -12,7 +12,7 @@ use Rattle.lemmas.proofs.Questions.{limits-from}
 use Rattle.holdback.specs.Early.{SoundBy}
 use Rattle.holdback.proofs.RoundTrip.{passing}
 use Rattle.holdback.proofs.Seen.{length-seen}
-use Rattle.holdback.proofs.Searching.{led-inside, led-next, led-passes}
+use Rattle.lemmas.proofs.FrameWalk.{seek-inside, seek-next, seek-passes}
 use Rattle.holdback.proofs.Releasing.{Unmarking, unmarking-starts, unmarking-within, unmarking-there, unmarking-turns, unmarking-long, unmarking-ends}
 use borrow.Author.Needs.{needs}
 use Rattle.holdback.proofs.early.unmark.Statement.{statement}
@@ -37,10 +37,10 @@ more : (c : tie.In-loop Inv-loop μ-loop) → c .before .loop .i < twoAt (c .bef
 more c = omega (arith, c .loop-test .taken, c .before .before .before .before .before .pre .1 .0 .1 .1)
 
 sub-frame-end : tie.Need-sub-frame-end Inv-loop μ-loop
-sub-frame-end c = led-inside (c .before .loop .inv .1 .led) (more c)
+sub-frame-end c = seek-inside (c .before .loop .inv .1 .seek) (more c)
 
 part-frame-end-start : tie.Need-part-frame-end-start Inv-loop μ-loop
-part-frame-end-start c = omega (arith, led-inside (c .before .loop .inv .1 .led) (more c))
+part-frame-end-start c = omega (arith, seek-inside (c .before .loop .inv .1 .seek) (more c))
 
 part-frame-end-end : tie.Need-part-frame-end-end Inv-loop μ-loop
 part-frame-end-end c = search needs
@@ -52,7 +52,7 @@ frame-end-requires : tie.Need-frame-end-requires Inv-loop μ-loop
 frame-end-requires c κs = limits (c .before .before .before .before .before .before) .epsilon-most
 
 add-next : tie.Need-add-next Inv-loop μ-loop
-add-next c = omega (arith, led-next (c .before .before .before .loop .inv .1 .led) (more (c .before .before)) (c .frame-end .ensures))
+add-next c = omega (arith, seek-next (c .before .before .before .loop .inv .1 .seek) (more (c .before .before)) (c .frame-end .ensures))
 
 sub-rank-of : tie.Need-sub-rank-of Inv-loop μ-loop
 sub-rank-of c = omega arith
@@ -61,12 +61,12 @@ part-rank-of-start : tie.Need-part-rank-of-start Inv-loop μ-loop
 part-rank-of-start c = omega arith
 
 part-rank-of-end : tie.Need-part-rank-of-end Inv-loop μ-loop
-part-rank-of-end c = omega (arith, led-next (c .before .before .before .loop .inv .1 .led) (more (c .before .before)) (c .frame-end .ensures))
+part-rank-of-end c = omega (arith, seek-next (c .before .before .before .loop .inv .1 .seek) (more (c .before .before)) (c .frame-end .ensures))
 
 rank-of-requires : tie.Need-rank-of-requires Inv-loop μ-loop
 rank-of-requires c κs =
     let start = c .before .before .before .before .before .before .before .before in
-    let passed = led-passes (c .before .before .before .before .loop .inv .1 .led) (more (c .before .before .before)) (c .before .frame-end .ensures) in
+    let passed = seek-passes (c .before .before .before .before .loop .inv .1 .seek) (more (c .before .before .before)) (c .before .frame-end .ensures) in
     (start .pre .0, passing (setupOf (start .args .s)) _ passed .r-below)
 
 clear-mark-requires : tie.Need-clear-mark-requires Inv-loop μ-loop

@@ -2,7 +2,7 @@
 use borrow.Author.Needs.{needs}
 use native.Mathlib.Omega.{arith}
 use Prim.Native.Nat.{_+_, _-_, _<_}
-use Rattle.model.specs.Frame.{decode}
+use Rattle.model.specs.Frame.{decode, frameEnd}
 use Rattle.model.specs.Order.{before, dueNear}
 use Rattle.model.specs.Judge.{placeFor}
 use Rattle.setup.specs.Views.{setupOf}
@@ -16,12 +16,13 @@ use Rattle.holdback.proofs.Frames.{counts-decoded}
 use Rattle.holdback.specs.Queue.{rankOf}
 use Rattle.holdback.proofs.Testing.{rank-read, fits-passes, ranked, rank-fits, rank-placed, before-rank}
 use Rattle.holdback.proofs.Started.{used-most, place-inside, place-at, starts-long, starts-at, start-leads}
-use Rattle.holdback.proofs.Searching.{Led, led-inside, led-next, led-passes, led-stops, led-turns, led-ends}
+use Rattle.lemmas.proofs.FrameWalk.{Seeking, seek-inside, seek-next, seek-passes, seek-stops, seek-turns, seek-ends}
+use Rattle.holdback.proofs.Searching.{seek-place}
 use Rattle.holdback.proofs.search.place_for.Statement.{statement}
 use Rattle.holdback.proofs.search.place_for.Tie as tie
 
 abbrev Inv-loop : tie.InvT-loop
-Inv-loop s v buf count starts frame reading epsilon rank start i₀ at₀ i at = Led (λ g. before (setupOf s) v g (decode (s .epsilon) frame)) (setupOf s) v (s .modulus) buf count i at
+Inv-loop s v buf count starts frame reading epsilon rank start i₀ at₀ i at = Seeking (frameEnd (s .epsilon)) (decode (s .epsilon)) (passes (setupOf s)) (λ g. before (setupOf s) v g (decode (s .epsilon) frame)) buf 2 count i at
 
 abbrev μ-loop : tie.MeasureT-loop
 μ-loop s v buf count starts frame reading epsilon rank start i₀ at₀ i at = count - i
@@ -84,10 +85,10 @@ loop-holds c =
     start-leads s (start .args .v) (start .args .s .modulus) (start .args .buf .now) (limits start) (start .pre .1 .0 .0) (c .before .rank-place .result) (decode (start .args .s .epsilon) (start .args .frame .now)) (start .pre .1 .0 .1 .0) (start .pre .1 .0 .1 .1) (starts-at s (start .args .v) (start .args .buf .now) (limits start) (start .pre .1 .1 .0) (c .before .rank-place .result) (inside (c .before))) (omega (arith, place (c .before), due-is start))
 
 sub-frame-end : tie.Need-sub-frame-end Inv-loop μ-loop
-sub-frame-end c = led-inside (c .before .loop .inv) (c .loop-test .taken)
+sub-frame-end c = seek-inside (c .before .loop .inv) (c .loop-test .taken)
 
 part-frame-end-start : tie.Need-part-frame-end-start Inv-loop μ-loop
-part-frame-end-start c = omega (arith, led-inside (c .before .loop .inv) (c .loop-test .taken))
+part-frame-end-start c = omega (arith, seek-inside (c .before .loop .inv) (c .loop-test .taken))
 
 part-frame-end-end : tie.Need-part-frame-end-end Inv-loop μ-loop
 part-frame-end-end c = search needs
@@ -96,7 +97,7 @@ frame-end-requires : tie.Need-frame-end-requires Inv-loop μ-loop
 frame-end-requires c κs = limits (c .before .before .before .before .before .before .before .before .before .before) .epsilon-most
 
 add-next : tie.Need-add-next Inv-loop μ-loop
-add-next c = omega (arith, led-next (c .before .before .before .loop .inv) (c .before .before .loop-test .taken) (c .frame-end .ensures))
+add-next c = omega (arith, seek-next (c .before .before .before .loop .inv) (c .before .before .loop-test .taken) (c .frame-end .ensures))
 
 sub-frame-before : tie.Need-sub-frame-before Inv-loop μ-loop
 sub-frame-before c = omega arith
@@ -105,14 +106,14 @@ part-frame-before-start : tie.Need-part-frame-before-start Inv-loop μ-loop
 part-frame-before-start c = omega arith
 
 part-frame-before-end : tie.Need-part-frame-before-end Inv-loop μ-loop
-part-frame-before-end c = omega (arith, led-next (c .before .before .before .loop .inv) (c .before .before .loop-test .taken) (c .frame-end .ensures))
+part-frame-before-end c = omega (arith, seek-next (c .before .before .before .loop .inv) (c .before .before .loop-test .taken) (c .frame-end .ensures))
 
 frame-before-requires : tie.Need-frame-before-requires Inv-loop μ-loop
 frame-before-requires c κs =
     let start = c .before .before .before .before .before .before .before .before .before .before .before .before in
     let read = c .before .before .before .before .before .before .before .rank-at in
     let counts = counts-decoded (start .args .s .epsilon) (start .args .frame .now) refl in
-    let ok = led-passes (c .before .before .before .before .loop .inv) (c .before .before .before .loop-test .taken) (c .before .frame-end .ensures) in
+    let ok = seek-passes (c .before .before .before .before .loop .inv) (c .before .before .before .loop-test .taken) (c .before .frame-end .ensures) in
     (start .pre .0, (ok, ranked (setupOf (start .args .s)) (start .args .v) (start .args .frame .now) _ (read .result) (limits start) (passed start) counts (own-rank (c .before .before .before .before .before .before .before))))
 
 returns : tie.Need-returns Inv-loop μ-loop
@@ -122,7 +123,8 @@ returns c =
     let read = c .before .before .before .before .before .before .before .before .before .rank-at in
     let counts = counts-decoded (start .args .s .epsilon) (start .args .frame .now) refl in
     let tested = before-rank (setupOf (start .args .s)) (start .args .v) _ (decode (start .args .s .epsilon) (start .args .frame .now)) (read .result) _ (own-rank (c .before .before .before .before .before .before .before .before .before)) counts (c .before .frame-before .ensures) in
-    led-stops (c .before .before .before .before .before .before .loop .inv) (c .before .before .before .before .before .loop-test .taken) (c .before .before .before .frame-end .ensures) tested (c .if1 .taken)
+    seek-place (setupOf (start .args .s)) (c .before .before .before .before .before .before .loop .inv) (start .pre .1 .0 .1 .1)
+    (seek-stops (c .before .before .before .before .before .before .loop .inv) (c .before .before .before .before .before .loop-test .taken) (c .before .before .before .frame-end .ensures) tested (c .if1 .taken))
 
 add-i : tie.Need-add-i Inv-loop μ-loop
 add-i c = omega arith
@@ -136,11 +138,13 @@ loop-again c =
     let read = c .before .before .before .before .before .before .before .before .before .rank-at in
     let counts = counts-decoded (start .args .s .epsilon) (start .args .frame .now) refl in
     let tested = before-rank (setupOf (start .args .s)) (start .args .v) _ (decode (start .args .s .epsilon) (start .args .frame .now)) (read .result) _ (own-rank (c .before .before .before .before .before .before .before .before .before)) counts (c .before .frame-before .ensures) in
-    led-turns (c .before .before .before .before .before .before .loop .inv) (c .before .before .before .before .before .loop-test .taken) (c .before .before .before .frame-end .ensures) tested (c .if1 .left)
+    seek-turns (c .before .before .before .before .before .before .loop .inv) (c .before .before .before .before .before .loop-test .taken) (c .before .before .before .frame-end .ensures) tested (c .if1 .left)
 
 returns-2 : tie.Need-returns-2 Inv-loop μ-loop
 unfolding placeFor
-returns-2 c = led-ends (c .before .loop .inv) (c .loop-test .left)
+returns-2 c =
+    let start = c .before .before .before .before .before .before .before .before .before in
+    seek-place (setupOf (start .args .s)) (c .before .loop .inv) (start .pre .1 .0 .1 .1) (seek-ends (c .before .loop .inv) (c .loop-test .left))
 
 pub place-for-spec : {M : Type 1} → statement M
 place-for-spec =

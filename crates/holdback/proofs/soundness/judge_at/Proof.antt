@@ -16,7 +16,8 @@ use Rattle.holdback.specs.declared.keys.Key.{Key}
 use Rattle.holdback.specs.Queue.{bytesAt}
 use Rattle.holdback.specs.Sound.{fits, Walking}
 use Rattle.holdback.proofs.RoundTrip.{Bytes}
-use Rattle.holdback.proofs.Frames.{lent, end-small, bytes-take, bytes-drop}
+use Rattle.lemmas.proofs.FrameWalk.{lent}
+use Rattle.holdback.proofs.Frames.{end-small, bytes-take, bytes-drop}
 use Rattle.holdback.proofs.Walks.{room-there, lent-room, judged-failed, passes-there, next-inside, part-below, rank-small, judged-untimely, fit-of, own-within, slot-low, key-roomy, judged-unordered, table-long, judged-repeated, judged-sound}
 use borrow.Author.Needs.{needs}
 use Rattle.holdback.proofs.soundness.judge_at.Statement.{statement}

@@ -11,7 +11,7 @@ use Rattle.model.specs.Long.{longHeld, longQuestions}
 use Rattle.lemmas.proofs.Bounds.{LongLimits}
 use Rattle.lemmas.proofs.Questions.{long-limits-from}
 use Rattle.lemmas.proofs.LongFrames.{long-passes-formed}
-use Rattle.longqueue.proofs.Standing.{stand-weaker}
+use Rattle.lemmas.proofs.FrameWalk.{stand-weaker}
 use Rattle.longqueue.proofs.Extents.{extent-stands}
 use Rattle.batch.specs.Walk.{countOf, entryAt, nextAt}
 use Rattle.batch.specs.declared.Step.{Step}

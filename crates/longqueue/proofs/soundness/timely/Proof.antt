@@ -59,25 +59,16 @@ returns c =
     let start = c .before .before .before .before .before .before in
     untimely (setupOf (start .args .s)) (start .args .v) (start .args .least) (start .args .frame .now) _ _ (c .before .before .before .r-of .ensures (start .args .s .epsilon)) (lead (c .before)) (c .if1 .taken)
 
-cast-result : tie.Need-cast-result
-cast-result c = search needs
-
-add-result : tie.Need-add-result
-add-result c =
-    let start = c .before .before .before .before .before .before .before in
+sum-due-requires : tie.Need-sum-due-requires
+sum-due-requires c κs =
+    let start = c .before .before .before .before .before .before in
     let limits = long-limits-from (setupOf (start .args .s)) (start .pre .0 .0) in
-    omega (arith, small (c .before .before))
-
-add-result-2 : tie.Need-add-result-2
-add-result-2 c =
-    let start = c .before .before .before .before .before .before .before in
-    let limits = long-limits-from (setupOf (start .args .s)) (start .pre .0 .0) in
-    omega (arith, small (c .before .before))
+    omega (arith, small (c .before), limits .epsilon-most)
 
 returns-2 : tie.Need-returns-2
 returns-2 c =
     let start = c .before .before .before .before .before .before .before in
-    timely-rest (setupOf (start .args .s)) (start .args .v) (start .args .least) (start .args .frame .now) _ _ (c .before .before .before .before .r-of .ensures (start .args .s .epsilon)) (lead (c .before .before)) (c .before .if1 .left)
+    timely-rest (setupOf (start .args .s)) (start .args .v) (start .args .least) (start .args .frame .now) _ _ (c .before .before .before .before .r-of .ensures (start .args .s .epsilon)) (lead (c .before .before)) (c .before .if1 .left) (c .sum-due .ensures)
 
 pub timely-spec : {M : Type 1} → statement M
 timely-spec =
@@ -91,7 +82,5 @@ timely-spec =
     sub-if1
     add-if1
     returns
-    cast-result
-    add-result
-    add-result-2
+    sum-due-requires
     returns-2)
