@@ -12,6 +12,7 @@ pub mod LongOrder
 pub mod Board
 pub mod OneTick
 pub mod OneListening
+pub mod OneCall
 pub mod LongTick
 pub mod NextCall
 pub mod Comparing

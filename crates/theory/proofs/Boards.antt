@@ -2,11 +2,13 @@
 -- Assumes nothing.
 use Prim.Native.Nat.{ℕ, _+_, _-_, _%_}
 use native.Mathlib.Omega.{arith}
-use mathlib.Core.Path.{_≡_, ap, subst, _∙_}
+use mathlib.Core.Path.{_≡_, sym, ap, subst, _∙_}
 use mathlib.Core.Bool.{Bool, true, false, cond}
 use mathlib.Core.List.{List, map, List·Memᴰ}
+use mathlib.Core.Option.{none}
 use borrow.Author.Tests.{eqb-true}
 use Rattle.laws.specs.Lists.{every, overlay}
+use Rattle.laws.proofs.Numbers.{cond-true}
 use Rattle.laws.proofs.Sorted.{Sorted}
 use Rattle.model.specs.Setup.{Setup}
 use Rattle.model.specs.Timestamp.{Timestamp, widened}
@@ -17,10 +19,11 @@ use Rattle.model.specs.Holdback.{heldBytes, held, passes, encodeFrames, encodeH
 use Rattle.model.specs.Judge.{Heard}
 use Rattle.model.specs.Tick.{Output, holdbackSize, openedQueue, earlyOf, heardOf, deliveredOf, keptOf, tick}
 use Rattle.model.specs.Observer.{lastSound, observerLeast, observerOpened, observerHeard, observerDelivered, observerKept, listen}
-use Rattle.model.specs.Run.{Node, Call, inputOf, listeningOf, listenedOutput, isAccepted, outputOf, nodeAfter}
+use Rattle.model.specs.Run.{Node, Call, inputOf, listeningOf, listenedOutput, isAccepted, outputBy, outputOf, nodeAfter}
 use Rattle.lemmas.proofs.Bounds.{FrameOk}
 use Rattle.lemmas.proofs.Queue.{bytes-passed}
 use Rattle.lemmas.proofs.Board.{Board, boardHeard, boardDelivered, boardKept, board-kept, board-held, board-sound, board-frames, board-sorted, board-bytes}
+use Rattle.lemmas.proofs.OneCall.{plain-output}
 use Rattle.lemmas.proofs.OneTick.{accepted-call, tick-board, tables-are, new-r, verdicts-are, delivery-is, holdback-is}
 use Rattle.lemmas.proofs.OneListening.{listen-accepted, listen-board, last-is, listen-verdicts, listen-delivery, listen-holdback}
 use Rattle.theory.proofs.Event.{after-clock}
@@ -72,12 +75,15 @@ shown-listened node call acc =
     }
 
 shown : (s : Setup) (node : Node) (call : Call) {v : ℕ} → Due-call s node call v → Shown (node .listens) s (v % s .modulus) node call (outputOf node call)
-unfolding outputOf
 shown s node call {v} c =
     subst (λ (u : ℕ). Shown (node .listens) s u node call (outputOf node call)) (c .clock-is)
     (subst (λ (t : Setup). Shown (node .listens) t (call .clock) node call (outputOf node call)) (c .setup-is)
-    (go (node .listens) (c .accepted)))
+    (subst (Shown (node .listens) (call .setup) (call .clock) node call) (sym plain)
+    (go (node .listens) (subst (λ (o : Output). isAccepted o ≡ true) plain (c .accepted)))))
   where
+    plain : outputOf node call ≡ outputBy none node call
+    plain = plain-output node call (c .wider-is) (c .spare-is)
+
     go :
         (b : Bool) → isAccepted (cond b (listenedOutput node call (listen (listeningOf node call))) (tick (inputOf node call))) ≡ true
         → Shown b (call .setup) (call .clock) node call (cond b (listenedOutput node call (listen (listeningOf node call))) (tick (inputOf node call)))
@@ -120,16 +126,18 @@ module _ (s : Setup) (node : Node) (call : Call) {v : ℕ} (c : Due-call s node 
       ∙ board-bytes s (v % s .modulus) (leastAt s v node) (askingAt s v node) (node .holdback) (batchEntries (call .batch)) board-at (call .delivery)
 
   -- what it leaves
-  pub leaves-queue : held (s .epsilon) (nodeAfter node (call .step) (outputOf node call) .holdback) ≡ keptOn s v node call
+  leaves-holdback : nodeAfter node (call .step) (outputOf node call) .holdback ≡ encodeHoldback (holdbackSize s) (keptOn s v node call)
   unfolding nodeAfter
+  leaves-holdback = cond-true (outputOf node call .holdback) (node .holdback) (c .accepted) ∙ holdback-here
+
+  pub leaves-queue : held (s .epsilon) (nodeAfter node (call .step) (outputOf node call) .holdback) ≡ keptOn s v node call
   leaves-queue =
-      ap (held (s .epsilon)) holdback-here
+      ap (held (s .epsilon)) leaves-holdback
       ∙ board-held s (v % s .modulus) (leastAt s v node) (askingAt s v node) (node .holdback) (batchEntries (call .batch)) board-at
 
   leaves-passed : every (passes s) (heldBytes (s .epsilon) (nodeAfter node (call .step) (outputOf node call) .holdback)) ≡ true
-  unfolding nodeAfter
   leaves-passed =
-      rw holdback-here
+      rw leaves-holdback
       (bytes-passed s ((v % s .modulus + 0) % s .modulus) (s .modulus + 1 - 0) (encodeHoldback (holdbackSize s) (keptOn s v node call))
       (board-sound s (v % s .modulus) (leastAt s v node) (askingAt s v node) (node .holdback) (batchEntries (call .batch)) board-at 0 (omega arith)))
 

@@ -6,17 +6,20 @@ use native.Mathlib.Nat.{mod-lt}
 use mathlib.Core.Path.{_≡_, refl, sym, ap, ap₂, subst, _∙_}
 use mathlib.Core.Bool.{true}
 use mathlib.Core.List.{List}
+use mathlib.Core.Option.{Option}
 use lib.ListN.{length, take}
 use borrow.Author.Tests.{eqb-true}
 use Rattle.laws.specs.Lists.{overlay}
-use Rattle.laws.proofs.Numbers.{and-right}
+use Rattle.laws.proofs.Numbers.{and-right, cond-false}
 use Rattle.model.specs.Setup.{Setup, width}
 use Rattle.model.specs.Timestamp.{Timestamp, trimmed, widened, countOwn}
 use Rattle.model.specs.Frame.{encode, decode}
 use Rattle.model.specs.Order.{readingOf}
 use Rattle.model.specs.Codec.{frameOf, writeBy}
 use Rattle.model.specs.Tick.{Output, openingStamp, heardStamp, newStamp, sentBytes, tick}
-use Rattle.model.specs.Run.{Node, Call, Done, inputOf, isAccepted, outputOf, doneOf, nodeAfter, movedClock, isEvent, sends, messageBytes, messageFrame}
+use Rattle.model.specs.Schedule.{Wider}
+use Rattle.model.specs.Wider.{widerDecode}
+use Rattle.model.specs.Run.{Node, Call, Done, inputOf, isAccepted, outputOf, doneOf, nodeAfter, movedClock, isEvent, sends, messageBytes, messageFrame, scheduleBy, scheduleOf}
 use Rattle.theory.specs.Demand3.{newTimestamp, written}
 use Rattle.lemmas.proofs.Bounds.{Limits, Sound, FrameOk}
 use Rattle.lemmas.proofs.Questions.{setup-to}
@@ -24,13 +27,13 @@ use Rattle.lemmas.proofs.Counts.{Left, trimmed-widened, trimmed-same}
 use Rattle.lemmas.proofs.RoundTrip.{decode-encode, length-encode}
 use Rattle.lemmas.proofs.Queue.{reading-true}
 use Rattle.theory.proofs.Readers.{written-to}
+use Rattle.lemmas.proofs.OneCall.{plain-output}
 use Rattle.lemmas.proofs.OneTick.{Accepted, accepted-call, tables-are, sent-is, outgoing-is, new-left, new-sound, own-next, sent-bytes}
 use Rattle.theory.proofs.World.{eventFrame, Tables, CallEvent, Due-call, Ticks}
 
 -- a station's call is a tick
 pub output-tick : (s : Setup) (node : Node) (call : Call) {v : ℕ} → Ticks s node call v → outputOf node call ≡ tick (inputOf node call)
-unfolding outputOf
-output-tick s node call c = rw (c .station) refl
+output-tick s node call c = plain-output node call (c .due .wider-is) (c .due .spare-is) ∙ cond-false _ (tick (inputOf node call)) (c .station)
 
 pub accepted-input : (s : Setup) (node : Node) (call : Call) {v : ℕ} → Ticks s node call v → Accepted (inputOf node call)
 unfolding isAccepted
@@ -119,9 +122,9 @@ event-bytes s node call c e =
     ∙ sent-frame s node call c (sends-send node call e))
 
 event-message : (s : Setup) (node : Node) (call : Call) {v : ℕ} → Ticks s node call v → sends (doneOf node call) ≡ true → messageFrame (doneOf node call) ≡ eventFrame s (doneOf node call)
-unfolding messageFrame doneOf
+unfolding messageFrame doneOf scheduleOf widerDecode
 event-message s node call c e =
-    ap (λ (t : Setup). decode (t .epsilon) (messageBytes (doneOf node call))) (c .due .setup-is)
+    ap₂ (λ (w : Option Wider) (t : Setup). widerDecode (scheduleBy w t (call .clock)) (messageBytes (doneOf node call))) (c .due .wider-is) (c .due .setup-is)
     ∙ (ap (decode (s .epsilon)) (event-bytes s node call c e) ∙ decode-encode (s .epsilon) (eventFrame s (doneOf node call)) (event-sound s node call c .wide))
 
 payload-short-at : (s : Setup) (node : Node) (call : Call) {v : ℕ} → Ticks s node call v → length (call .payload) ≤ 32

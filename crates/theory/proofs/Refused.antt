@@ -6,7 +6,7 @@ use mathlib.Core.Path.{_≡_, refl, sym, ap, subst, _∙_}
 use mathlib.Core.Logic.{inl, inr}
 use mathlib.Core.Bool.{Bool, true, false, cond, or-false}
 use mathlib.Core.List.{List, [], _∷_, _++_}
-use mathlib.Core.Option.{some}
+use mathlib.Core.Option.{Option, none, some}
 use lib.Dec.{eqb·suc-zero}
 use lib.ListN.{set, getElem?, length-append}
 use lib.Seq.{set-getD}
@@ -18,31 +18,59 @@ use Rattle.model.specs.Frame.{Frame}
 use Rattle.model.specs.Question.{firstNo}
 use Rattle.model.specs.Tick.{callQuestions, refusal, acceptance, tickBy, tick}
 use Rattle.model.specs.Observer.{listenQuestions, notListened, listened, listenBy, listen}
-use Rattle.model.specs.Run.{Node, Call, Done, World, inputOf, listeningOf, listenedOutput, isAccepted, outputOf, doneOf, nodeAfter, movedClock, act, isEvent}
+use Rattle.model.specs.Schedule.{Schedule, Wider, along}
+use Rattle.model.specs.Wider.{widerAcceptance, widerCallQuestions, widerTickBy, tickIn}
+use Rattle.model.specs.WiderCalls.{listenInQuestions, widerListened, widerListenBy, listenIn}
+use Rattle.model.specs.Run.{Node, Call, Done, World, inputOf, listeningOf, listenedOutput, isAccepted, outputOf, doneOf, nodeAfter, movedClock, act, isEvent, lengthened, outputBy}
 use Rattle.theory.specs.Demand3.{heardIn}
 use Rattle.theory.proofs.HearLoop.{covered-sends}
 use Rattle.theory.proofs.World.{NodeOk, heardAt, Explained, Good, act-is, sends-event, event-accepted, nodesAfter}
 
 -- a refused call leaves its node
 pub refused-node : (node : Node) (call : Call) → isAccepted (outputOf node call) ≡ false → nodeAfter node (call .step) (outputOf node call) ≡ node
-unfolding nodeAfter movedClock outputOf tick listen isAccepted refusal acceptance inputOf notListened listened listeningOf listenedOutput
-refused-node node call h = go (node .listens) h
+unfolding nodeAfter movedClock outputOf lengthened tick listen tickIn listenIn isAccepted refusal acceptance widerAcceptance inputOf notListened listened widerListened listeningOf listenedOutput
+refused-node node call h = go (call .wider) h
   where
-    ticked : (k : ℕ) → isAccepted (tickBy k (inputOf node call)) ≡ false → nodeAfter node (call .step) (tickBy k (inputOf node call)) ≡ node
+    found : Node
+    found = lengthened (call .spare) node
+
+    ticked : (k : ℕ) → isAccepted (tickBy k (inputOf found call)) ≡ false → nodeAfter node (call .step) (tickBy k (inputOf found call)) ≡ node
     ticked zero e = absurd (clash refl e)
     ticked (suc k) e = rw (eqb·suc-zero k) refl
 
+    ticked-in :
+        (g : Schedule) (k : ℕ) → isAccepted (widerTickBy k g (inputOf found call)) ≡ false
+        → nodeAfter node (call .step) (widerTickBy k g (inputOf found call)) ≡ node
+    ticked-in g zero e = absurd (clash refl e)
+    ticked-in g (suc k) e = rw (eqb·suc-zero k) refl
+
     heeded :
-        (k : ℕ) → isAccepted (listenedOutput node call (listenBy k (listeningOf node call))) ≡ false
-        → nodeAfter node (call .step) (listenedOutput node call (listenBy k (listeningOf node call))) ≡ node
+        (k : ℕ) → isAccepted (listenedOutput found call (listenBy k (listeningOf found call))) ≡ false
+        → nodeAfter node (call .step) (listenedOutput found call (listenBy k (listeningOf found call))) ≡ node
     heeded zero e = absurd (clash refl e)
     heeded (suc k) e = rw (eqb·suc-zero k) refl
 
-    go :
-        (b : Bool) → isAccepted (cond b (listenedOutput node call (listen (listeningOf node call))) (tick (inputOf node call))) ≡ false
-        → nodeAfter node (call .step) (cond b (listenedOutput node call (listen (listeningOf node call))) (tick (inputOf node call))) ≡ node
-    go true e = heeded (firstNo (listenQuestions (listeningOf node call))) e
-    go false e = ticked (firstNo (callQuestions (inputOf node call))) e
+    heeded-in :
+        (g : Schedule) (k : ℕ) → isAccepted (listenedOutput found call (widerListenBy k g (listeningOf found call))) ≡ false
+        → nodeAfter node (call .step) (listenedOutput found call (widerListenBy k g (listeningOf found call))) ≡ node
+    heeded-in g zero e = absurd (clash refl e)
+    heeded-in g (suc k) e = rw (eqb·suc-zero k) refl
+
+    plain :
+        (b : Bool) → isAccepted (cond b (listenedOutput found call (listen (listeningOf found call))) (tick (inputOf found call))) ≡ false
+        → nodeAfter node (call .step) (cond b (listenedOutput found call (listen (listeningOf found call))) (tick (inputOf found call))) ≡ node
+    plain true e = heeded (firstNo (listenQuestions (listeningOf found call))) e
+    plain false e = ticked (firstNo (callQuestions (inputOf found call))) e
+
+    both :
+        (w : Wider) (b : Bool) → isAccepted (cond b (listenedOutput found call (listenIn w (listeningOf found call))) (tickIn w (inputOf found call))) ≡ false
+        → nodeAfter node (call .step) (cond b (listenedOutput found call (listenIn w (listeningOf found call))) (tickIn w (inputOf found call))) ≡ node
+    both w true e = heeded-in (along (call .setup) w (call .clock)) (firstNo (listenInQuestions w (listeningOf found call))) e
+    both w false e = ticked-in (along (call .setup) w (call .clock)) (firstNo (widerCallQuestions w (inputOf found call))) e
+
+    go : (w : Option Wider) → isAccepted (outputBy w found call) ≡ false → nodeAfter node (call .step) (outputBy w found call) ≡ node
+    go none e = plain (node .listens) e
+    go (some w) e = both w (node .listens) e
 
 refused-heard : (past : List Done) (d : Done) (i k : ℕ) → isAccepted (d .output) ≡ false → heardAt (past ++ (d ∷ [])) i k ≡ heardAt past i k
 unfolding heardAt any heardIn

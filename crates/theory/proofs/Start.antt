@@ -17,8 +17,9 @@ use Rattle.laws.proofs.Sorted.{pairwise-ext, pairwise-of-apart, apart-index, ap
 use Rattle.model.specs.Setup.{Setup, inLimits, isMember}
 use Rattle.model.specs.Batch.{batchEntries}
 use Rattle.model.specs.Tick.{holdbackSize}
+use Rattle.model.specs.Schedule.{Wider}
 use Rattle.model.specs.Run.{Node, Source, sentBy, stale, Call, Done, World, isAccepted, outputOf, doneOf, movedClock, act, atStart, sends, messageBytes}
-use Rattle.theory.specs.Premises.{sameSetup, together, distinct, validFor, exactHoldback, goodStart, largestClock, staleUntil, heardInTime, entryAllowed, entriesAllowed, oneSetup, trueClock, stepAllowed, hearsAllowed, acceptedWell, allowedFor, allowed}
+use Rattle.theory.specs.Premises.{sameSetup, together, distinct, validFor, exactHoldback, goodStart, largestClock, staleUntil, heardInTime, entryAllowed, entriesAllowed, oneSetup, isPlain, plainCall, trueClock, stepAllowed, hearsAllowed, acceptedWell, allowedFor, allowed}
 use Rattle.lemmas.proofs.Questions.{limits-from}
 use Rattle.lemmas.proofs.Bounds.{Limits}
 use Rattle.theory.proofs.Reach.{isStation}
@@ -124,7 +125,7 @@ unfolding largestClock
 largest-clock nodes i node at = largest-map-mem (λ (x : Node). x .clock) (getElem?-mem nodes i at)
 
 -- one setup
-same-setup : (s t : Setup) → sameSetup s t ≡ true → s ≡ t
+pub same-setup : (s t : Setup) → sameSetup s t ≡ true → s ≡ t
 unfolding sameSetup
 same-setup s t h =
     let h1 = and-right (eqb (s .n) (t .n)) _ h in
@@ -181,15 +182,20 @@ moved : (node : Node) (call : Call) → isAccepted (outputOf node call) ≡ true
 unfolding doneOf movedClock
 moved node call acc = rw acc refl
 
+-- a plain setup has no wider pair
+plain-fact : (w : Option Wider) → isPlain w ≡ true → w ≡ none
+plain-fact none h = refl
+plain-fact (some w) h = absurd (clash h refl)
+
 -- an accepted call that is allowed
 legal-fact :
     (s : Setup) (x floor : ℕ) (w : World) (call : Call) (node : Node) → ((v : ℕ) → v ≤ staleUntil s x → v + s .epsilon ≤ floor)
     → getElem? (w .nodes) (call .node) ≡ some node → isAccepted (outputOf node call) ≡ true → acceptedWell s x w call (doneOf node call) ≡ true → Legal s floor w call node (doneOf node call .clock)
-unfolding acceptedWell oneSetup trueClock stepAllowed within hearsAllowed
+unfolding acceptedWell plainCall oneSetup trueClock stepAllowed within hearsAllowed
 legal-fact s x floor w call node early at acc h =
     record {
       at = at;
-      called = record { accepted = acc; setup-is = setup-fact; own-is = own-fact; clock-is = clock-fact; turn = moved node call acc; step-pos = leb-true 1 (call .step) (and-left (leb 1 (call .step)) (leb (call .step) (s .epsilon)) steps); step-few = leb-true (call .step) (s .epsilon) (and-right (leb 1 (call .step)) (leb (call .step) (s .epsilon)) steps) };
+      called = record { accepted = acc; wider-is = plain-fact (call .wider) (and-left (isPlain (call .wider)) (sameList (call .spare) []) plain); spare-is = sameList-true (call .spare) [] (and-right (isPlain (call .wider)) (sameList (call .spare) []) plain); setup-is = setup-fact; own-is = own-fact; clock-is = clock-fact; turn = moved node call acc; step-pos = leb-true 1 (call .step) (and-left (leb 1 (call .step)) (leb (call .step) (s .epsilon)) steps); step-few = leb-true (call .step) (s .epsilon) (and-right (leb 1 (call .step)) (leb (call .step) (s .epsilon)) steps) };
       together = together-fact (s .epsilon) (act w call .nodes) (and-left (together (s .epsilon) (act w call .nodes)) E h3);
       lengths = entries-lengths s x (w .past) (act w call .nodes) (doneOf node call .clock) (batchEntries (call .batch)) (call .sources) entries;
       entry = λ e bytes o p q.
@@ -209,8 +215,17 @@ legal-fact s x floor w call node early at acc h =
     K : Bool
     K = leb 1 (call .step) && leb (call .step) (s .epsilon)
 
+    P : Bool
+    P = isPlain (call .wider) && sameList (call .spare) []
+
+    plain : P ≡ true
+    plain = and-left P (S && (C && (K && (together (s .epsilon) (act w call .nodes) && E)))) h
+
+    h0 : (S && (C && (K && (together (s .epsilon) (act w call .nodes) && E)))) ≡ true
+    h0 = and-right P (S && (C && (K && (together (s .epsilon) (act w call .nodes) && E)))) h
+
     h1 : (C && (K && (together (s .epsilon) (act w call .nodes) && E))) ≡ true
-    h1 = and-right S (C && (K && (together (s .epsilon) (act w call .nodes) && E))) h
+    h1 = and-right S (C && (K && (together (s .epsilon) (act w call .nodes) && E))) h0
 
     h2 : (K && (together (s .epsilon) (act w call .nodes) && E)) ≡ true
     h2 = and-right C (K && (together (s .epsilon) (act w call .nodes) && E)) h1
@@ -225,7 +240,7 @@ legal-fact s x floor w call node early at acc h =
     steps = and-left K (together (s .epsilon) (act w call .nodes) && E) h2
 
     one : S ≡ true
-    one = and-left S (C && (K && (together (s .epsilon) (act w call .nodes) && E))) h
+    one = and-left S (C && (K && (together (s .epsilon) (act w call .nodes) && E))) h0
 
     setup-fact : call .setup ≡ s
     setup-fact = same-setup (call .setup) s (and-left (sameSetup (call .setup) s) (doneOf node call .listens || eqb (call .own) (doneOf node call .own)) one)

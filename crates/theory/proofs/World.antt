@@ -7,7 +7,7 @@ use mathlib.Core.Path.{_≡_, ap, _∙_}
 use mathlib.Core.Bool.{Bool, true, false, _&&_, _||_, not, cond}
 use mathlib.Core.List.{List, [], _∷_, _++_, map, List·Memᴰ}
 use mathlib.Core.Logic.{_⊎_, inl, inr}
-use mathlib.Core.Option.{Option, some}
+use mathlib.Core.Option.{Option, none, some}
 use lib.Dec.{leb}
 use lib.ListN.{length, take, getD, set, getElem?}
 use Rattle.laws.specs.Lists.{every, any, select, sortBy}
@@ -220,9 +220,11 @@ abbrev pub EntryOk : Setup → ℕ → List Done → List Node → ℕ → List 
 EntryOk s floor past nodes v entry (sentBy k) = SentEntry s past nodes entry k
 EntryOk s floor past nodes v entry stale = v + s .epsilon ≤ floor
 
--- a node's call for v: accepted, of the one setup, and 1 to ε after the node's clock
+-- a node's call for v: accepted, of the one setup, a plain one, and 1 to ε after the node's clock
 pub record Due-call (s : Setup) (node : Node) (call : Call) (v : ℕ) : Type 0 where
   pub accepted : isAccepted (outputOf node call) ≡ true
+  pub wider-is : call .wider ≡ none
+  pub spare-is : call .spare ≡ []
   pub setup-is : call .setup ≡ s
   pub own-is : node .listens ≡ false → call .own ≡ node .own
   pub clock-is : call .clock ≡ v % s .modulus
