@@ -30,7 +30,7 @@ use Rattle.lemmas.proofs.WiderQueue.{QueueAlong, LeftAlong, ordered-alo
 use Rattle.lemmas.proofs.WideFrames.{half-back, FrameWithin}
 
 -- keys with sums and readings k less, and the same counts, are in the same order; where the sums differ, so may the numbers of counts
-lower : (k x x′ a a′ y y′ : ℕ) (m m′ : List ℕ) → (x ≡ x′ → length m ≡ length m′)
+pub lower : (k x x′ a a′ y y′ : ℕ) (m m′ : List ℕ) → (x ≡ x′ → length m ≡ length m′)
     → lexCompare ((x + k) ∷ (m ++ (a ∷ (y + k) ∷ []))) ((x′ + k) ∷ (m′ ++ (a′ ∷ (y′ + k) ∷ [])))
     ≡ lexCompare (x ∷ (m ++ (a ∷ y ∷ []))) (x′ ∷ (m′ ++ (a′ ∷ y′ ∷ [])))
 lower k x x′ a a′ y y′ m m′ same =
@@ -60,7 +60,7 @@ pub record Kept (l l′ : Schedule) (v v′ k : ℕ) (f : Frame) : Type 0 where
   pub compared : comparedAlong l′ (widerReading l′ v′ f + f .stamp .c) ≡ comparedAlong l (widerReading l v f + f .stamp .c)
 
 -- a key by its parts
-abbrev keyWith : ℕ → ℕ → ℕ → ℕ → Frame → List ℕ
+abbrev pub keyWith : ℕ → ℕ → ℕ → ℕ → Frame → List ℕ
 keyWith most half total reading f = total ∷ (countsDownBy most half (f .stamp) ++ (f .station ∷ reading ∷ []))
 
 module _ (l l′ : Schedule) (v v′ k : ℕ) where

@@ -26,3 +26,4 @@ pub mod WiderTick
 pub mod WiderCall
 pub mod NextWider
 pub mod Agreeing
+pub mod Positions

@@ -13,7 +13,7 @@ use Rattle.model.specs.Schedule.{Wider}
 use Rattle.model.specs.Run.{Node, Call, lengthened, isAccepted, outputBy, outputOf}
 
 -- a shelf that is no longer is the one that was left
-lengthened-none : (node : Node) → lengthened [] node ≡ node
+pub lengthened-none : (node : Node) → lengthened [] node ≡ node
 unfolding lengthened
 lengthened-none node =
     ap (λ (l : List ℕ). record { listens = node .listens; own = node .own; clock = node .clock; tables = node .tables; holdback = l })

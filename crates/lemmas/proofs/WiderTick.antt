@@ -77,14 +77,14 @@ module _ (g : Schedule) (good : Good g) where
 -- ---- with what is heard
 
 -- a taken frame goes into the stamp by its own half width; with one pair that is `absorb`
-absorb-taken :
+pub absorb-taken :
     (g : Schedule) (v : ℕ) (f : Frame) (t : Timestamp)
     → widerAbsorbBy g 0 v f t ≡ absorbWide (ownLimits g .epsilon) (frameHalf g f) (modulusOf g) t (widerReading g v f) (f .stamp)
 unfolding absorb absorbWide
 absorb-taken (steady s) v f t = refl
 absorb-taken (widening before after change) v f t = refl
 
-absorb-skipped : (g : Schedule) (k v : ℕ) (f : Frame) (t : Timestamp) → widerAbsorbBy g (suc k) v f t ≡ t
+pub absorb-skipped : (g : Schedule) (k v : ℕ) (f : Frame) (t : Timestamp) → widerAbsorbBy g (suc k) v f t ≡ t
 absorb-skipped (steady s) k v f t = refl
 absorb-skipped (widening before after change) k v f t = refl
 

@@ -13,7 +13,6 @@ use lib.Seq.{set-getD}
 use Rattle.laws.specs.Lists.{any}
 use Rattle.laws.proofs.Numbers.{clash}
 use Rattle.laws.proofs.Lists.{any-append, getElem?-lt, getElem?-getD, getElem?-append, getElem?-snoc-cases}
-use Rattle.model.specs.Setup.{Setup}
 use Rattle.model.specs.Frame.{Frame}
 use Rattle.model.specs.Question.{firstNo}
 use Rattle.model.specs.Tick.{callQuestions, refusal, acceptance, tickBy, tick}
@@ -79,10 +78,10 @@ refused-heard past d i k refused =
 
 -- and adds nothing to what is known
 good-more :
-    (s : Setup) (floor from : ℕ) (w : World) (d : Done) → Good s floor from w → isAccepted (d .output) ≡ false
+    (g : Schedule) (floor from : ℕ) (w : World) (d : Done) → Good g floor from w → isAccepted (d .output) ≡ false
     → (node : Node) × (getElem? (w .nodes) (d .node) ≡ some node) × (node .listens ≡ d .listens)
-    → Good s floor from (record { nodes = w .nodes; past = w .past ++ (d ∷ []) })
-good-more s floor from w d good refused maker =
+    → Good g floor from (record { nodes = w .nodes; past = w .past ++ (d ∷ []) })
+good-more g floor from w d good refused maker =
     record {
       group = good .group;
       node = λ i a at. node-more i a (good .node i a at);
@@ -106,12 +105,12 @@ good-more s floor from w d good refused maker =
     heard-same : (i k : ℕ) → heardAt (w .past ++ (d ∷ [])) i k ≡ heardAt (w .past) i k
     heard-same i k = refused-heard (w .past) d i k refused
 
-    explained : (i v : ℕ) (f : Frame) → Explained s floor (w .past) (heardAt (w .past) i) v f → Explained s floor (w .past ++ (d ∷ [])) (heardAt (w .past ++ (d ∷ [])) i) v f
+    explained : (i v : ℕ) (f : Frame) → Explained g floor (w .past) (heardAt (w .past) i) v f → Explained g floor (w .past ++ (d ∷ [])) (heardAt (w .past ++ (d ∷ [])) i) v f
     explained i v f (inl h) = inl h
     explained i v f (inr x) =
         inr (x .0, x .1, getElem?-append (w .past) (d ∷ []) (x .0) (getElem?-lt (w .past) (x .0) (x .2)) ∙ x .2, x .3, heard-same i (x .0) ∙ x .4, x .5, x .6)
 
-    node-more : (i : ℕ) (a : Node) → NodeOk s floor from w i a → NodeOk s floor from (record { nodes = w .nodes; past = w .past ++ (d ∷ []) }) i a
+    node-more : (i : ℕ) (a : Node) → NodeOk g floor from w i a → NodeOk g floor from (record { nodes = w .nodes; past = w .past ++ (d ∷ []) }) i a
     node-more i a (inl u) =
         inl (record {
           early = u .early;
@@ -130,12 +129,12 @@ good-more s floor from w d good refused maker =
 
 -- a refused call
 pub refused-good :
-    (s : Setup) (floor from : ℕ) (w : World) (call : Call) (node : Node) → Good s floor from w → getElem? (w .nodes) (call .node) ≡ some node
-    → isAccepted (outputOf node call) ≡ false → Good s floor from (act w call)
-refused-good s floor from w call node good at refused =
-    subst (Good s floor from) (sym (act-is w call node at))
-    (subst (λ (l : List Node). Good s floor from (record { nodes = l; past = w .past ++ (doneOf node call ∷ []) })) (sym same-nodes)
-    (good-more s floor from w (doneOf node call) good (unfold doneOf in refused) (node, (unfold doneOf in at), (unfold doneOf in refl))))
+    (g : Schedule) (floor from : ℕ) (w : World) (call : Call) (node : Node) → Good g floor from w → getElem? (w .nodes) (call .node) ≡ some node
+    → isAccepted (outputOf node call) ≡ false → Good g floor from (act w call)
+refused-good g floor from w call node good at refused =
+    subst (Good g floor from) (sym (act-is w call node at))
+    (subst (λ (x : List Node). Good g floor from (record { nodes = x; past = w .past ++ (doneOf node call ∷ []) })) (sym same-nodes)
+    (good-more g floor from w (doneOf node call) good (unfold doneOf in refused) (node, (unfold doneOf in at), (unfold doneOf in refl))))
   where
     same-nodes : nodesAfter (w .nodes) call node ≡ w .nodes
     same-nodes =
