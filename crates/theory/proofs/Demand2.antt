@@ -279,7 +279,7 @@ one-more s x w u call paired ok fresh = go (allowed-fact s x (staleUntil s x + s
         (record {
           called = legal .called;
           along =
-              legal-fresh (steady s) (steady s) (staleUntil s x + s .epsilon) w call node node (doneOf node call .clock) (legal .along)
+              legal-fresh (steady s) (steady s) (staleUntil s x + s .epsilon) w call node node (doneOf node call .clock) (legal .along) (inr (λ memory explained f m. refl))
               (last-sent w call node at (legal .called .accepted) fresh);
         })
         (true-or-false (node .listens))

@@ -3,7 +3,7 @@
 use Prim.Native.Nat.{ℕ, _+_, _*_, _≤_, _<_, Ordering·lt}
 use native.Mathlib.Omega.{arith}
 use native.Mathlib.Numerals.{add-one}
-use mathlib.Core.Path.{_≡_, sym, ap, subst, _∙_}
+use mathlib.Core.Path.{_≡_, refl, sym, ap, subst, _∙_}
 use mathlib.Core.Logic.{_⊎_, inl, inr}
 use mathlib.Core.Bool.{true, false, _||_, cond}
 use mathlib.Core.List.{List, [], _∷_, _++_, map}
@@ -16,20 +16,20 @@ use Rattle.laws.proofs.Lists.{getElem?-lt, getElem?-getD}
 use Rattle.laws.proofs.Lex.{lt-isLess}
 use Rattle.model.specs.Schedule.{Schedule, steady}
 use Rattle.model.specs.Wider.{widerHeldBytes}
-use Rattle.model.proofs.ComputingWider.{computingWider}
 use Rattle.laws.specs.Lex.{lexCompare}
 use Rattle.model.specs.Setup.{Setup}
 use Rattle.model.specs.Run.{Node, sentBy, Call, Done, World, doneOf, act, isAccepted, outputOf, runFrom, atStart, isEvent, messageBytes}
 use Rattle.theory.specs.Premises.{goodStart, largestClock, staleUntil, keeps, allowed, noneStale}
-use Rattle.theory.specs.Demand3.{coveredFrom, covered, isFrom, heardIn, dueClock, dueIn, messageKey, earlier, dueHere, coveredFrame, Promised, Demand3, Demand3Fresh}
-use Rattle.theory.specs.Through.{dueClockAlong, dueInAlong, messageKeyAlong, earlierAlong, dueHereAlong, coveredAlong, PromisedAlong}
+use Rattle.theory.specs.Demand3.{coveredFrom, covered, isFrom, heardIn, Promised, Demand3, Demand3Fresh}
+use Rattle.theory.specs.Through.{messageKeyAlong, earlierAlong, dueHereAlong, coveredAlong, PromisedAlong}
 use Rattle.theory.proofs.HearLoop.{Settles, covered-sends}
 use Rattle.theory.proofs.World.{sends-event, event-accepted, CallEvent, Good, AllKept, AllKinds, eventKey, heardAt}
 use Rattle.lemmas.proofs.Schedules.{Good as GoodSchedule}
+use Rattle.theory.proofs.Along.{steady-along}
 use Rattle.theory.proofs.Writing.{written-along}
 use Rattle.theory.proofs.Plain.{PlainLegal}
 use Rattle.theory.proofs.Stabilize.{Allowed, Legals, run-all}
-use Rattle.theory.proofs.Start.{good-start, largest-clock, allowed-fact}
+use Rattle.theory.proofs.Start.{group-start, good-start, largest-clock, allowed-fact}
 use Rattle.theory.proofs.Fresh.{settles-fresh, fresh-plain, legal-fresh, none-stale-before, last-sent}
 use Rattle.theory.proofs.Chains.{in-take, below-take, leads-less}
 
@@ -48,7 +48,7 @@ early s x v h = omega arith
 starts : (s : Setup) (nodes : List Node) → goodStart s nodes ≡ true → Good (steady s) (rightFrom s (largestClock nodes)) (coveredFrom s (largestClock nodes)) (atStart nodes)
 unfolding rightFrom coveredFrom
 starts s nodes h =
-    good-start s (rightFrom s (largestClock nodes)) (coveredFrom s (largestClock nodes)) nodes h
+    good-start (steady s) (rightFrom s (largestClock nodes)) (coveredFrom s (largestClock nodes)) nodes (group-start s nodes h)
     (λ i node at. omega (arith, largest-clock nodes i node at))
 
 -- a call that is allowed, with one setup
@@ -88,7 +88,7 @@ legals-fresh s x (call ∷ calls) w h none-old = (
       inr (
         steady s,
         node,
-        legal-fresh (steady s) (steady s) (rightFrom s x) w call node node (doneOf node call .clock) (legal .along)
+        legal-fresh (steady s) (steady s) (rightFrom s x) w call node node (doneOf node call .clock) (legal .along) (inr (λ memory explained f m. refl))
             (last-sent w call node at (legal .called .accepted) (none-stale-before calls (act w call) none-old)),
       ),
     )
@@ -152,16 +152,12 @@ run-promises g floor from right nodes calls good legal =
     promises g from (runFrom (atStart nodes) calls .nodes) (runFrom (atStart nodes) calls .past) (r .1) (r .0 .kinds)
     (λ j d at made. let mk = r .0 .calls j d at made .maker in r .0 .group .limits (d .node) (mk .node) (mk .at))
 
--- with one setup throughout the promises are those of demand 3, word for word
-pub promised-steady : (s : Setup) (from : ℕ) (past : List Done) → PromisedAlong (steady s) from past → Promised s from past
-unfolding computingWider dueClockAlong dueInAlong messageKeyAlong earlierAlong dueHereAlong coveredAlong dueClock dueIn messageKey earlier dueHere coveredFrame
-promised-steady s from past p = record { sending = p .sending; hearing = p .hearing; delivering = p .delivering; causality = p .causality }
-
+-- with one setup
 run-plain :
     (s : Setup) (floor from : ℕ) (right : Settles (steady s) floor from) (nodes : List Node) (calls : List Call) → Good (steady s) floor from (atStart nodes)
     → Legals (steady s) floor from right (atStart nodes) calls → Promised s from (runFrom (atStart nodes) calls .past)
 run-plain s floor from right nodes calls good legal =
-    promised-steady s from (runFrom (atStart nodes) calls .past) (run-promises (steady s) floor from right nodes calls good legal)
+    steady-along s from (runFrom (atStart nodes) calls .past) (run-promises (steady s) floor from right nodes calls good legal)
 
 pub demand3 : Demand3
 demand3 s nodes calls start kept =

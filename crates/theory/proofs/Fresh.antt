@@ -3,7 +3,7 @@
 use Prim.Native.Nat.{ℕ, _+_, _%_, _≤_}
 use native.Mathlib.Omega.{arith}
 use mathlib.Core.Path.{_≡_, refl, sym, ap, ap₂, subst, _∙_}
-use mathlib.Core.Logic.{inl, inr}
+use mathlib.Core.Logic.{_⊎_, inl, inr}
 use mathlib.Core.Bool.{Bool, true, false, _&&_, _||_, not, cond}
 use mathlib.Core.List.{List, [], _∷_, _++_, List·Memᴰ, List·Memᴰ·not-nil}
 use mathlib.Core.Option.{Option, none, some}
@@ -15,7 +15,7 @@ use Rattle.laws.proofs.Numbers.{eq-or-ne, clash, and-intro, and-left, and-right
 use Rattle.laws.proofs.Lists.{countOf, index-of-mem, every-mem, every-append-left, every-append-right, sameList-true, mem-select, getElem?-mem, getElem?-lt}
 use Rattle.model.specs.Setup.{Setup, width}
 use Rattle.model.specs.Timestamp.{Timestamp, countAt, trimmed, fresh, replaced, countOwn}
-use Rattle.model.specs.Frame.{Frame, twoBytes, twoAt}
+use Rattle.model.specs.Frame.{twoBytes, twoAt}
 use Rattle.model.specs.Holdback.{encodeFrames}
 use Rattle.model.specs.Schedule.{Schedule, steady, limitsAt}
 use Rattle.model.specs.Run.{Node, Source, sentBy, stale, Call, Done, World, isAccepted, outputOf, doneOf, act, actOn, runFrom, atStart}
@@ -24,7 +24,7 @@ use Rattle.lemmas.proofs.Bounds.{Limits}
 use Rattle.lemmas.proofs.Counts.{opened-replaced, fresh-own, fresh-left, replaced-count}
 use Rattle.lemmas.proofs.Schedules.{Good as GoodSchedule, limits-good, limits-modulus}
 use Rattle.lemmas.proofs.Positions.{placed-none}
-use Rattle.theory.proofs.World.{Memory, Tables, reached, Bounded, heardAt, Explained, Group, Good, Legal, EntryOk, act-is}
+use Rattle.theory.proofs.World.{Memory, Tables, reached, Bounded, heardAt, Untouched, AsWide, Group, Good, Legal, EntryOk, act-is}
 use Rattle.theory.proofs.Stamps.{own-elsewhere, own-there}
 use Rattle.theory.proofs.HearLoop.{Settles}
 use Rattle.theory.proofs.Start.{group-start, exact-start}
@@ -59,7 +59,7 @@ pub record FreshNode (s : Setup) (node : Node) : Type 0 where
   pub last : node .tables .r ≡ node .clock % s .modulus
   pub empty : twoAt (node .holdback) 0 ≡ 0
 
-fresh-node : (s : Setup) (node : Node) → isFresh s node ≡ true → FreshNode s node
+pub fresh-node : (s : Setup) (node : Node) → isFresh s node ≡ true → FreshNode s node
 unfolding isFresh
 fresh-node s node h =
     let right = cond (node .listens) (eqb (node .tables .r) (node .clock % s .modulus)) (sameTimestamp (trimmed (s .epsilon) (node .tables)) (fresh (s .epsilon) (node .clock % s .modulus))) in
@@ -186,19 +186,14 @@ unfolding isSent
 sent-entry g floor past nodes v bytes (sentBy k) h entry = entry
 sent-entry g floor past nodes v bytes stale h entry = absurd (clash h refl)
 
--- what is explained with no clock left out is so with some
-explained-below : (g : Schedule) (floor : ℕ) (past : List Done) (heard : ℕ → Bool) (v : ℕ) (f : Frame) → Explained g 0 past heard v f → Explained g floor past heard v f
-explained-below g floor past heard v f (inl h) = inl (omega arith)
-explained-below g floor past heard v f (inr x) = inr x
-
 pub legal-fresh :
-    (g l : Schedule) (floor : ℕ) (w : World) (call : Call) (node found : Node) (v : ℕ) → Legal g l floor w call node found v → every isSent (call .sources) ≡ true
-    → Legal g l 0 w call node found v
-legal-fresh g l floor w call node found v legal all-sent =
+    (g l : Schedule) (floor : ℕ) (w : World) (call : Call) (node found : Node) (v : ℕ) → Legal g l floor w call node found v
+    → Untouched g 0 w (call .node) node ⊎ AsWide g l 0 w (call .node) node → every isSent (call .sources) ≡ true → Legal g l 0 w call node found v
+legal-fresh g l floor w call node found v legal widths all-sent =
     record {
       at = legal .at;
       called = legal .called;
-      widths = λ memory explained. legal .widths memory (λ f m. explained-below g floor (w .past) (heardAt (w .past) (call .node)) (node .clock) f (explained f m));
+      widths = widths;
       together = legal .together;
       lengths = legal .lengths;
       entry = λ e bytes o at o-at.

@@ -36,6 +36,9 @@ pub mod PublishedStart
 pub mod Demand2
 pub mod LongClocks
 pub mod OneProgram
+pub mod Along
 pub mod Demand3
+pub mod Changeover
+pub mod Through
 pub mod WiderAny
 pub mod WiderReaders

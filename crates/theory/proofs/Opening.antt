@@ -5,7 +5,7 @@ use Prim.Native.Nat.{ℕ, _+_, _-_, _*_, _%_, _≤_, _<_}
 use native.Mathlib.Omega.{arith}
 use native.Mathlib.Nat.{mod-lt}
 use mathlib.Core.Path.{_≡_, sym, ap, ap₂, subst, _∙_}
-use mathlib.Core.Logic.{inl, inr}
+use mathlib.Core.Logic.{_⊎_, inl, inr}
 use mathlib.Core.Bool.{Bool, true, false, cond}
 use mathlib.Core.List.{List, [], _++_, append-assoc, List·Memᴰ}
 use lib.ListN.{length}
@@ -28,7 +28,7 @@ use Rattle.lemmas.proofs.WiderTick.{opening-stamp-along}
 use Rattle.lemmas.proofs.Positions.{placeAt, reads, place-kept, placed-bytes, placed-held}
 use Rattle.theory.proofs.Stamps.{early-bounded, step-bounded, under-step}
 use Rattle.theory.proofs.Outputs.{found-listens, found-tables, found-holdback}
-use Rattle.theory.proofs.World.{eventFrame, heardAt, Explained, AllExplained, Bounded, Under, leastBy, leastAt, openedAt, OpensQueue, OpensStamp, Memory, Tables, LeftStamp, LeftAt, Untouched, NodeOk, Called}
+use Rattle.theory.proofs.World.{eventFrame, Explained, Bounded, Under, leastBy, leastAt, openedAt, OpensQueue, OpensStamp, Memory, Tables, LeftStamp, LeftAt, Untouched, NodeOk, AsWide, Called}
 
 -- what a call left is sound for the clock of the next, for a step of 1 to ε, and is opened as it is
 module _ (g l : Schedule) (node found : Node) (call : Call) (v : ℕ) (good : GoodSchedule g) (good-l : GoodSchedule l) (c : Called g l node found call v) (memory : Memory g node) where
@@ -191,12 +191,11 @@ module _ (g l : Schedule) (floor from : ℕ) (w : World) (node found : Node) (ca
             )
 
     pub node-opens :
-        NodeOk g floor from w (call .node) node
-        → ((memory : Memory g node) → AllExplained g floor (w .past) (heardAt (w .past) (call .node)) (node .clock) (memory .queue) → (f : Frame)
-        → List·Memᴰ f (memory .queue) → frameHalf l f ≡ frameHalf g f)
+        NodeOk g floor from w (call .node) node → Untouched g floor w (call .node) node ⊎ AsWide g l floor w (call .node) node
         → OpensQueue g floor from w (call .node) (node .clock) v (openedAt l v found)
-    node-opens (inl old) widths = untouched-opens old
-    node-opens (inr left) widths =
+    node-opens ok (inl old) = untouched-opens old
+    node-opens (inl old) (inr widths) = untouched-opens old
+    node-opens (inr left) (inr widths) =
         subst (OpensQueue g floor from w (call .node) (node .clock) v)
         (sym (opens-shelf g l node found call v good good-l c (left .memory) (λ station. left .stamp station .tables) (widths (left .memory) (left .members))))
         (left-opens left)

@@ -17,7 +17,7 @@ use Rattle.laws.proofs.Sorted.{pairwise-ext, pairwise-of-apart, apart-index, ap
 use Rattle.model.specs.Setup.{Setup, inLimits, isMember, holdbackLength}
 use Rattle.model.specs.Batch.{batchEntries}
 use Rattle.model.specs.Tick.{holdbackSize}
-use Rattle.model.specs.Schedule.{Wider, steady}
+use Rattle.model.specs.Schedule.{Schedule, steady, widestOf, Wider}
 use Rattle.model.specs.Run.{Node, Source, sentBy, stale, Call, Done, World, isAccepted, outputOf, doneOf, movedClock, act, atStart, sends, messageBytes}
 use Rattle.theory.specs.Premises.{sameSetup, together, distinct, validFor, exactHoldback, goodStart, largestClock, staleUntil, heardInTime, entryAllowed, entriesAllowed, oneSetup, isPlain, plainCall, trueClock, stepAllowed, hearsAllowed, acceptedWell, allowedFor, allowed}
 use Rattle.lemmas.proofs.Questions.{limits-from}
@@ -36,7 +36,7 @@ together-fact epsilon nodes h i j a b p q =
 abbrev sameStation : Node → Node → Bool
 sameStation a b = not (a .listens) && (not (b .listens) && eqb (a .own) (b .own))
 
-distinct-fact :
+pub distinct-fact :
     (nodes : List Node) → distinct nodes ≡ true → (i j : ℕ) (a b : Node) → getElem? nodes i ≡ some a → getElem? nodes j ≡ some b
     → a .listens ≡ false → b .listens ≡ false → a .own ≡ b .own → i ≡ j
 unfolding distinct
@@ -56,7 +56,7 @@ distinct-fact nodes h i j a b p q x y o =
         clash same (rw (getElem?-getD nodes i a p, getElem?-getD nodes j a q) at e)
 
 -- no more stations than n
-stations-few :
+pub stations-few :
     (s : Setup) (nodes : List Node) → distinct nodes ≡ true → ((node : Node) → List·Memᴰ node nodes → node .listens ≡ false → node .own < s .n)
     → countOf isStation nodes ≤ s .n
 unfolding distinct countOf
@@ -114,13 +114,13 @@ exact-start s nodes h node mem =
 
 -- a start at which no node has passed the bounds
 pub good-start :
-    (s : Setup) (floor from : ℕ) (nodes : List Node) → goodStart s nodes ≡ true
-    → ((i : ℕ) (node : Node) → getElem? nodes i ≡ some node → node .clock + s .epsilon + s .epsilon ≤ floor)
-    → Good (steady s) floor from (atStart nodes)
+    (g : Schedule) (floor from : ℕ) (nodes : List Node) → Group g nodes
+    → ((i : ℕ) (node : Node) → getElem? nodes i ≡ some node → node .clock + widestOf g .epsilon + widestOf g .epsilon ≤ floor)
+    → Good g floor from (atStart nodes)
 unfolding atStart heardAt any
-good-start s floor from nodes h early =
+good-start g floor from nodes group early =
     record {
-      group = group-start s nodes h;
+      group = group;
       node = λ i node at. inl (record { early = early i node at; unheard = λ k. refl; uncalled = λ k d at′. absurd (nothing k d at′) });
       calls = λ k d at. absurd (nothing k d at);
       unique = λ k l a b p. absurd (nothing k a p);
@@ -210,7 +210,7 @@ legal-fact s x floor w call node early at acc h =
           record {
             at = at;
             called = called-plain s node call due;
-            widths = λ memory explained f m. refl;
+            widths = inr (λ memory explained f m. refl);
             together = together-fact (s .epsilon) (act w call .nodes) (and-left (together (s .epsilon) (act w call .nodes)) E h3);
             lengths = entries-lengths s x (w .past) (act w call .nodes) (doneOf node call .clock) (batchEntries (call .batch)) (call .sources) entries;
             entry = λ e bytes o p q.

@@ -265,14 +265,18 @@ pub record Ticks (s : Setup) (node : Node) (call : Call) (v : ℕ) : Type 0 wher
   pub due : Due-call s node call v
   pub station : node .listens ≡ false
 
+-- a call with the schedule l takes the frames that the call before left for as wide as they are
+abbrev pub AsWide : Schedule → Schedule → ℕ → World → ℕ → Node → Type 0
+AsWide g l floor w i node =
+    (memory : Memory g node) → AllExplained g floor (w .past) (heardAt (w .past) i) (node .clock) (memory .queue) → (f : Frame)
+    → List·Memᴰ f (memory .queue) → frameHalf l f ≡ frameHalf g f
+
 -- an accepted call of a node that keeps the premises
 pub record Legal (g l : Schedule) (floor : ℕ) (w : World) (call : Call) (node found : Node) (v : ℕ) : Type 0 where
   pub at : getElem? (w .nodes) (call .node) ≡ some node
   pub called : Called g l node found call v
-  -- it takes the frames that the call before left for as wide as they are
-  pub widths :
-      (memory : Memory g node) → AllExplained g floor (w .past) (heardAt (w .past) (call .node)) (node .clock) (memory .queue) → (f : Frame)
-      → List·Memᴰ f (memory .queue) → frameHalf l f ≡ frameHalf g f
+  -- its first one, or one that opens what the call before left
+  pub widths : Untouched g floor w (call .node) node ⊎ AsWide g l floor w (call .node) node
   pub together :
       (i j : ℕ) (a b : Node) → getElem? (act w call .nodes) i ≡ some a → getElem? (act w call .nodes) j ≡ some b
       → a .clock ≤ b .clock + limitsAt g (b .clock) .epsilon
