@@ -34,5 +34,7 @@ pub mod Demand2
 pub mod LongClocks
 pub mod OneProgram
 pub mod Demand3
+pub mod Along
+pub mod Changeover
 pub mod WiderAny
 pub mod WiderReaders
