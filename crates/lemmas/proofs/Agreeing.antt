@@ -119,85 +119,55 @@ agrees-new before after change v good far =
 
 -- ---- the delay
 
--- a message of r, heard when its sender's clock S is at most δ past r by the limits of r, and v at most ε past S by those of S: r is at most δ + ε
--- behind v, by the limits of v, and the message is not due before v, whatever its c
+-- sent at r, heard in a call for v, while its sender's clock is S, both clocks after the call: by the limits of v, and not past its due clock
+module _ (before after : Setup) (change v S r : ℕ) (good : Widens before after) (sent : r ≤ S) where
+  abbrev side : ℕ → Setup
+  side x = limitsAt (widening before after change) x
+
+  -- the limits of a clock, as numbers
+  data Side (x e d : ℕ) : Type 0 where
+    early : x < change → e ≡ before .epsilon → d ≡ before .delta → Side x e d
+    late : change ≤ x → e ≡ after .epsilon → d ≡ after .delta → Side x e d
+
+  side-of : (x : ℕ) → Side x (side x .epsilon) (side x .delta)
+  side-of x = go (side x) (limits-by before after change x)
+    where
+      go : (s : Setup) → LimitsBy before after change x s → Side x (s .epsilon) (s .delta)
+      go s (narrow h e) = early h (ap (λ (u : Setup). u .epsilon) e) (ap (λ (u : Setup). u .delta) e)
+      go s (wide h e) = late h (ap (λ (u : Setup). u .epsilon) e) (ap (λ (u : Setup). u .delta) e)
+
+  heard-by : S ≤ r + side r .delta → v ≤ S + side S .epsilon → v ≤ r + side v .delta + side v .epsilon
+  heard-by = go (side-of r) (side-of S) (side-of v)
+    where
+      go :
+          {re rd Se Sd ve vd : ℕ} → Side r re rd → Side S Se Sd → Side v ve vd → S ≤ r + rd → v ≤ S + Se → v ≤ r + vd + ve
+      go (early a b c) (early a′ b′ c′) (early a″ b″ c″) near ahead = omega arith
+      go (early a b c) (early a′ b′ c′) (late a″ b″ c″) near ahead = omega (arith, good .epsilon, good .delta)
+      go (early a b c) (late a′ b′ c′) (early a″ b″ c″) near ahead = omega arith
+      go (early a b c) (late a′ b′ c′) (late a″ b″ c″) near ahead = omega (arith, good .delta)
+      go (late a b c) (early a′ b′ c′) s near ahead = absurd (omega (arith, sent))
+      go (late a b c) (late a′ b′ c′) (early a″ b″ c″) near ahead = omega arith
+      go (late a b c) (late a′ b′ c′) (late a″ b″ c″) near ahead = omega arith
+
+  heard-due : (c : ℕ) → S ≤ r + side r .delta → v ≤ S + side S .epsilon → v ≤ dueAlong (widening before after change) (r + c)
+  heard-due c = go (side-of r) (side-of S) (due-by before after change (r + c))
+    where
+      go :
+          {re rd Se Sd due : ℕ} → Side r re rd → Side S Se Sd → DueBy before after change (r + c) due → S ≤ r + rd → v ≤ S + Se → v ≤ due
+      go (early a b d) (early a′ b′ d′) (old h e) near ahead = omega arith
+      go (early a b d) (early a′ b′ d′) (new h e) near ahead = omega (arith, good .epsilon, good .delta)
+      go (early a b d) (late a′ b′ d′) (old h e) near ahead = absurd (omega arith)
+      go (early a b d) (late a′ b′ d′) (new h e) near ahead = omega (arith, good .delta)
+      go (late a b d) (early a′ b′ d′) l near ahead = absurd (omega (arith, sent))
+      go (late a b d) (late a′ b′ d′) (old h e) near ahead = absurd (omega arith)
+      go (late a b d) (late a′ b′ d′) (new h e) near ahead = omega arith
+
+-- along any schedule: r is at most δ + ε behind v, by the limits of v, and the message is not due before v, whatever its c
 pub heard-late :
     (g : Schedule) → Good g → (r S v c : ℕ) → r ≤ S → S ≤ r + limitsAt g r .delta → v ≤ S + limitsAt g S .epsilon
     → (v ≤ r + limitsAt g v .delta + limitsAt g v .epsilon) × (v ≤ dueAlong g (r + c))
 heard-late (steady s) good r S v c sent near-by drift = (omega arith, omega arith)
-heard-late (widening before after change) good r S v c sent near-by drift =
-    go _ _ _ _ (limits-by before after change r) (limits-by before after change S) (limits-by before after change v) (due-by before after change (r + c)) near-by drift
-  where
-    delta : {a b : Setup} → a ≡ b → a .delta ≡ b .delta
-    delta e = ap (λ (s : Setup). s .delta) e
-
-    epsilon : {a b : Setup} → a ≡ b → a .epsilon ≡ b .epsilon
-    epsilon e = ap (λ (s : Setup). s .epsilon) e
-
-    go :
-        (a b s : Setup) (due : ℕ) → LimitsBy before after change r a → LimitsBy before after change S b → LimitsBy before after change v s
-        → DueBy before after change (r + c) due → S ≤ r + a .delta → v ≤ S + b .epsilon → (v ≤ r + s .delta + s .epsilon) × (v ≤ due)
-    go a b s due (narrow p i) (narrow q j) (narrow t k) (old u l) h m = (
-      omega (arith, delta i, epsilon j, delta k, epsilon k, good .epsilon, good .delta),
-      omega (arith, delta i, epsilon j, good .epsilon, good .delta),
-    )
-    go a b s due (narrow p i) (narrow q j) (narrow t k) (new u l) h m = (
-      omega (arith, delta i, epsilon j, delta k, epsilon k, good .epsilon, good .delta),
-      omega (arith, delta i, epsilon j, good .epsilon, good .delta),
-    )
-    go a b s due (narrow p i) (narrow q j) (wide t k) (old u l) h m = (
-      omega (arith, delta i, epsilon j, delta k, epsilon k, good .epsilon, good .delta),
-      omega (arith, delta i, epsilon j, good .epsilon, good .delta),
-    )
-    go a b s due (narrow p i) (narrow q j) (wide t k) (new u l) h m = (
-      omega (arith, delta i, epsilon j, delta k, epsilon k, good .epsilon, good .delta),
-      omega (arith, delta i, epsilon j, good .epsilon, good .delta),
-    )
-    go a b s due (narrow p i) (wide q j) (narrow t k) (old u l) h m = (
-      omega (arith, delta i, epsilon j, delta k, epsilon k, good .epsilon, good .delta),
-      omega (arith, delta i, epsilon j, good .epsilon, good .delta),
-    )
-    go a b s due (narrow p i) (wide q j) (narrow t k) (new u l) h m = (
-      omega (arith, delta i, epsilon j, delta k, epsilon k, good .epsilon, good .delta),
-      omega (arith, delta i, epsilon j, good .epsilon, good .delta),
-    )
-    go a b s due (narrow p i) (wide q j) (wide t k) (old u l) h m = (
-      omega (arith, delta i, epsilon j, delta k, epsilon k, good .epsilon, good .delta),
-      omega (arith, delta i, epsilon j, good .epsilon, good .delta),
-    )
-    go a b s due (narrow p i) (wide q j) (wide t k) (new u l) h m = (
-      omega (arith, delta i, epsilon j, delta k, epsilon k, good .epsilon, good .delta),
-      omega (arith, delta i, epsilon j, good .epsilon, good .delta),
-    )
-    go a b s due (wide p i) (narrow q j) (narrow t k) (old u l) h m = (
-      omega (arith, delta i, epsilon j, delta k, epsilon k, good .epsilon, good .delta),
-      omega (arith, delta i, epsilon j, good .epsilon, good .delta),
-    )
-    go a b s due (wide p i) (narrow q j) (narrow t k) (new u l) h m = (
-      omega (arith, delta i, epsilon j, delta k, epsilon k, good .epsilon, good .delta),
-      omega (arith, delta i, epsilon j, good .epsilon, good .delta),
-    )
-    go a b s due (wide p i) (narrow q j) (wide t k) (old u l) h m = (
-      omega (arith, delta i, epsilon j, delta k, epsilon k, good .epsilon, good .delta),
-      omega (arith, delta i, epsilon j, good .epsilon, good .delta),
-    )
-    go a b s due (wide p i) (narrow q j) (wide t k) (new u l) h m = (
-      omega (arith, delta i, epsilon j, delta k, epsilon k, good .epsilon, good .delta),
-      omega (arith, delta i, epsilon j, good .epsilon, good .delta),
-    )
-    go a b s due (wide p i) (wide q j) (narrow t k) (old u l) h m = (
-      omega (arith, delta i, epsilon j, delta k, epsilon k, good .epsilon, good .delta),
-      omega (arith, delta i, epsilon j, good .epsilon, good .delta),
-    )
-    go a b s due (wide p i) (wide q j) (narrow t k) (new u l) h m = (
-      omega (arith, delta i, epsilon j, delta k, epsilon k, good .epsilon, good .delta),
-      omega (arith, delta i, epsilon j, good .epsilon, good .delta),
-    )
-    go a b s due (wide p i) (wide q j) (wide t k) (old u l) h m = (
-      omega (arith, delta i, epsilon j, delta k, epsilon k, good .epsilon, good .delta),
-      omega (arith, delta i, epsilon j, good .epsilon, good .delta),
-    )
-    go a b s due (wide p i) (wide q j) (wide t k) (new u l) h m = (
-      omega (arith, delta i, epsilon j, delta k, epsilon k, good .epsilon, good .delta),
-      omega (arith, delta i, epsilon j, good .epsilon, good .delta),
-    )
+heard-late (widening before after change) good r S v c sent near-by drift = (
+  heard-by before after change v S r good sent near-by drift,
+  heard-due before after change v S r good sent c near-by drift,
+)
