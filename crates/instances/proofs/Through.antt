@@ -9,11 +9,13 @@ use mathlib.Core.Option.{Option, none, some}
 use lib.ListN.{length, take, getD, getElem?}
 use Rattle.laws.specs.Lists.{select, chained}
 use Rattle.model.specs.Wider.{widerHeldBytes}
-use Rattle.model.specs.Run.{Done, atStart}
+use Rattle.laws.proofs.Numbers.{and-left, and-right}
+use Rattle.model.specs.Run.{Done, atStart, runFrom}
 use Rattle.theory.specs.Premises.{largestClock, noneStale}
 use Rattle.theory.specs.Demand3.{coveredFrom, covered}
 use Rattle.theory.specs.Changeover.{alongAll, frozenUntil, keepsThrough, startsThrough, freshThrough}
-use Rattle.theory.specs.Through.{coveredAlong, earlierAlong}
+use Rattle.theory.specs.Through.{coveredAlong, earlierAlong, PromisedAlong}
+use Rattle.theory.proofs.Through.{demand3-through, demand3-fresh-through}
 use Rattle.violations.specs.Tests.{sendingAlong, hearingAlong, deliveringAlong}
 use Rattle.violations.specs.Through.{season, damagedSeason, damagedPhases, damagedTurns, freshSeason, freshPhases, freshTurns, seasonCalls, seasonPast}
 use Rattle.violations.proofs.Telling.{telling}
@@ -155,6 +157,13 @@ pub damaged-delivers :
 unfolding telling
 damaged-delivers = refl
 
+-- so demand 3 holds of this list
+pub damaged-promised :
+    PromisedAlong (alongAll season) (coveredFrom (season .after) (largestClock damagedSeason))
+    (runFrom (atStart damagedSeason) (seasonCalls damagedPhases damagedSeason damagedTurns) .past)
+damaged-promised =
+    demand3-through season damagedSeason damagedPhases (seasonCalls damagedPhases damagedSeason damagedTurns) damaged-start damaged-keeps
+
 -- ---- from fresh nodes
 
 abbrev freshPast : List Done
@@ -226,3 +235,10 @@ pub fresh-delivers :
     ≡ (64 ∷ []) ∷ (65 ∷ []) ∷ (66 ∷ 67 ∷ []) ∷ (68 ∷ []) ∷ (69 ∷ []) ∷ (70 ∷ []) ∷ []
 unfolding telling
 fresh-delivers = refl
+
+-- so demand 3 holds of this list for every message
+pub fresh-promised : PromisedAlong (alongAll season) 0 (runFrom (atStart freshSeason) (seasonCalls freshPhases freshSeason freshTurns) .past)
+fresh-promised =
+    demand3-fresh-through season freshSeason freshPhases (seasonCalls freshPhases freshSeason freshTurns)
+    (and-left (startsThrough season freshPhases freshSeason) (freshThrough season freshSeason) fresh-start)
+    (and-right (startsThrough season freshPhases freshSeason) (freshThrough season freshSeason) fresh-start) fresh-keeps fresh-none-stale

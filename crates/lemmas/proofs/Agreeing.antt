@@ -39,11 +39,6 @@ module _ (g : Schedule) (v : ℕ) (l : Schedule) (agrees : Agrees g v l) (y T : 
         let e = agrees .due y (omega arith) (omega arith) ∙ ap (dueAlong (movedBy (modulusOf l) g)) there in
         omega arith
 
-    pub compared-agrees : comparedAlong l y ≡ comparedAlong g T
-    compared-agrees =
-        let there : y + v ≡ T + modulusOf l = omega arith in
-        agrees .compared y (omega arith) (omega arith) ∙ (ap (comparedAlong (movedBy (modulusOf l) g)) there ∙ compared-moved (modulusOf l) g T)
-
 -- the width of every clock is one of the two
 pub limits-half : (g : Schedule) (x : ℕ) → Half g (limitsAt g x .epsilon)
 limits-half (steady s) x = refl
