@@ -2,15 +2,16 @@
 -- Assumes nothing.
 use Prim.Native.Nat.{ℕ, _+_, _*_, _%_, _≤_, _<_}
 use native.Mathlib.Omega.{arith}
-use mathlib.Core.Path.{_≡_}
+use mathlib.Core.Path.{_≡_, ap}
 use mathlib.Core.Logic.{inl, inr}
 use Rattle.laws.proofs.Numbers.{lt-or-ge}
+use Rattle.model.specs.Setup.{Setup}
 use Rattle.model.specs.Frame.{Frame}
 use Rattle.model.specs.Schedule.{Schedule, steady, widening, limitsAt, modulusOf, dueAlong}
 use Rattle.model.specs.Wider.{widerReading}
 use Rattle.lemmas.proofs.Schedules.{Good, DueBy, old, new, due-by, limits-good, limits-modulus, limits-grow, due-window}
 use Rattle.lemmas.proofs.Agreeing.{Agrees, due-agrees}
-use Rattle.lemmas.proofs.Positions.{placeAt, reads}
+use Rattle.lemmas.proofs.Positions.{placeAt, Seen, reads}
 
 -- of a frame whose place at v is that of its true clock R, and whose sum lies in the window of v, the call reads the due clock so too
 pub due-reads :
@@ -19,6 +20,16 @@ pub due-reads :
     → dueAlong l (widerReading l (v % modulusOf l) f + f .stamp .c) + v ≡ modulusOf l + dueAlong g (R + f .stamp .c)
 due-reads g l v agrees R f e hi lo =
     due-agrees g v l agrees (widerReading l (v % modulusOf l) f + f .stamp .c) (R + f .stamp .c) (omega (arith, reads g l v agrees f, e, agrees .modulus)) hi lo
+
+-- so of a frame in the window of the call
+pub due-seen :
+    (g l : Schedule) (v : ℕ) → (agrees : Agrees g v l) → (R : ℕ) (f : Frame) → placeAt g v f ≡ modulusOf g + R → Seen g l (v % modulusOf l) f
+    → dueAlong l (widerReading l (v % modulusOf l) f + f .stamp .c) + v ≡ modulusOf l + dueAlong g (R + f .stamp .c)
+due-seen g l v agrees R f stands seen =
+    let here = reads g l v agrees f in
+    let epsilon = ap (λ (s : Setup). s .epsilon) (agrees .own) in
+    let delta = ap (λ (s : Setup). s .delta) (agrees .own) in
+    due-reads g l v agrees R f stands (omega (arith, seen .hi, stands, here, agrees .modulus, epsilon)) (omega (arith, seen .lo, stands, here, agrees .modulus, epsilon, delta))
 
 -- a sum is due past itself
 pub due-after : (g : Schedule) → Good g → (x : ℕ) → x < dueAlong g x
@@ -31,7 +42,7 @@ due-after (widening before after change) good x = go (due-by before after change
 
 module _ (g : Schedule) (good : Good g) (last v : ℕ) (before : last ≤ v) (step : v ≤ last + limitsAt g v .epsilon) where
   -- what is not yet due at the clock before a call for v has its sum in the window of v
-  pub due-near : (x : ℕ) → last < dueAlong g x → v < x + limitsAt g v .delta + 2 * limitsAt g v .epsilon
+  due-near : (x : ℕ) → last < dueAlong g x → v < x + limitsAt g v .delta + 2 * limitsAt g v .epsilon
   due-near x un =
       let h : last + 1 ≤ x + limitsAt g v .delta + limitsAt g v .epsilon =
       due-window g good v (last + 1) x (omega arith) (omega arith) in

@@ -21,13 +21,13 @@ use Rattle.model.specs.Wider.{widerReading, widerDue, widerDueNow, widerHeardSt
 use Rattle.model.specs.Run.{Node, Call, Done, World, inputOf, isAccepted, outputOf, doneOf, nodeAfter, act, isEvent}
 use Rattle.theory.specs.Demand3.{covered, heardIn, isFrom}
 use Rattle.lemmas.proofs.Schedules.{limits-good}
-use Rattle.lemmas.proofs.Positions.{reads, seen-in}
+use Rattle.lemmas.proofs.Positions.{seen-in}
 use Rattle.theory.proofs.Event.{done-clock, after-clock, event-stamp, event-made, leaves-tables, tables-left, event-own}
 use Rattle.theory.proofs.Boards.{heardOn, keptOn, memory-left}
 use Rattle.theory.proofs.Entries.{from-entry}
 use Rattle.theory.proofs.Reach.{isStation, reached-grows, reached-gains}
 use Rattle.theory.proofs.Stamps.{bounded-grows, own-bounded}
-use Rattle.theory.proofs.Due.{due-reads}
+use Rattle.theory.proofs.Due.{due-seen}
 use Rattle.theory.proofs.HearLoop.{some-inj, covered-sends}
 use Rattle.theory.proofs.World.{AllWaiting, Memory, LeftStamp, LeftAt, eventFrame, eventDue, reached, Bounded, Under, heardAt, Explained, AllExplained, CallEvent, Maker, Settled, Passed-on, NodeOk, Group, AllKinds, Good, Legal, act-is, event-kind, event-of, nodesAfter, after-at, after-other, after-together}
 use Rattle.theory.proofs.Promises.{Ends, waiting-reads}
@@ -303,24 +303,7 @@ module _ (g l : Schedule) (floor from : ℕ) (w : World) (call : Call) (node fou
       (λ e. omega (
         arith,
         un,
-        due-reads g l v (legal .called .agrees) (m .clock) f stands
-            (omega (
-              arith,
-              seen .hi,
-              stands,
-              reads g l v (legal .called .agrees) f,
-              legal .called .agrees .modulus,
-              ap (λ (s : Setup). s .epsilon) (legal .called .agrees .own),
-            ))
-            (omega (
-              arith,
-              seen .lo,
-              stands,
-              reads g l v (legal .called .agrees) f,
-              legal .called .agrees .modulus,
-              ap (λ (s : Setup). s .epsilon) (legal .called .agrees .own),
-              ap (λ (s : Setup). s .delta) (legal .called .agrees .own),
-            )),
+        due-seen g l v (legal .called .agrees) (m .clock) f stands seen,
       ))
 
   waiting′ : AllWaiting g from past′ (heardAt past′ (call .node)) v (keptOn l v found call)

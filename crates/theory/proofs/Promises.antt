@@ -14,13 +14,12 @@ use borrow.Author.Tests.{lt-ltb, le-ltb, eq-eqb}
 use Rattle.laws.specs.Lists.{any, select, sortBy, foldLeft}
 use Rattle.laws.specs.Lex.{lexCompare}
 use Rattle.laws.proofs.Numbers.{eq-or-ne, lt-or-ge, or-left, or-cases, not-of-false}
-use Rattle.laws.proofs.Lists.{every-mem, getElem?-in, getElem?-lt, getElem?-getD, mem-select, mem-of-select}
+use Rattle.laws.proofs.Lists.{getElem?-in, getElem?-lt, getElem?-getD, mem-select, mem-of-select}
 use Rattle.laws.proofs.Lex.{lex-trans}
 use Rattle.laws.proofs.Sorted.{sorted-rekey}
 use Rattle.model.specs.Setup.{Setup, width}
 use Rattle.model.specs.Timestamp.{Timestamp, countAt, sum, countOwn}
 use Rattle.model.specs.Frame.{Frame}
-use Rattle.model.specs.Holdback.{notEarly}
 use Rattle.model.specs.Batch.{batchEntries}
 use Rattle.model.specs.Question.{firstNo}
 use Rattle.model.specs.Judge.{Asking, Heard, absorbEach}
@@ -30,14 +29,13 @@ use Rattle.model.specs.Run.{Node, Source, sentBy, stale, Call, Done, World, inp
 use Rattle.theory.specs.Premises.{clockAt}
 use Rattle.theory.specs.Demand3.{covered, isFrom}
 use Rattle.theory.specs.Through.{earlierAlong, dueHereAlong, coveredAlong}
-use Rattle.lemmas.proofs.Queue.{early-from}
-use Rattle.lemmas.proofs.Schedules.{Good as GoodSchedule, limits-good, limits-modulus, limits-grow}
+use Rattle.lemmas.proofs.Schedules.{Good as GoodSchedule, limits-good, limits-grow}
 use Rattle.lemmas.proofs.WideFrames.{half-back}
 use Rattle.lemmas.proofs.WiderQueue.{QueueAlong, opening-along, rest-along, before-along, now-along}
 use Rattle.lemmas.proofs.WiderBoard.{BoardAlong}
 use Rattle.lemmas.proofs.WiderTick.{opening-stamp-along}
 use Rattle.lemmas.proofs.Agreeing.{limits-half, heard-late}
-use Rattle.lemmas.proofs.Positions.{placeAt, placedKey, Seen, reads, seen-in, seen-order}
+use Rattle.lemmas.proofs.Positions.{placeAt, placedKey, Seen, seen-in, seen-order}
 use Rattle.theory.proofs.Outputs.{found-listens}
 use Rattle.theory.proofs.Cause.{cause-first}
 use Rattle.theory.proofs.Event.{done-clock, after-clock, event-made, event-own, event-reads}
@@ -45,7 +43,7 @@ use Rattle.theory.proofs.Boards.{heardOn, deliveredOn, board-at, delive
 use Rattle.theory.proofs.Reach.{reached-some, reached-not-all}
 use Rattle.theory.proofs.Stamps.{own-under, own-strict}
 use Rattle.theory.proofs.HearLoop.{Settles, Arrival, Entry, Around, Unreached, QueueLoop, StampLoop, TakesOnce, judged-once, observed-once, queue-one, stamp-takes, stamp-one, covered-sends, some-inj}
-use Rattle.theory.proofs.Due.{due-reads, due-near, due-window-reads}
+use Rattle.theory.proofs.Due.{due-seen, due-window-reads}
 use Rattle.theory.proofs.Delivery.{Delivers, delivery}
 use Rattle.theory.proofs.World.{eventFrame, eventDue, askingBy, askingAt, leastAt, openedAt, earlyAt, eventKey, Bounded, Under, heardAt, explained-more, CallEvent, Settled, Passed-on, Good, Legal, SentEntry, Kept, act-is, sends-event, event-kind, nodesAfter, after-at, after-other, after-together, OpensQueue, OpensStamp}
 use Rattle.theory.proofs.Opening.{node-opens, node-opens-stamp}
@@ -218,51 +216,20 @@ module _ (g l : Schedule) (floor from : ℕ) (settles : Settles g floor from) (w
   opened-sound : QueueAlong l u (leastAt l v found) (openedAt l v found)
   opened-sound = opening-along l (board .good) u (leastAt l v found) (found .holdback)
 
-  -- a covered message on the queue has its due clock, as the node reads it: its sum lies in the window of v
-  due-waits :
-      (least : ℕ) (queue : List Frame) → QueueAlong l u least queue → (k : ℕ) (m : Done) → List·Memᴰ (eventFrame g m) queue → getElem? (w .past) k ≡ some m
-      → covered from m ≡ true → node .clock < eventDue g m
-      → dueAlong l (widerReading l u (eventFrame g m) + eventFrame g m .stamp .c) + v ≡ modulusOf l + eventDue g m
-  due-waits least queue ok k m there at fol un =
-      let f : Frame = eventFrame g m in
-      let stands = waiting-reads g l floor from w call node found v good legal k m at (covered-sends from m fol) un in
-      due-reads g l v (legal .called .agrees) (m .clock) f stands
-      (omega (
-        arith,
-        early-from (ownLimits l) u f (every-mem (notEarly (ownLimits l) u) (ok .early) there),
-        stands,
-        reads g l v (legal .called .agrees) f,
-        legal .called .agrees .modulus,
-        limits-modulus l (board .good) (modulusOf l),
-        ap (λ (s : Setup). s .epsilon) (legal .called .agrees .own),
-        limits-good g limits-g v .epsilon-pos,
-      ))
-      (due-near g limits-g (node .clock) v (omega (arith, legal .called .turn)) (omega (arith, legal .called .turn, legal .called .step-few)) (m .clock + f .stamp .c) un)
-
-  -- so is that of any frame there that is a message of the true clock R
+  -- a frame on a queue that is a message of the true clock R has its due clock as the node reads it
   due-there :
       (least : ℕ) (queue : List Frame) → modulusOf l + 1 ≤ least + ownLimits l .epsilon → QueueAlong l u least queue → (f : Frame) (R : ℕ) → List·Memᴰ f queue
       → placeAt g v f ≡ modulusOf g + R → dueAlong l (widerReading l u f + f .stamp .c) + v ≡ modulusOf l + dueAlong g (R + f .stamp .c)
   due-there least queue far ok f R there stands =
-      let seen = seen-in g l v (legal .called .agrees) least queue (board .good) far ok f there in
-      due-reads g l v (legal .called .agrees) R f stands
-      (omega (
-        arith,
-        seen .hi,
-        stands,
-        reads g l v (legal .called .agrees) f,
-        legal .called .agrees .modulus,
-        ap (λ (s : Setup). s .epsilon) (legal .called .agrees .own),
-      ))
-      (omega (
-        arith,
-        seen .lo,
-        stands,
-        reads g l v (legal .called .agrees) f,
-        legal .called .agrees .modulus,
-        ap (λ (s : Setup). s .epsilon) (legal .called .agrees .own),
-        ap (λ (s : Setup). s .delta) (legal .called .agrees .own),
-      ))
+      due-seen g l v (legal .called .agrees) R f stands (seen-in g l v (legal .called .agrees) least queue (board .good) far ok f there)
+
+  -- so has a covered message that is due past the clock before the call
+  due-waits :
+      (least : ℕ) (queue : List Frame) → modulusOf l + 1 ≤ least + ownLimits l .epsilon → QueueAlong l u least queue → (k : ℕ) (m : Done)
+      → List·Memᴰ (eventFrame g m) queue → getElem? (w .past) k ≡ some m → covered from m ≡ true → node .clock < eventDue g m
+      → dueAlong l (widerReading l u (eventFrame g m) + eventFrame g m .stamp .c) + v ≡ modulusOf l + eventDue g m
+  due-waits least queue far ok k m there at fol un =
+      due-there least queue far ok (eventFrame g m) (m .clock) there (waiting-reads g l floor from w call node found v good legal k m at (covered-sends from m fol) un)
 
   queue-start : QueueAt 0
   unfolding stateAt widerHear foldLeft any widerDueBefore widerDue sum
@@ -278,7 +245,7 @@ module _ (g l : Schedule) (floor from : ℕ) (settles : Settles g floor from) (w
             mem-select (λ b. not (widerDueBefore l u b)) there
             (not-of-false
             (le-ltb (dueAlong l (widerReading l u (eventFrame g m) + eventFrame g m .stamp .c)) (modulusOf l)
-            (omega (arith, due-waits (leastAt l v found) (openedAt l v found) opened-sound k m there at fol un′, un))));
+            (omega (arith, due-waits (leastAt l v found) (openedAt l v found) (board .near) opened-sound k m there at fol un′, un))));
       }
 
   pub queue-at : (e : ℕ) → e ≤ length (batchEntries (call .batch)) → QueueAt e
@@ -398,14 +365,14 @@ module _ (g l : Schedule) (floor from : ℕ) (settles : Settles g floor from) (w
                   (mem-select (widerDueBefore l u) there
                   (unfold widerDueBefore widerDue sum in
                   (lt-ltb (dueAlong l (widerReading l u (eventFrame g m) + eventFrame g m .stamp .c)) (modulusOf l)
-                  (omega (arith, due-waits (leastAt l v found) (openedAt l v found) opened-sound k m there at fol lo)))))
+                  (omega (arith, due-waits (leastAt l v found) (openedAt l v found) (board .near) opened-sound k m there at fol lo)))))
               | inr q ↦
                   let there = queue-end .present k m at fol hd q in
                   Memᴰ·append-right (earlyAt l v found)
                   (mem-select (widerDueNow l u) there
                   (unfold widerDueNow widerDue sum in
                   (eq-eqb (dueAlong l (widerReading l u (eventFrame g m) + eventFrame g m .stamp .c)) (modulusOf l)
-                  (omega (arith, due-waits (modulusOf l) (heardOn l v found call .queue) heard-sound k m there at fol lo)))))
+                  (omega (arith, due-waits (modulusOf l) (heardOn l v found call .queue) now-far heard-sound k m there at fol lo)))))
             ];
       }
     where
