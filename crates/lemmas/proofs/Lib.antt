@@ -13,6 +13,7 @@ pub mod LongOrder
 pub mod Board
 pub mod OneTick
 pub mod OneListening
+pub mod OneCall
 pub mod LongTick
 pub mod NextCall
 pub mod Comparing
@@ -26,3 +27,4 @@ pub mod WiderTick
 pub mod WiderCall
 pub mod NextWider
 pub mod Agreeing
+pub mod Positions

@@ -28,7 +28,7 @@ use Rattle.model.specs.Tick.{openingQueue, dueBefore, dueNow, holdbackSize}
 use Rattle.lemmas.proofs.Bounds.{Limits, FrameOk, QueueOk}
 use Rattle.lemmas.proofs.Reading.{near-true, near-high, near-later, near-injective}
 use Rattle.lemmas.proofs.Counts.{length-down}
-use Rattle.lemmas.proofs.RoundTrip.{decode-encode, none-no, frame-passes, frame-passed, passes-encode, passes-decode, length-held, held-encode, held-frames}
+use Rattle.lemmas.proofs.RoundTrip.{none-no, frame-passed, passes-encode, passes-decode, length-held, held-encode, held-frames}
 
 -- the tests of a frame's time, as facts
 pub early-from : (s : Setup) (v : ℕ) (f : Frame) → notEarly s v f ≡ true → readingOf s v f + f .stamp .c ≤ s .modulus + (s .epsilon - 1)
@@ -148,61 +148,6 @@ observed-passed s v queue bytes limits e =
     let q = frame-passed s bytes (observerPlaceQuestions s v queue f) limits e in
     let t = passed-times s v f (askRepeat queue f ∷ []) (q .1) in
     record { frame = q .0; late = t .0; early = t .1; new = passed-new queue f [] (t .2) }
-
--- and the other way round
-pub passed-judged :
-    (s : Setup) (v : ℕ) (queue : List Frame) (f : Frame) → Passed s v queue f
-    → atMost (s .n - 1) (countsFrom (s .epsilon) (readingOf s v f) (f .stamp .kn) (s .modulus)) ≡ true
-    → firstNo (judgeQuestions s v queue (encode f)) ≡ 0
-unfolding judgeQuestions placeQuestions askLate askEarly askCounts askRepeat firstNo
-passed-judged s v queue f p counts =
-    let d = decode-encode (s .epsilon) f (p .frame .sound .wide) in
-    rw (
-      frame-passes s f (placeQuestions s v queue (decode (s .epsilon) (encode f))) (p .frame),
-      d,
-      le-leb (s .modulus) (readingOf s v f + (s .delta + s .epsilon)) (p .late),
-      p .early,
-      counts,
-      p .new,
-    )
-
-pub passed-observed : (s : Setup) (v : ℕ) (queue : List Frame) (f : Frame) → Passed s v queue f → firstNo (observerQuestions s v queue (encode f)) ≡ 0
-unfolding observerQuestions observerPlaceQuestions askLate askEarly askRepeat firstNo
-passed-observed s v queue f p =
-    let d = decode-encode (s .epsilon) f (p .frame .sound .wide) in
-    rw (
-      frame-passes s f (observerPlaceQuestions s v queue (decode (s .epsilon) (encode f))) (p .frame),
-      d,
-      le-leb (s .modulus) (readingOf s v f + (s .delta + s .epsilon)) (p .late),
-      p .early,
-      p .new,
-    )
-
--- a frame that passes all but 16
-pub repeat-judged : (s : Setup) (v : ℕ) (queue : List Frame) (f : Frame) → FrameOk s f → s .modulus ≤ readingOf s v f + (s .delta + s .epsilon) → notEarly s v f ≡ true → atMost (s .n - 1) (countsFrom (s .epsilon) (readingOf s v f) (f .stamp .kn) (s .modulus)) ≡ true → any (sameOrigin f) queue ≡ true → firstNo (judgeQuestions s v queue (encode f)) ≡ 16
-unfolding judgeQuestions placeQuestions askLate askEarly askCounts askRepeat firstNo
-repeat-judged s v queue f ok late early counts old =
-    let d = decode-encode (s .epsilon) f (ok .sound .wide) in
-    rw (
-      frame-passes s f (placeQuestions s v queue (decode (s .epsilon) (encode f))) ok,
-      d,
-      le-leb (s .modulus) (readingOf s v f + (s .delta + s .epsilon)) late,
-      early,
-      counts,
-      old,
-    )
-
-pub repeat-observed : (s : Setup) (v : ℕ) (queue : List Frame) (f : Frame) → FrameOk s f → s .modulus ≤ readingOf s v f + (s .delta + s .epsilon) → notEarly s v f ≡ true → any (sameOrigin f) queue ≡ true → firstNo (observerQuestions s v queue (encode f)) ≡ 16
-unfolding observerQuestions observerPlaceQuestions askLate askEarly askRepeat firstNo
-repeat-observed s v queue f ok late early old =
-    let d = decode-encode (s .epsilon) f (ok .sound .wide) in
-    rw (
-      frame-passes s f (observerPlaceQuestions s v queue (decode (s .epsilon) (encode f))) ok,
-      d,
-      le-leb (s .modulus) (readingOf s v f + (s .delta + s .epsilon)) late,
-      early,
-      old,
-    )
 
 -- the order of a queue is that of its keys
 ordered-sorted : (s : Setup) (v : ℕ) (queue : List Frame) → chained (before s v) queue ≡ true → Sorted (keyNear s v) queue
@@ -417,21 +362,6 @@ pub record QueueLeft (s : Setup) (v k : ℕ) (queue : List Frame) : Type 0 where
   pub early : (f : Frame) → List·Memᴰ f queue → readingOf s v f + f .stamp .c + k ≤ s .modulus + (s .epsilon - 1)
   pub later : (f : Frame) → List·Memᴰ f queue → s .modulus < readingOf s v f + f .stamp .c + s .delta + s .epsilon + k
 
-pub left-none : (s : Setup) (v k : ℕ) → QueueLeft s v k []
-unfolding chained apart
-left-none s v k =
-    record {
-      frames = λ f m. absurd (List·Memᴰ·not-nil m);
-      ordered = refl;
-      single = refl;
-      early = λ f m. absurd (List·Memᴰ·not-nil m);
-      later = λ f m. absurd (List·Memᴰ·not-nil m);
-    }
-
-pub left-due : (s : Setup) (v k : ℕ) (queue : List Frame) → QueueLeft s v k queue → (f : Frame) → List·Memᴰ f queue → s .modulus < dueNear s v f + k
-unfolding dueNear due sum
-left-due s v k queue left f m = left .later f m
-
 -- what a tick leaves: the queue without what is due
 pub queue-left : (s : Setup) (v : ℕ) (queue : List Frame) → QueueOk s v (s .modulus) queue → QueueLeft s v 0 (select (λ f. not (dueNow s v f)) queue)
 queue-left s v queue ok =
@@ -506,11 +436,6 @@ unfolding soundHoldback
 bytes-sound s v least bytes few passed ok =
     and-intro (le-leb (twoAt bytes 0) (depth (s .n) (s .epsilon) (s .delta)) (omega (arith, length-held (s .epsilon) bytes, few)))
     (and-intro passed (and-intro (ok .ordered) (and-intro (ok .single) (and-intro (ok .early) (ok .overdue)))))
-
-pub bytes-passed : (s : Setup) (v least : ℕ) (bytes : List ℕ) → soundHoldback s v least bytes ≡ true → every (passes s) (heldBytes (s .epsilon) bytes) ≡ true
-unfolding soundHoldback
-bytes-passed s v least bytes h =
-    and-left (every (passes s) (heldBytes (s .epsilon) bytes)) _ (and-right (leb (twoAt bytes 0) (depth (s .n) (s .epsilon) (s .delta))) _ h)
 
 -- the frames of a queue in a buffer, with anything behind them
 pub frames-sound : (s : Setup) (v least : ℕ) (queue : List Frame) (rest : List ℕ) → Limits s → length queue ≤ depth (s .n) (s .epsilon) (s .delta) → QueueOk s v least queue → soundHoldback s v least (encodeFrames queue ++ rest) ≡ true

@@ -132,11 +132,11 @@ pub accepted-in : (w : Wider) (i : Input) → tickIn w i .answer .number ≡ 0 �
 accepted-in w i h = passes-both w i (tick-in-passes w i h)
 
 -- the least due clock that a last clock at most ε before v allows lies less than ε before v
-least-any : (B most k : ℕ) (sound : Bool) → 1 ≤ most → most ≤ B → (sound ≡ true → k ≤ most) → B + 1 ≤ leastAt B sound k + most
+pub least-any : (B most k : ℕ) (sound : Bool) → 1 ≤ most → most ≤ B → (sound ≡ true → k ≤ most) → B + 1 ≤ leastAt B sound k + most
 least-any B most k true pos small few = omega (arith, few refl)
 least-any B most k false pos small few = omega arith
 
-own-small : (g : Schedule) → Good g → ownLimits g .epsilon ≤ modulusOf g
+pub own-small : (g : Schedule) → Good g → ownLimits g .epsilon ≤ modulusOf g
 own-small g good =
     let limits = limits-good g good (modulusOf g) in
     omega (arith, limits .modulus-least, limits-modulus g good (modulusOf g))

@@ -10,7 +10,7 @@ use mathlib.Core.List.{List, [], _∷_, _++_, List·Memᴰ, List·Memᴰ·not-ni
 use lib.Dec.{leb, ltb, eqb}
 use lib.ListN.{length, drop}
 use lib.Seq.{drop-at}
-use borrow.Author.Tests.{le-leb, leb-true, ltb-true, ltb-false, eqb-true, eqb-false}
+use borrow.Author.Tests.{le-leb, le-ltb, leb-true, ltb-true, ltb-false, eqb-true, eqb-false}
 use Rattle.laws.specs.Lists.{any, every, chained, apart, select, insertAt}
 use Rattle.laws.proofs.Numbers.{lt-or-ge, clash, and-intro, and-left, and-right, false-of-not}
 use Rattle.laws.proofs.Lists.{length-tab, every-mem, every-of-mem, every-map, every-insertAt, any-false, mem-of-insertAt, mem-of-select}
@@ -30,7 +30,7 @@ use Rattle.lemmas.proofs.Reading.{near-injective}
 use Rattle.lemmas.proofs.RoundTrip.{none-no}
 use Rattle.lemmas.proofs.Queue.{early-from, early-to, reading-high, origin-to, origin-sym, passed-new}
 use Rattle.lemmas.proofs.Schedules.{Good, limits-good, limits-modulus, limits-n, limits-widest, widest-good, widest-modulus, due-grows, due-window, Gap, due-gap}
-use Rattle.lemmas.proofs.WideFrames.{HasWidth, FrameWithin, within-passed, wide-passes, passes-wide, wide-held-bytes, wide-held, length-wide-held}
+use Rattle.lemmas.proofs.WideFrames.{HasWidth, FrameWithin, within-passes, within-passed, wide-decode, wide-passes, passes-wide, wide-held-bytes, wide-held, length-wide-held}
 
 -- a queue that is sound for the modular clock v, with the least due clock that is allowed
 pub record QueueAlong (g : Schedule) (v least : ℕ) (queue : List Frame) : Type 0 where
@@ -174,6 +174,47 @@ module _ (g : Schedule) (good : Good g) (v : ℕ) (queue : List Frame) (bytes : 
       let t = passed-front (askRepeat queue heardFrame ∷ []) e in
       t .0 (passed-new queue heardFrame [] (t .1))
 
+-- and the other way round
+late-passes :
+    (g : Schedule) (v : ℕ) (f : Frame) (qs : List Question) → modulusOf g ≤ widerReading g v f + (ownLimits g .delta + ownLimits g .epsilon)
+    → modulusOf g ≤ dueAlong g (widerReading g v f + f .stamp .c) → firstNo (widerAskLate g v f ∷ qs) ≡ firstNo qs
+unfolding askLate notLateAlong widerDueBefore widerDue sum firstNo
+late-passes (steady s) v f qs late due = rw (le-leb (s .modulus) (readingOf s v f + (s .delta + s .epsilon)) late)
+late-passes (widening before after change) v f qs late due =
+    let g : Schedule = widening before after change in
+    rw (
+      le-leb (modulusOf g) (widerReading g v f + (ownLimits g .delta + ownLimits g .epsilon)) late,
+      le-ltb (dueAlong g (widerReading g v f + f .stamp .c)) (modulusOf g) due,
+    )
+
+-- 16 alone is left
+repeat-left : (shelved : Bool) → _≡_ {A = ℕ} (cond (not shelved) 0 16) (cond shelved 16 0)
+repeat-left true = refl
+repeat-left false = refl
+
+-- a frame that passes 10 to 14: its verdict, where it passes 15 too; and an observer's
+module _ (g : Schedule) (v : ℕ) (queue : List Frame) (f : Frame) (ok : FrameWithin g (ownLimits g) f)
+    (late : modulusOf g ≤ widerReading g v f + (ownLimits g .delta + ownLimits g .epsilon))
+    (due : modulusOf g ≤ dueAlong g (widerReading g v f + f .stamp .c)) (early : notEarly (ownLimits g) v f ≡ true)
+  where
+    pub along-judged :
+        atMost (ownLimits g .n - 1) (countsFrom (frameHalf g f) (widerReading g v f) (f .stamp .kn) (modulusOf g)) ≡ true
+        → firstNo (widerQuestions g v queue (encode f)) ≡ cond (any (sameOrigin f) queue) 16 0
+    unfolding widerQuestions widerFrameQuestions widerPlaceQuestions widerAskCounts askEarly askRepeat firstNo
+    along-judged counts =
+        within-passes g (ownLimits g) f (widerPlaceQuestions g v queue (widerDecode g (encode f))) ok
+        ∙ (ap (λ (x : Frame). firstNo (widerPlaceQuestions g v queue x)) (wide-decode g f (ok .wide))
+        ∙ (late-passes g v f (askEarly (ownLimits g) v f ∷ widerAskCounts g v f ∷ askRepeat queue f ∷ []) late due
+        ∙ rw (early, counts) (repeat-left (any (sameOrigin f) queue))))
+
+    pub along-observed : firstNo (widerObserverQuestions g v queue (encode f)) ≡ cond (any (sameOrigin f) queue) 16 0
+    unfolding widerObserverQuestions widerFrameQuestions widerObserverPlaceQuestions askEarly askRepeat firstNo
+    along-observed =
+        within-passes g (ownLimits g) f (widerObserverPlaceQuestions g v queue (widerDecode g (encode f))) ok
+        ∙ (ap (λ (x : Frame). firstNo (widerObserverPlaceQuestions g v queue x)) (wide-decode g f (ok .wide))
+        ∙ (late-passes g v f (askEarly (ownLimits g) v f ∷ askRepeat queue f ∷ []) late due
+        ∙ rw early (repeat-left (any (sameOrigin f) queue))))
+
 -- ---- how many frames a shelf is for
 
 -- wider limits leave as much room or more
@@ -306,7 +347,7 @@ module _ (g : Schedule) (good : Good g) where
       omega (arith, due-window g good B least (widerReading g v f + f .stamp .c) h (due-of v least queue ok f m), ok .frames f m .close)
 
   -- frames of a sound queue whose readings are among m from lo on: n m at most
-  few-along :
+  pub few-along :
       (v least : ℕ) (queue : List Frame) (lo m : ℕ) → v < B → QueueAlong g v least queue
       → ((f : Frame) → List·Memᴰ f queue → lo ≤ widerReading g v f) → ((f : Frame) → List·Memᴰ f queue → widerReading g v f < lo + m) → length queue ≤ s .n * m
   few-along v least queue lo m below ok low high =

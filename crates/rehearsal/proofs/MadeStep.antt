@@ -16,6 +16,7 @@ use Rattle.model.specs.Timestamp.{Timestamp}
 use Rattle.model.specs.Tick.{Input, Output, tick}
 use Rattle.model.specs.Run.{Node, Call, Done, World, inputOf, isAccepted, outputOf, doneOf, nodeAfter, actOn, act, messageBytes}
 use Rattle.lemmas.proofs.Questions.{first-yes, other-yes}
+use Rattle.lemmas.proofs.OneCall.{plain-output, left-holdback}
 use Rattle.trace.specs.Text.{linesOf}
 use Rattle.trace.specs.Trace.{NodeSetup, clockOf, sendOf, payloadOf, batchOf, tickNumber}
 use Rattle.trace.specs.Replay.{Turn, callOf, textBy, calledTurn, turnBy, turn, freshBefore, tablesAt, turnAt}
@@ -181,8 +182,8 @@ module _ (s : Setup) (group : Group) (w : World) (bytes : List ℕ) (rest : List
   turn-same = turn-is ∙ ap turnFrom input-same
 
   output-is : outputOf node call ≡ tick (inputOf node call)
-  unfolding outputOf
-  output-is = cond-false _ (tick (inputOf node call)) (alike .station)
+  output-is =
+      plain-output node call (unfold callFor in refl) (unfold callFor in refl) ∙ cond-false _ (tick (inputOf node call)) (alike .station)
 
   -- ---- what the call leaves
 
@@ -214,11 +215,13 @@ module _ (s : Setup) (group : Group) (w : World) (bytes : List ℕ) (rest : List
       (sym output-is)
 
   same-then : Alike s rest own playerThen nodeThen
-  unfolding playerAfter nodeAfter
+  unfolding playerAfter nodeAfter inputOf
   same-then =
       record {
         station = alike .station;
-        holdback = ap (λ (o : Output). o .holdback) (sym output-is);
+        holdback =
+            sym (left-holdback (inputOf node call))
+            ∙ ap (λ (o : Output). cond (isAccepted o) (o .holdback) (node .holdback)) (sym output-is);
         first = λ e. absurd (omega arith);
         later = λ h. ap (λ (o : Output). o .answer .tables) (sym output-is);
       }

@@ -35,10 +35,10 @@ use Rattle.lemmas.proofs.Queue.{early-from}
 use Rattle.lemmas.proofs.LongFrames.{number-low, clock-fits, long-decode-encode, long-passes-encode, long-held-bytes, long-held-frames, long-size, long-count, bundle-ends, bundle-entries}
 use Rattle.lemmas.proofs.LongStamps.{atClock, step-moved, own-moved}
 use Rattle.lemmas.proofs.Board.{numbersOf, hear-verdicts, hear-length, board-opened, board-small}
-use Rattle.theory.proofs.World.{askingAt, leastAt as stationLeast, openedAt, Good, Ticks, Legal}
-use Rattle.theory.proofs.Event.{accepted-input, done-clock, sound-at, own-below-at}
-use Rattle.theory.proofs.Boards.{board-at}
-use Rattle.theory.proofs.Entries.{startHere, heard-all}
+use Rattle.model.specs.Schedule.{steady}
+use Rattle.theory.proofs.World.{Good, Ticks}
+use Rattle.theory.proofs.Event.{done-clock}
+use Rattle.theory.proofs.Plain.{PlainLegal, accepted-input, sound-at, own-below-at, leastPlain, openedPlain, startPlain, board-at, heard-all}
 use Rattle.theory.proofs.Readers.{held-delivery}
 use Rattle.theory.proofs.PublishedEvent.{ReadsTrue, event-wide}
 use Rattle.theory.proofs.PublishedQueue.{SameMembers, order-same}
@@ -88,7 +88,7 @@ narrow-delivery s queue old ok =
     (ap (joined (narrowed (s .modulus))) (long-held-bytes s queue ok rest) ∙ narrow-frames (s .modulus) queue (λ f t. ok f t .r-below))
 
 module _ (s : Setup) (w : World) (sent : List (Option Message)) (call : Call) (node : Node) (v : ℕ) (p : Process)
-    (good : Good s 0 0 w) (legal : Legal s 0 w call node v) (sent-as : SentAs s (w .past) sent) (ranked : RankedSent s (w .past) sent)
+    (good : Good (steady s) 0 0 w) (legal : PlainLegal s 0 w call node v) (sent-as : SentAs s (w .past) sent) (ranked : RankedSent s (w .past) sent)
     (twin : Twin s (w .past) sent (call .node) node p) (station : node .listens ≡ false)
     (now-below : v < longBound) (below : (k : ℕ) (m : Message) → getElem? sent k ≡ some (some m) → m .event .r < longBound)
     (few : length (openedQueue (inputOf node call)) + takenCount (heardOf (inputOf node call) .verdicts) ≤ longMost) where
@@ -120,7 +120,7 @@ module _ (s : Setup) (w : World) (sent : List (Option Message)) (call : Call) (n
   input-is engines =
       let setup-is : doneOf node call .call .setup ≡ s = unfold doneOf in (legal .called .setup-is) in
       let own : doneOf node call .call .own ≡ p .number = unfold doneOf in own-is in
-      let clock-is : doneOf node call .clock ≡ v = done-clock s node call (legal .called) in
+      let clock-is : doneOf node call .clock ≡ v = done-clock (legal .along .called) in
       let sources : doneOf node call .call .sources ≡ call .sources = unfold doneOf in refl in
       let send : doneOf node call .call .send ≡ call .send = unfold doneOf in refl in
       let payload : doneOf node call .call .payload ≡ call .payload = unfold doneOf in refl in
@@ -162,15 +162,15 @@ module _ (s : Setup) (w : World) (sent : List (Option Message)) (call : Call) (n
       one-rank s w sent good sent-as ranked k l m m′ at at′ e
 
   -- as many frames are on the station's shelf as messages in the buffer
-  opened-sorted : Sorted (keyNear s (v % s .modulus)) (openedAt s v node)
+  opened-sorted : Sorted (keyNear s (v % s .modulus)) (openedPlain s v node)
   unfolding before compareFrames
   opened-sorted =
-      sorted-of-chained (keyNear s (v % s .modulus)) (openedAt s v node)
-      (board-opened s (v % s .modulus) (stationLeast s v node) (askingAt s v node) (node .holdback) (batchEntries (call .batch)) (board-at s node call (legal .called)) .ordered)
+      sorted-of-chained (keyNear s (v % s .modulus)) (openedPlain s v node)
+      (board-opened s (v % s .modulus) (leastPlain s v node) (judgeQuestions s (v % s .modulus)) (node .holdback) (batchEntries (call .batch)) (board-at s node call (ticks s w sent call node v p good legal sent-as ranked twin station)) .ordered)
 
-  opened-same : openedQueue (inputOf node call) ≡ openedAt s v node
+  opened-same : openedQueue (inputOf node call) ≡ openedPlain s v node
   unfolding openedQueue inputOf
-  opened-same = rw (legal .called .setup-is, legal .called .clock-is, station) refl
+  opened-same = rw (legal .called .setup-is, legal .called .clock-is) refl
 
   opened-length : length (openedQueue (inputOf node call)) ≡ length (p .buffer)
   unfolding inOrder
@@ -179,8 +179,8 @@ module _ (s : Setup) (w : World) (sent : List (Option Message)) (call : Call) (n
       let frames =
       order-same s v (p .buffer) (λ m t. messages-read m (Memᴰ·append-left (newHere sent call p) t)) (twin .single)
       (λ m m′ t t′ e. all-ranked s w sent call node v p good legal sent-as ranked twin station m m′ (Memᴰ·append-left (newHere sent call p) t) (Memᴰ·append-left (newHere sent call p) t′) e)
-      (λ (m : Message). true) (openedAt s v node) opened-sorted
-      (subst (λ (l : List Message). SameMembers (s .modulus) (openedAt s v node) l) (sym every-one) (open-queue s w sent call node v p good legal sent-as ranked twin station)) in
+      (λ (m : Message). true) (openedPlain s v node) opened-sorted
+      (subst (λ (l : List Message). SameMembers (s .modulus) (openedPlain s v node) l) (sym every-one) (open-queue s w sent call node v p good legal sent-as ranked twin station)) in
       ap length (opened-same ∙ frames)
       ∙ (length-map (inOrder (s .epsilon) (select (λ (m : Message). true) (p .buffer))) (reducedFrame (s .modulus))
       ∙ (length-sortBy _ (select (λ (m : Message). true) (p .buffer)) ∙ ap length every-one))
@@ -293,7 +293,7 @@ module _ (s : Setup) (w : World) (sent : List (Option Message)) (call : Call) (n
   unfolding longNotEarly sum readingOf reducedFrame reduced
   not-early m t =
       let there = open-queue s w sent call node v p good legal sent-as ranked twin station .back m t in
-      let opened = board-opened s (v % s .modulus) (stationLeast s v node) (askingAt s v node) (node .holdback) (batchEntries (call .batch)) (board-at s node call (legal .called)) in
+      let opened = board-opened s (v % s .modulus) (leastPlain s v node) (judgeQuestions s (v % s .modulus)) (node .holdback) (batchEntries (call .batch)) (board-at s node call (ticks s w sent call node v p good legal sent-as ranked twin station)) in
       let early = early-from s (v % s .modulus) (reducedFrame (s .modulus) m) (every-mem (notEarly s (v % s .modulus)) (opened .early) there) in
       le-leb (m .event .r + m .event .c) (v + (s .epsilon - 1))
       (omega (arith, early, messages-read m (Memᴰ·append-left (newHere sent call p) t)))
@@ -338,11 +338,11 @@ module _ (s : Setup) (w : World) (sent : List (Option Message)) (call : Call) (n
 
   -- what is heard
   numbers-are :
-      numbersOf s (v % s .modulus) (judgeQuestions s (v % s .modulus)) (startHere s v node call) (batchEntries (call .batch))
+      numbersOf s (v % s .modulus) (judgeQuestions s (v % s .modulus)) (startPlain s v node) (batchEntries (call .batch))
       ≡ verdictsOn (p .received) (heardHere sent call)
   numbers-are =
-      sym (hear-verdicts s (v % s .modulus) (judgeQuestions s (v % s .modulus)) (startHere s v node call) (batchEntries (call .batch)))
-      ∙ (sym (ap (λ (h : Heard). h .verdicts) (heard-all s v node call ticking)) ∙ verdicts-heard s w sent call node v p good legal sent-as ranked twin station)
+      sym (hear-verdicts s (v % s .modulus) (judgeQuestions s (v % s .modulus)) (startPlain s v node) (batchEntries (call .batch)))
+      ∙ (sym (ap (λ (h : Heard). h .verdicts) (heard-all s node call ticking)) ∙ verdicts-heard s w sent call node v p good legal sent-as ranked twin station)
 
   heard-is : longHeard here ≡ record { queue = map plainFrame (p .buffer ++ newHere sent call p); verdicts = verdictsOn (p .received) (heardHere sent call) }
   unfolding longHeard
@@ -362,7 +362,7 @@ module _ (s : Setup) (w : World) (sent : List (Option Message)) (call : Call) (n
       ∙ (ap (longAbsorbAll s v (atClock v (openingStamp s (v % s .modulus) (node .tables))) (longEntries sent (call .sources)))
       (ap (λ (h : Heard). h .verdicts) heard-is ∙ sym numbers-are)
       ∙ long-absorbs s v sent in-limits below (openingStamp s (v % s .modulus) (node .tables)) (news-here s w sent call node v p good legal sent-as ranked twin station)))
-      ∙ (own-moved (s .epsilon) v (v % s .modulus) v (absorbAll s (v % s .modulus) (openingStamp s (v % s .modulus) (node .tables)) (batchEntries (call .batch)) (numbersOf s (v % s .modulus) (judgeQuestions s (v % s .modulus)) (startHere s v node call) (batchEntries (call .batch))))
+      ∙ (own-moved (s .epsilon) v (v % s .modulus) v (absorbAll s (v % s .modulus) (openingStamp s (v % s .modulus) (node .tables)) (batchEntries (call .batch)) (numbersOf s (v % s .modulus) (judgeQuestions s (v % s .modulus)) (startPlain s v node) (batchEntries (call .batch))))
       ∙ ap (atClock v) (heard-event s w sent call node v p good legal sent-as ranked twin station))
 
   sent-is : longSent here ≡ cond (call .send) (longEncode (plainFrame (messageOf (s .epsilon) v p (heardHere sent call) (call .payload)))) []
@@ -413,9 +413,9 @@ module _ (s : Setup) (w : World) (sent : List (Option Message)) (call : Call) (n
   verdicts-long : length (verdictsOn (p .received) (heardHere sent call)) ≡ length (call .sources)
   verdicts-long =
       ap length (sym (verdicts-heard s w sent call node v p good legal sent-as ranked twin station))
-      ∙ (ap (λ (h : Heard). length (h .verdicts)) (heard-all s v node call ticking)
-      ∙ (hear-length s (v % s .modulus) (judgeQuestions s (v % s .modulus)) (startHere s v node call) (batchEntries (call .batch))
-      ∙ (zero-add (length (batchEntries (call .batch))) ∙ legal .lengths)))
+      ∙ (ap (λ (h : Heard). length (h .verdicts)) (heard-all s node call ticking)
+      ∙ (hear-length s (v % s .modulus) (judgeQuestions s (v % s .modulus)) (startPlain s v node) (batchEntries (call .batch))
+      ∙ (zero-add (length (batchEntries (call .batch))) ∙ legal .along .lengths)))
 
   front-same : (old old′ : List ℕ) (k : ℕ) (l : List ℕ) → length l ≡ k → take k (overlay l old) ≡ take k (overlay l old′)
   front-same old old′ k l e =
@@ -459,7 +459,7 @@ module _ (s : Setup) (w : World) (sent : List (Option Message)) (call : Call) (n
       let (m, there, e) = mem-of-map (reducedFrame (s .modulus)) delivered t in
       subst (λ (g : Frame). length (g .stamp .kn) ≡ width (s .epsilon)) (sym e) (delivered-ok m there .sound .wide))
       (subst (λ (l : List Frame). length l < 65536) (delivered-is s w sent call node v p good legal sent-as ranked twin station)
-      (board-small s (v % s .modulus) (stationLeast s v node) (askingAt s v node) (node .holdback) (batchEntries (call .batch)) (board-at s node call (legal .called))))
+      (board-small s (v % s .modulus) (leastPlain s v node) (judgeQuestions s (v % s .modulus)) (node .holdback) (batchEntries (call .batch)) (board-at s node call (ticks s w sent call node v p good legal sent-as ranked twin station))))
 
   handed-engine :
       (old : List ℕ)
@@ -471,7 +471,7 @@ module _ (s : Setup) (w : World) (sent : List (Option Message)) (call : Call) (n
 
   same-here : SameAs s (outcomeOf deliverableBy s sent p v call) (doneOf node call)
   same-here =
-      subst (λ (n : ℕ). SameAs s (outcomeOf deliverableBy s sent p n call) (doneOf node call)) (done-clock s node call (legal .called))
+      subst (λ (n : ℕ). SameAs s (outcomeOf deliverableBy s sent p n call) (doneOf node call)) (done-clock (legal .along .called))
       (same-as s w sent call node v p good legal sent-as ranked twin station)
 
   pub same-long : SameLong s (doneOf node call) (longOutcome s here outcome)

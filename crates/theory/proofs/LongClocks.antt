@@ -56,7 +56,7 @@ module _ (s : Setup) (w : World) (u : Published) (call : Call) (node : Node) (pa
   p = acting .process
 
   past-is : act w call .past ≡ w .past ++ (doneOf node call ∷ [])
-  past-is = ap (λ (y : World). y .past) (act-is w call node (acting .legal .at))
+  past-is = ap (λ (y : World). y .past) (act-is w call node (acting .legal .along .at))
 
   clock-below : (k : ℕ) (d : Done) → getElem? (w .past ++ (doneOf node call ∷ [])) k ≡ some d → d .clock < longBound
   unfolding endsBelow
@@ -77,7 +77,7 @@ module _ (s : Setup) (w : World) (u : Published) (call : Call) (node : Node) (pa
   few =
       let held : ℕ = length (openedQueue (inputOf node call)) + takenCount (heardOf (inputOf node call) .verdicts) in
       let test : (not (isAccepted (outputOf node call)) || (node .listens || leb held longMost)) ≡ true =
-      subst (λ (o : Option Node). fewIn call o ≡ true) (acting .legal .at) holds in
+      subst (λ (o : Option Node). fewIn call o ≡ true) (acting .legal .along .at) holds in
       elim (or-cases (not (isAccepted (outputOf node call))) (node .listens || leb held longMost) test) [
         | inl q ↦ absurd (clash (acting .legal .called .accepted) (false-of-not (isAccepted (outputOf node call)) q))
         | inr q ↦

@@ -11,6 +11,7 @@ use Rattle.model.specs.Timestamp.{Timestamp}
 use Rattle.model.specs.Frame.{encode}
 use Rattle.model.specs.Tick.{Input, holdbackSize}
 use Rattle.model.specs.Observer.{Listening}
+use Rattle.model.specs.Schedule.{Wider}
 use Rattle.model.specs.Run.{Node, Source, sentBy, stale, Call, Done, World, inputOf, listeningOf, act, atStart, runFrom, messageBytes}
 use Rattle.theory.specs.Premises.{clockAt}
 
@@ -50,12 +51,14 @@ entrySource (staleFrame bytes) = stale
 abbrev pub batchWith : List (List ℕ) → List ℕ
 batchWith entries = length entries ∷ joined (λ bytes. length bytes ∷ bytes) entries
 
--- a call for a clock, to which the node's moves by a step
-abbrev pub calling : Setup → ℕ → ℕ → ℕ → Bool → List ℕ → List (List ℕ) → List Source → Call
-calling s node step clock send payload entries sources =
+-- a call for a clock, to which the node's moves by a step, with one pair of limits or with both, spare bytes, and buffers of some setup's sizes
+abbrev pub callingIn : Setup → Option Wider → List ℕ → Setup → ℕ → ℕ → ℕ → Bool → List ℕ → List (List ℕ) → List Source → Call
+callingIn s wider spare sizes node step clock send payload entries sources =
     record {
       node = node;
       setup = s;
+      wider = wider;
+      spare = spare;
       own = node;
       clock = clock % s .modulus;
       step = step;
@@ -65,8 +68,12 @@ calling s node step clock send payload entries sources =
       payload = payload;
       outgoing = replicate 71 3;
       verdicts = replicate 255 3;
-      delivery = replicate (holdbackSize s) 3;
+      delivery = replicate (holdbackSize sizes) 3;
     }
+
+-- a plain one
+abbrev pub calling : Setup → ℕ → ℕ → ℕ → Bool → List ℕ → List (List ℕ) → List Source → Call
+calling s node step clock send payload entries sources = callingIn s none [] s node step clock send payload entries sources
 
 -- the call that a scene makes
 abbrev pub callWith : Setup → World → Scene → Call
