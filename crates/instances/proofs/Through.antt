@@ -11,9 +11,9 @@ use Rattle.laws.specs.Lists.{select, chained}
 use Rattle.model.specs.Wider.{widerHeldBytes}
 use Rattle.model.specs.Run.{Done, atStart}
 use Rattle.theory.specs.Premises.{largestClock, noneStale}
-use Rattle.theory.specs.Demand3.{coveredFrom, covered}
+use Rattle.theory.specs.Demand3.{covered}
 use Rattle.theory.specs.Changeover.{alongAll, frozenUntil, keepsThrough, startsThrough, freshThrough}
-use Rattle.theory.specs.Through.{coveredAlong, earlierAlong}
+use Rattle.theory.specs.Through.{coveredAlong, earlierAlong, coveredThrough}
 use Rattle.violations.specs.Tests.{sendingAlong, hearingAlong, deliveringAlong}
 use Rattle.violations.specs.Through.{season, damagedSeason, damagedPhases, damagedTurns, freshSeason, freshPhases, freshTurns, seasonCalls, seasonPast}
 use Rattle.violations.proofs.Telling.{telling}
@@ -47,7 +47,7 @@ damaged-start = refl
 
 -- X is 5, T is 12, and setups change from the last clock 14 on
 pub damaged-bounds :
-    (largestClock damagedSeason ∷ coveredFrom (season .after) (largestClock damagedSeason) ∷ frozenUntil season (largestClock damagedSeason) ∷ [])
+    (largestClock damagedSeason ∷ coveredThrough season (largestClock damagedSeason) ∷ frozenUntil season (largestClock damagedSeason) ∷ [])
     ≡ 5 ∷ 12 ∷ 14 ∷ []
 unfolding telling
 damaged-bounds = refl
