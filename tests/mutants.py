@@ -20,7 +20,7 @@ from edits import JOBS, ROOT, Checks, Edit, controls_of, first_fact, summary, un
 
 VIOLATIONS = ROOT / "tests" / "violations"
 # what a violation states; without an edit it has no proof, since the demands and 2.9's theorem (LongClocks) are proved
-STATED = re.compile(r"^violated : (Demand(3|3Fresh|1Read|1Write|2Any|2Observer|2Fresh|2Ones|2Codec|2Long|2LongCodec)|LongClocks) → ⊥$", re.M)
+STATED = re.compile(r"^violated : (Demand(3|3Fresh|3Through|3FreshThrough|1Read|1Write|1ReadIn|1WriteIn|2Any|2Observer|2Fresh|2Ones|2Codec|2Long|2LongCodec|2In|2ListenIn|2CodecIn)|LongClocks) → ⊥$", re.M)
 UNEDITED = "violations/proofs/Unedited.antt"
 # what is computed from the definitions of model, and may come to something else under a mutant
 SAMPLES = [f"model/proofs/{path.name}" for path in sorted((ROOT / "crates" / "model" / "proofs").glob("*.antt")) if path.stem not in ("Lib", "Computing", "ComputingWider")]

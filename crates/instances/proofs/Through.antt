@@ -12,9 +12,9 @@ use Rattle.model.specs.Wider.{widerHeldBytes}
 use Rattle.laws.proofs.Numbers.{and-left, and-right}
 use Rattle.model.specs.Run.{Done, atStart, runFrom}
 use Rattle.theory.specs.Premises.{largestClock, noneStale}
-use Rattle.theory.specs.Demand3.{coveredFrom, covered}
+use Rattle.theory.specs.Demand3.{covered}
 use Rattle.theory.specs.Changeover.{alongAll, frozenUntil, keepsThrough, startsThrough, freshThrough}
-use Rattle.theory.specs.Through.{coveredAlong, earlierAlong, PromisedAlong}
+use Rattle.theory.specs.Through.{coveredAlong, earlierAlong, PromisedAlong, coveredThrough}
 use Rattle.theory.proofs.Through.{demand3-through, demand3-fresh-through}
 use Rattle.violations.specs.Tests.{sendingAlong, hearingAlong, deliveringAlong}
 use Rattle.violations.specs.Through.{season, damagedSeason, damagedPhases, damagedTurns, freshSeason, freshPhases, freshTurns, seasonCalls, seasonPast}
@@ -49,7 +49,7 @@ damaged-start = refl
 
 -- X is 5, T is 12, and setups change from the last clock 14 on
 pub damaged-bounds :
-    (largestClock damagedSeason ∷ coveredFrom (season .after) (largestClock damagedSeason) ∷ frozenUntil season (largestClock damagedSeason) ∷ [])
+    (largestClock damagedSeason ∷ coveredThrough season (largestClock damagedSeason) ∷ frozenUntil season (largestClock damagedSeason) ∷ [])
     ≡ 5 ∷ 12 ∷ 14 ∷ []
 unfolding telling
 damaged-bounds = refl
@@ -159,7 +159,7 @@ damaged-delivers = refl
 
 -- so demand 3 holds of this list
 pub damaged-promised :
-    PromisedAlong (alongAll season) (coveredFrom (season .after) (largestClock damagedSeason))
+    PromisedAlong (alongAll season) (coveredThrough season (largestClock damagedSeason))
     (runFrom (atStart damagedSeason) (seasonCalls damagedPhases damagedSeason damagedTurns) .past)
 damaged-promised =
     demand3-through season damagedSeason damagedPhases (seasonCalls damagedPhases damagedSeason damagedTurns) damaged-start damaged-keeps

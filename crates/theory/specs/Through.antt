@@ -80,13 +80,17 @@ pub record PromisedAlong (g : Schedule) (from : ℕ) (past : List Done) : Type 0
 
 -- ---- the two statements
 
+-- 02: "the wider pair then stands for ε and δ in every bound on X": T is X + δ′ + 3ε′
+unfoldable pub coveredThrough : Changeover → ℕ → ℕ
+coveredThrough y x = coveredFrom (y .after) x
+
 -- 02: "In the recovery statement and its premises the wider pair then stands for ε and δ in every bound on X, and no station goes between a plain
--- setup and both pairs from the start until its last clock is past X + 2δ′ + 3ε′": T is X + δ′ + 3ε′
+-- setup and both pairs from the start until its last clock is past X + 2δ′ + 3ε′"
 abbrev pub Demand3Through : Type 0
 Demand3Through =
     (y : Changeover) (nodes : List Node) (phases : List Phase) (calls : List Call) → startsThrough y phases nodes ≡ true
     → keepsThrough y (largestClock nodes) (frozenUntil y (largestClock nodes)) phases (atStart nodes) calls ≡ true
-    → PromisedAlong (alongAll y) (coveredFrom (y .after) (largestClock nodes)) (runFrom (atStart nodes) calls .past)
+    → PromisedAlong (alongAll y) (coveredThrough y (largestClock nodes)) (runFrom (atStart nodes) calls .past)
 
 -- and of every message from a fresh start, where a station may change its setup from its first call on
 abbrev pub Demand3FreshThrough : Type 0

@@ -31,7 +31,7 @@ use Rattle.theory.specs.Premises.{goodStart, largestClock, keeps, sameTimestamp
 use Rattle.theory.specs.Demand2.{heardBefore, AnyState, Demand2Any, observedBefore, AnyObserver, Demand2Observer, Published, Outcome, outcomeOf, publish, publishAll, publishedStart, SameAs, Matched, Demand2Fresh, Demand2Ones}
 use Rattle.theory.specs.Demand3.{coveredFrom, covered, isFrom, heardIn, earlier, written, Leads, later, takes, on, Promised, Demand3, Demand3Fresh}
 use Rattle.theory.specs.Changeover.{Changeover, alongAll, Phase, frozenUntil, keepsThrough, startsThrough, freshThrough}
-use Rattle.theory.specs.Through.{earlierAlong, writtenAlong, PromisedAlong, Demand3Through, Demand3FreshThrough}
+use Rattle.theory.specs.Through.{earlierAlong, writtenAlong, PromisedAlong, coveredThrough, Demand3Through, Demand3FreshThrough}
 use Rattle.violations.specs.Tests.{everyFrom, anyFrom, sameEach, implies, sameFrames, sendsRight, sendingTest, verdictRight, entryRight, hearsRight, hearingTest, deliversRight, deliveringTest, laterThan, takesFrom, stepTo, causesRight, causeRight, causalityTest, sendingAlong, hearingAlong, deliveringAlong, causalityAlong}
 use Rattle.violations.specs.Tests.{verdictTest, takenTest, deliveredTest, deliveryTest, sentTest, outgoingTest, repairTest, everyStep, boundedTest, boundedQueueTest, roomBefore, neverFullTest}
 use Rattle.violations.specs.Tests.{observedTest, observerTakenTest, observerDeliveredTest, observerDeliveryTest, observerRepairTest, lastTest, lastBoundedTest, observerQueueTest, observerNeverFullTest}
@@ -267,9 +267,9 @@ module _ (test : Schedule → ℕ → List Done → Bool) (right : (g : Schedule
   pub refute-through :
       startsThrough y phases nodes ≡ true
       → keepsThrough y (largestClock nodes) (frozenUntil y (largestClock nodes)) phases (atStart nodes) calls ≡ true
-      → test (alongAll y) (coveredFrom (y .after) (largestClock nodes)) (runFrom (atStart nodes) calls .past) ≡ false → Demand3Through → ⊥
+      → test (alongAll y) (coveredThrough y (largestClock nodes)) (runFrom (atStart nodes) calls .past) ≡ false → Demand3Through → ⊥
   refute-through good kept wrong demand =
-      clash (right (alongAll y) (coveredFrom (y .after) (largestClock nodes)) (runFrom (atStart nodes) calls .past) (demand y nodes phases calls good kept)) wrong
+      clash (right (alongAll y) (coveredThrough y (largestClock nodes)) (runFrom (atStart nodes) calls .past) (demand y nodes phases calls good kept)) wrong
 
   pub refute-fresh-through :
       startsThrough y phases nodes ≡ true → freshThrough y nodes ≡ true

@@ -13,7 +13,7 @@ use Rattle.model.specs.Schedule.{Wider}
 use Rattle.model.specs.Run.{stale, Call, inputOf, listeningOf}
 use Rattle.theory.specs.Changeover.{widerFor}
 use Rattle.violations.specs.Stories.{callingIn, bytesOf}
-use Rattle.violations.specs.Through.{season, holdbackWith, member, listener}
+use Rattle.violations.specs.Through.{season, holdbackWith, member, listener, narrowAt, wideAt}
 
 -- the wider pair of a call for a true clock, with the mark that is right there
 abbrev pub pairAt : ℕ → Wider
@@ -29,13 +29,6 @@ inputIn v tables frames send entries = inputOf (member 0 (v - 1) tables (holdbac
 
 abbrev pub listeningIn : ℕ → List ℕ → List (List ℕ) → Listening
 listeningIn v frames entries = listeningOf (listener (v - 1) ((v - 1) % 14) (holdbackWith (season .after) frames)) (callAt v false entries)
-
--- narrow and wide tables of a clock, with nothing known but the event there
-abbrev pub narrowAt : ℕ → Timestamp
-narrowAt clock = record { r = clock % 14; c = 0; kn = 0 ∷ 1 ∷ replicate 30 255 }
-
-abbrev pub wideAt : ℕ → Timestamp
-wideAt clock = record { r = clock % 14; c = 0; kn = 0 ∷ 0 ∷ 1 ∷ 0 ∷ replicate 28 255 }
 
 abbrev pub noFrames : List ℕ
 noFrames = 0 ∷ 0 ∷ []
@@ -81,6 +74,10 @@ longerDelay = record { epsilon = 1; delta = 1; change = 3; marked = 0 }
 -- a frame of neither width
 abbrev pub oddFrame : Frame
 oddFrame = record { station = 0; stamp = record { r = 3; c = 0; kn = 1 ∷ 1 ∷ 0 ∷ [] }; payload = [] }
+
+-- a wide stamp that knows of the next clock
+abbrev pub aheadByOne : Timestamp
+aheadByOne = record { r = 6; c = 1; kn = 0 ∷ 0 ∷ 1 ∷ 1 ∷ replicate 28 255 }
 
 -- a call for 20 that hears a wide frame of each station at 17 to 21: more than the old pair's shelf is for
 abbrev pub packedAt20 : Input

@@ -1,6 +1,6 @@
 -- Stories that go through V (02, 2.10). A turn is a scene, and whether its node goes on to its next setup: from the old pair to both, and from both
 -- to the new pair. A shelf that gets its new size has nonsense in the bytes that it gets.
-use Prim.Native.Nat.{ℕ, _+_, _-_}
+use Prim.Native.Nat.{ℕ, _+_, _-_, _%_}
 use mathlib.Core.Bool.{Bool, true, false, cond}
 use mathlib.Core.List.{List, [], _∷_, _++_, map}
 use mathlib.Core.Option.{Option, none, some}
@@ -96,6 +96,13 @@ abbrev pub listener : ℕ → ℕ → List ℕ → Node
 listener clock last holdback =
     record { listens = true; own = 0; clock = clock; tables = record { r = last; c = 9; kn = replicate 32 77 }; holdback = holdback }
 
+-- narrow and wide tables of a clock, with nothing known but the event there
+abbrev pub narrowAt : ℕ → Timestamp
+narrowAt clock = record { r = clock % 14; c = 0; kn = 0 ∷ 1 ∷ replicate 30 255 }
+
+abbrev pub wideAt : ℕ → Timestamp
+wideAt clock = record { r = clock % 14; c = 0; kn = 0 ∷ 0 ∷ 1 ∷ 0 ∷ replicate 28 255 }
+
 -- Damage in every memory. Node 0 has the old pair, tables of nonsense and a forged frame on its shelf, node 1 has both pairs, tables that were
 -- never written by a tick but look sound, and a shelf of nonsense; the observer, node 2, has the old pair, a last clock of B or more, and a
 -- shelf of nonsense. X is 5: older frames may be heard up to 8, messages are covered from 12 on, and no setup changes before the last clock is 14
@@ -180,3 +187,162 @@ freshTurns =
     ∷ stays (hearing 2 (message 8 ∷ message 9 ∷ [])) ∷ stays (stepping 2 0 (message 9 ∷ [])) ∷ stays (quiet 1) ∷ stays (quiet 2)
     ∷ stays (sending 1 70 []) ∷ stays (hearing 0 (message 14 ∷ [])) ∷ stays (hearing 2 (message 14 ∷ [])) ∷ stays (nudged 2 1) ∷ stays (nudged 2 0)
     ∷ stays (nudged 2 2) ∷ turns (quiet 1) ∷ turns (nudged 2 0) ∷ turns (quiet 2) ∷ []
+
+-- ---- stories that a premise less would let pass, or another promise would not hold of. Nodes are fresh, each with both pairs, but where it is said
+
+abbrev pub empty : Setup → List ℕ
+empty s = holdbackWith s (0 ∷ 0 ∷ [])
+
+abbrev pub narrowMember : ℕ → ℕ → Node
+narrowMember own clock = member own clock (narrowAt clock) (empty (season .after))
+
+abbrev pub wideMember : ℕ → ℕ → Node
+wideMember own clock = member own clock (wideAt clock) (empty (season .after))
+
+abbrev pub freshListener : ℕ → Node
+freshListener clock = listener clock (clock % 14) (empty (season .after))
+
+abbrev pub bothPhases : List Phase
+bothPhases = both ∷ both ∷ both ∷ []
+
+abbrev pub twoBoth : List Phase
+twoBoth = both ∷ both ∷ []
+
+-- the observer, with the old pair, hears at 16 two messages of 16, which it orders by one count, and takes both pairs up in its call for 17
+abbrev pub lateUp : List Node
+lateUp =
+    member 0 14 (narrowAt 14) (empty (season .before)) ∷ member 1 14 (narrowAt 14) (empty (season .before))
+    ∷ listener 15 1 (empty (season .before)) ∷ []
+
+abbrev pub takenUpLate : List Turn
+takenUpLate =
+    turns (sending 1 65 []) ∷ turns (hearing 0 (message 0 ∷ [])) ∷ stays (sending 0 66 []) ∷ stays (sending 1 67 [])
+    ∷ stays (hearing 2 (message 3 ∷ message 2 ∷ [])) ∷ stays (quiet 1) ∷ turns (quiet 2) ∷ stays (nudged 2 0) ∷ stays (nudged 2 2) ∷ []
+
+-- node 1 hears a narrow message of 16, due at 19, and goes to the new pair in its call for 19
+abbrev pub nearChange : List Node
+nearChange = narrowMember 0 15 ∷ narrowMember 1 16 ∷ freshListener 16 ∷ []
+
+abbrev pub newTooSoon : List Turn
+newTooSoon =
+    stays (sending 0 65 []) ∷ stays (quiet 2) ∷ stays (hearing 1 (message 0 ∷ [])) ∷ stays (nudged 2 0) ∷ stays (quiet 1) ∷ turns (quiet 1) ∷ []
+
+-- the same, and node 1 goes on with both pairs, to 19
+abbrev pub heardNearChange : List Turn
+heardNearChange =
+    stays (sending 0 65 []) ∷ stays (quiet 2) ∷ stays (hearing 1 (message 0 ∷ [])) ∷ stays (nudged 2 0) ∷ stays (quiet 1) ∷ stays (quiet 1) ∷ []
+
+-- node 0 sends at 17, two clocks ahead of node 1, which hears it at 16
+abbrev pub twoNear : List Node
+twoNear = narrowMember 0 16 ∷ narrowMember 1 15 ∷ []
+
+abbrev pub aheadAtChange : List Turn
+aheadAtChange = stays (sending 0 65 []) ∷ stays (hearing 1 (message 0 ∷ [])) ∷ []
+
+-- another season, at clock 30 from ε 2 to ε 3. Node 0 sends at 31, with both stations past V, and the observer hears it at 29
+abbrev pub longSeason : Changeover
+longSeason =
+    record {
+      before = record { n = 2; epsilon = 2; delta = 0; modulus = 19 };
+      after = record { n = 2; epsilon = 3; delta = 0; modulus = 19 };
+      change = 30;
+    }
+
+abbrev pub longNodes : List Node
+longNodes =
+    member 0 28 (record { r = 9; c = 0; kn = 0 ∷ 0 ∷ 1 ∷ 0 ∷ replicate 28 255 }) (empty (longSeason .after))
+    ∷ member 1 30 (record { r = 11; c = 0; kn = 0 ∷ 0 ∷ 0 ∷ 1 ∷ 0 ∷ 0 ∷ replicate 26 255 }) (empty (longSeason .after))
+    ∷ listener 28 9 (empty (longSeason .after)) ∷ []
+
+abbrev pub observerBehind : List Turn
+observerBehind = stays (sendingAfter 3 0 65 []) ∷ stays (hearing 2 (message 0 ∷ [])) ∷ []
+
+abbrev pub longCalls : List Call
+longCalls = callsThrough longSeason bothPhases (atStart longNodes) observerBehind
+
+-- a narrow message of 15 is heard at 17, its sender being at 16
+abbrev pub beforeChange : List Node
+beforeChange = narrowMember 0 14 ∷ narrowMember 1 14 ∷ freshListener 13 ∷ []
+
+abbrev pub heardOneLate : List Turn
+heardOneLate =
+    stays (quiet 2) ∷ stays (sending 1 65 []) ∷ stays (quiet 2) ∷ stays (quiet 0) ∷ stays (quiet 2) ∷ stays (quiet 0) ∷ stays (quiet 1)
+    ∷ stays (hearing 0 (message 1 ∷ [])) ∷ []
+
+-- node 0 hears its own message of 15 in its call for 17, to which it goes from 15
+abbrev pub togetherBefore : List Node
+togetherBefore = narrowMember 0 14 ∷ narrowMember 1 14 ∷ freshListener 14 ∷ []
+
+abbrev pub heardOwn : List Turn
+heardOwn =
+    stays (quiet 2) ∷ stays (quiet 1) ∷ stays (sending 0 65 []) ∷ stays (quiet 2) ∷ stays (quiet 1) ∷ stays (stepping 2 0 (message 2 ∷ [])) ∷ []
+
+-- the observer goes from 14 to 16, before V, with a message on its shelf
+abbrev pub earlyNodes : List Node
+earlyNodes = narrowMember 0 13 ∷ narrowMember 1 13 ∷ freshListener 13 ∷ []
+
+abbrev pub steppedBefore : List Turn
+steppedBefore =
+    stays (quiet 1) ∷ stays (sending 0 65 []) ∷ stays (hearing 2 (message 1 ∷ [])) ∷ stays (quiet 0) ∷ stays (quiet 1) ∷ stays (nudged 2 2) ∷ []
+
+-- node 0 has both pairs at 31, B past V
+abbrev pub pastNodes : List Node
+pastNodes = wideMember 0 28 ∷ wideMember 1 28 ∷ []
+
+abbrev pub bothTooLong : List Turn
+bothTooLong = stays (sending 1 65 []) ∷ stays (nudged 2 0) ∷ stays (hearing 0 (message 0 ∷ [])) ∷ []
+
+-- X is 20: the observer hears a narrow older frame at 23, due at 27, and goes to the new pair in its call for 27, with a covered message on its shelf
+abbrev pub frozenNodes : List Node
+frozenNodes = wideMember 0 20 ∷ wideMember 1 18 ∷ freshListener 19 ∷ []
+
+abbrev pub thawedSoon : List Turn
+thawedSoon =
+    stays (quiet 1) ∷ stays (quiet 1) ∷ stays (quiet 0) ∷ stays (quiet 2) ∷ stays (quiet 1) ∷ stays (quiet 2) ∷ stays (nudged 2 1) ∷ stays (nudged 2 0)
+    ∷ stays (stepping 2 2 (staleFrame (bytesOf 1 10 0 (1 ∷ 1 ∷ []) (9 ∷ [])) ∷ [])) ∷ stays (nudged 2 1) ∷ stays (nudged 2 2) ∷ stays (quiet 0)
+    ∷ stays (quiet 0) ∷ stays (sendingAfter 2 0 65 []) ∷ stays (hearing 2 (message 13 ∷ [])) ∷ turns (hearing 2 (message 13 ∷ [])) ∷ []
+
+-- X is 13: an older frame that claims an event at 19 is heard at 18, and node 1's message of 20 has it in its counts
+abbrev pub haunting : List Node
+haunting = narrowMember 0 13 ∷ narrowMember 1 13 ∷ []
+
+abbrev pub hauntedLate : List Turn
+hauntedLate =
+    stays (quiet 0) ∷ stays (quiet 1) ∷ stays (quiet 0) ∷ stays (quiet 1) ∷ stays (quiet 0) ∷ stays (quiet 1) ∷ stays (quiet 1)
+    ∷ stays (sendingAfter 2 0 65 (staleFrame (bytesOf 0 5 0 (2 ∷ 1 ∷ 1 ∷ 0 ∷ []) (9 ∷ [])) ∷ [])) ∷ stays (stepping 2 1 (message 7 ∷ []))
+    ∷ stays (sending 1 66 []) ∷ stays (hearing 0 (message 9 ∷ [])) ∷ []
+
+-- X is 14: one that claims an event at 18 is heard at 17, the last clock at which one may be, and node 1's message of 19, two clocks before T, has it
+abbrev pub hauntedNodes : List Node
+hauntedNodes = narrowMember 0 14 ∷ narrowMember 1 13 ∷ freshListener 13 ∷ []
+
+abbrev pub hauntedInTime : List Turn
+hauntedInTime =
+    stays (quiet 2) ∷ stays (quiet 1) ∷ stays (quiet 0) ∷ stays (quiet 2) ∷ stays (quiet 1) ∷ stays (quiet 0) ∷ stays (quiet 1) ∷ stays (nudged 2 2)
+    ∷ stays (hearing 1 (staleFrame (bytesOf 1 3 1 (1 ∷ 0 ∷ 1 ∷ 1 ∷ []) (9 ∷ [])) ∷ [])) ∷ stays (quiet 0) ∷ stays (quiet 1) ∷ stays (sending 1 65 [])
+    ∷ stays (hearing 0 (message 11 ∷ [])) ∷ []
+
+-- past V node 0 sends at 20, and node 1 at 19 because of it, with c 1
+abbrev pub pastChange : List Node
+pastChange = wideMember 0 18 ∷ wideMember 1 18 ∷ []
+
+abbrev pub knownAhead : List Turn
+knownAhead = stays (sendingAfter 2 0 65 []) ∷ stays (sending 1 66 (message 0 ∷ [])) ∷ stays (hearing 0 (message 1 ∷ [])) ∷ []
+
+-- what takenUpLate tells, with both pairs from the start
+abbrev pub togetherAt14 : List Node
+togetherAt14 = narrowMember 0 14 ∷ narrowMember 1 14 ∷ freshListener 15 ∷ []
+
+abbrev pub orderedBefore : List Turn
+orderedBefore =
+    stays (sending 1 65 []) ∷ stays (hearing 0 (message 0 ∷ [])) ∷ stays (sending 0 66 []) ∷ stays (sending 1 67 [])
+    ∷ stays (hearing 2 (message 3 ∷ message 2 ∷ [])) ∷ stays (quiet 1) ∷ stays (quiet 2) ∷ stays (nudged 2 0) ∷ stays (nudged 2 2) ∷ []
+
+-- node 0 alone sends at 17, V; with the old pair, with both; and at 16 with the new pair
+abbrev pub oneAt : Phase → ℕ → List Node
+oneAt older clock = member 0 clock (narrowAt clock) (empty (season .before)) ∷ []
+oneAt both clock = member 0 clock (narrowAt clock) (empty (season .after)) ∷ []
+oneAt newer clock = member 0 clock (narrowAt clock) (empty (season .after)) ∷ []
+
+abbrev pub sendsOnce : List Turn
+sendsOnce = stays (sending 0 65 []) ∷ []
