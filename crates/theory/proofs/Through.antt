@@ -25,7 +25,7 @@ use Rattle.model.specs.Run.{Node, Source, sentBy, stale, Call, Done, World, len
 use Rattle.theory.specs.Premises.{distinct, together, validFor, exactHoldback, largestClock, staleUntil, oneSetup, trueClock, stepAllowed, isFresh, isSent, noneStale, sameSetup}
 use Rattle.theory.specs.Demand3.{coveredFrom, heardIn}
 use Rattle.theory.specs.Changeover.{Changeover, alongAll, goodChangeover, Phase, older, both, newer, phaseAfter, phaseSetup, widerFor, sameWider, phaseWider, phaseSize, wellPast, phaseAllowed, frozenUntil, driftOf, entryThrough, entriesThrough, heardThrough, setupThrough, acceptedThrough, allowedIn, allowedThrough, phasesBy, phasesAfter, keepsThrough, exactHoldbacks, startsThrough, freshThrough}
-use Rattle.theory.specs.Through.{Demand3Through, Demand3FreshThrough}
+use Rattle.theory.specs.Through.{coveredThrough, Demand3Through, Demand3FreshThrough}
 use Rattle.lemmas.proofs.Counts.{trimmed-wide}
 use Rattle.lemmas.proofs.Schedules.{Widens, DueBy, old, new, due-by, limits-widest}
 use Rattle.lemmas.proofs.WideFrames.{half-back, wide-held}
@@ -591,6 +591,7 @@ legals-through y good x (call ∷ calls) phases w stages h =
     early v h = unfold staleUntil rightFrom in (omega (arith, limits-widest (alongAll y) good v .0))
 
 pub demand3-through : Demand3Through
+unfolding coveredThrough
 demand3-through y nodes phases calls start kept =
     run-promises g floor from (settles-through y good x) nodes calls
     (good-start g floor from nodes (group-through y phases nodes start good) early)
