@@ -3,7 +3,7 @@
 
 A mutant leaves the definitions well-formed but another protocol, so what is proved of them (lemmas, theory) must be refused. Mutants
 are the edits of tests/mutants, and those of crates/model/must-fail that have a violation: `rt ci` holds these to model's own samples
-too. `rt ci` also tries the edits of the statements. A refusal alone says little, since a proof fits a text. So each mutant and each edit of a statement
+too. tests/edits.py tries the edits of the statements. A refusal alone says little, since a proof fits a text. So each mutant and each edit of a statement
 has a violation, tests/violations/NAME.proof: a refutation of one of the demands, or of 2.9's theorem, by computation on a concrete list of
 calls. Under the edit, and without the proofs of theory, it must be proved. What the same lists come to without an edit is proved in
 crates/violations/proofs/Unedited.antt. The harmless edits of crates/model/must-fail/controls are held to what is expected of them, and
@@ -110,7 +110,7 @@ def main():
     shared = [path for path in (model / "must-fail").glob("*.edit") if path.stem in violations]
     mutants = [Edit(path, model) for path in sorted([*(ROOT / "tests" / "mutants").glob("*.edit"), *shared])]
     controls = controls_of(model)
-    statements = [Edit(path, theory) for path in sorted((theory / "must-fail").glob("*.edit"))]
+    statements = [Edit(path, theory) for path in sorted((theory / "must-fail").glob("*/*.edit"))]
     strange = [name for name, path in violations.items() if not STATED.search(path.read_text(encoding="utf-8"))]
     alone = set(violations) - {edit.name for edit in mutants + statements}
     if strange or alone:
