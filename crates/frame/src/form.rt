@@ -121,24 +121,24 @@ pub fn payload_part(epsilon: usize, s: &[u8]) -> &[u8]
 }
 
 // 01, 10 to 12: the number of the first no, or 0.
-pub fn check(setup: Setup, s: &[u8]) -> u8
+pub fn check(setup: Setup, frame: &[u8]) -> u8
     requires { ⌜ inLimits (setupOf setup) ≡ true ⌝ }
-    ensures { λ r. ⌜ r ≡ firstNo (frameQuestions (setupOf setup) (now (s .entry))) ⌝ }
+    ensures { λ r. ⌜ r ≡ firstNo (frameQuestions (setupOf setup) (now (frame .entry))) ⌝ }
 {
     let n = setup.n as usize;
     let epsilon = setup.epsilon as usize;
     let modulus = setup.modulus as usize;
-    if !well_formed(epsilon, s) {
+    if !well_formed(epsilon, frame) {
         return BAD_FORM;
     }
-    if n <= station_of(s) {
+    if n <= station_of(frame) {
         return BAD_RANGE;
     }
-    if modulus <= r_of(s) {
+    if modulus <= r_of(frame) {
         return BAD_RANGE;
     }
-    let c = c_of(s);
-    if !sound_counts(&s[COUNTS_AT..COUNTS_AT + 2 * epsilon], c, n, epsilon) {
+    let c = c_of(frame);
+    if !sound_counts(&frame[COUNTS_AT..COUNTS_AT + 2 * epsilon], c, n, epsilon) {
         return BAD_STAMP;
     }
     0

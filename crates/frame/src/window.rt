@@ -21,7 +21,7 @@ ghost use Rattle.model.specs.Setup.{inLimits};
 ghost use Rattle.model.specs.Frame.{frameEnd, wellFormed, twoAt};
 ghost use Rattle.model.specs.Question.{firstNo, frameQuestions};
 ghost use Rattle.setup.specs.Views.{setupOf};
-ghost use Rattle.timestamp.specs.Window.{limitsOf};
+ghost use Rattle.timestamp.specs.Window.{ceilingsOf};
 
 // The bytes of a frame beside its payload at ε 16.
 const WINDOW: usize = 39;
@@ -61,8 +61,8 @@ fn ranged_window(n: usize, modulus: usize, w: &[u8]) -> bool
 }
 
 // The number of the first no, or 0. `limits` is what the counts are held to.
-pub fn check_window(setup: Setup, limits: &[u8], w: &[u8]) -> u8
-    requires { ⌜ (inLimits (setupOf setup) ≡ true) × (now limits ≡ limitsOf (setup .n) (setup .epsilon)) ⌝ }
+pub fn check_window(setup: Setup, ceilings: &[u8], w: &[u8]) -> u8
+    requires { ⌜ (inLimits (setupOf setup) ≡ true) × (now ceilings ≡ ceilingsOf (setup .n) (setup .epsilon)) ⌝ }
     requires { ⌜ 39 + 2 * setup .epsilon ≤ length (now w) ⌝ }
     ensures { λ r. ⌜ r ≡ firstNo (frameQuestions (setupOf setup) (take (frameEnd (setup .epsilon) (now (w .entry))) (now (w .entry)))) ⌝ }
 {
@@ -74,7 +74,7 @@ pub fn check_window(setup: Setup, limits: &[u8], w: &[u8]) -> u8
         return BAD_RANGE;
     }
     let c = w[C_AT] as usize;
-    if !sound_window(&w[COUNTS_AT..WINDOW], c, limits, epsilon) {
+    if !sound_window(&w[COUNTS_AT..WINDOW], c, ceilings, epsilon) {
         return BAD_STAMP;
     }
     0

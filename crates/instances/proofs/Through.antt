@@ -144,11 +144,11 @@ damaged-figures = refl
 
 -- node 1 has frames of both widths on its shelf after its call for 18, the observer after those for 17 two narrow ones, for 19 two wide ones, and for
 -- 24, where it goes to the new pair, two wide ones again
-pub damaged-shelves :
+pub damaged-holdbacks :
     map (λ k. lengthsIn (λ d. d .output .holdback) (getElem? damagedPast k)) (36 ∷ 34 ∷ 37 ∷ 49 ∷ [])
     ≡ (10 ∷ 12 ∷ []) ∷ (10 ∷ 10 ∷ []) ∷ (12 ∷ 12 ∷ []) ∷ (12 ∷ 12 ∷ []) ∷ []
 unfolding telling
-damaged-shelves = refl
+damaged-holdbacks = refl
 
 -- what the observer hands out, the cause first each time: 12 and 12; 16 and 16, narrow; 17; 18; 24 and 23, the effect having the smaller r
 pub damaged-delivers :

@@ -19,12 +19,12 @@ use Rattle.model.specs.Frame.{Frame}
 use Rattle.model.specs.Order.{readingOf}
 use Rattle.model.specs.Holdback.{notEarly, encodeFrames}
 use Rattle.model.specs.Schedule.{Schedule, limitsAt, modulusOf, ownLimits, dueAlong, comparedAlong}
-use Rattle.model.specs.Wider.{frameHalf, widerReading, countsDownBy, widerKey, widerKeyNear, widerNotOverdue, widerSoundHoldback}
+use Rattle.model.specs.Wider.{frameHalf, widerReading, countsDownBy, widerKey, widerKeyNear, widerNotExpired, widerSoundHoldback}
 use Rattle.lemmas.proofs.Bounds.{Sound}
 use Rattle.lemmas.proofs.Reading.{near-later}
 use Rattle.lemmas.proofs.Queue.{early-to}
 use Rattle.lemmas.proofs.Schedules.{Good, wide, old, new, limits-good, limits-modulus, limits-n, limits-grow, due-window, Aligned, limits-aligned, due-aligned, compared-aligned, half-aligned, modulus-aligned, widest-aligned, near-wider}
-use Rattle.lemmas.proofs.WiderQueue.{QueueAlong, LeftAlong, ordered-along, along-ordered, overdue-along, length-down-by, depth-grows, left-room-along, bytes-along}
+use Rattle.lemmas.proofs.WiderQueue.{QueueAlong, LeftAlong, ordered-along, along-ordered, expired-along, length-down-by, depth-grows, left-room-along, bytes-along}
 use Rattle.lemmas.proofs.WideFrames.{FrameWithin}
 
 -- keys with sums and readings k less, and the same counts, are in the same order; where the sums differ, so may the numbers of counts
@@ -107,10 +107,10 @@ module _ (l l′ : Schedule) (v v′ k : ℕ) where
       }
 
   -- the shelf is sound there, where the least due clock allowed is the one after v
-  pub shelf-carried :
+  pub holdback-carried :
       (queue : List Frame) → Good l → Good l′ → Follows l l′ → ((f : Frame) → List·Memᴰ f queue → Kept l l′ v v′ k f) → LeftAlong l v queue
       → QueueAlong l′ v′ (modulusOf l′ + 1 - k) queue
-  shelf-carried queue good good′ follows kept left =
+  holdback-carried queue good good′ follows kept left =
       record {
         frames = λ f m. kept-frame f good good′ follows (kept f m) (left .frames f m);
         ordered =
@@ -122,9 +122,9 @@ module _ (l l′ : Schedule) (v v′ k : ℕ) where
             (λ f m.
             early-to (ownLimits l′) v′ f
             (omega (arith, left .early f m, kept f m .reading, follows .modulus, follows .epsilon, limits-modulus l′ good′ (modulusOf l′))));
-        overdue =
-            every-of-mem (widerNotOverdue l′ v′ (modulusOf l′ + 1 - k)) queue
-            (λ f m. overdue-along l′ v′ (modulusOf l′ + 1 - k) f (omega (arith, left .later f m, kept f m .due, follows .modulus)));
+        expired =
+            every-of-mem (widerNotExpired l′ v′ (modulusOf l′ + 1 - k)) queue
+            (λ f m. expired-along l′ v′ (modulusOf l′ + 1 - k) f (omega (arith, left .later f m, kept f m .due, follows .modulus)));
       }
 
   -- and so are its bytes, whatever stands behind them: it was not full, and the next limits leave as much room or more
@@ -212,7 +212,7 @@ module _ (l l′ : Schedule) (v k : ℕ) (good : Good l) (good′ : Good l′) (
       (queue : List Frame) → v < modulusOf l → k ≤ ownLimits l′ .epsilon → LeftAlong l v queue
       → QueueAlong l′ ((v + k) % modulusOf l) (modulusOf l′ + 1 - k) queue
   carried-moved queue below few left =
-      shelf-carried l l′ v ((v + k) % modulusOf l) k queue good good′ moved-follows
+      holdback-carried l l′ v ((v + k) % modulusOf l) k queue good good′ moved-follows
       (λ f m. moved-kept f ((v + k) % modulusOf l) (reading-kept l l′ v k good good′ moved-follows below few f (left .frames f m) (left .later f m))) left
 
   -- 02: "Carry … shelf over without emptying"

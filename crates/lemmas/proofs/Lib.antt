@@ -10,7 +10,7 @@ pub mod LongStamps
 pub mod Queue
 pub mod Hearing
 pub mod LongOrder
-pub mod Board
+pub mod Receiving
 pub mod OneTick
 pub mod OneListening
 pub mod OneCall
@@ -22,7 +22,7 @@ pub mod WideFrames
 pub mod WiderQueue
 pub mod Carried
 pub mod EqualPairs
-pub mod WiderBoard
+pub mod WiderReceiving
 pub mod WiderTick
 pub mod WiderCall
 pub mod NextWider

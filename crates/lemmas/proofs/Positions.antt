@@ -18,12 +18,12 @@ use Rattle.model.specs.Frame.{Frame}
 use Rattle.model.specs.Order.{readingOf}
 use Rattle.model.specs.Holdback.{sameOrigin, notEarly, encodeFrames}
 use Rattle.model.specs.Schedule.{Schedule, limitsAt, modulusOf, ownLimits, dueAlong, comparedAlong}
-use Rattle.model.specs.Wider.{frameHalf, widerReading, countsDownBy, widerKey, widerKeyNear, widerHeld, widerNotOverdue, widerSoundHoldback}
+use Rattle.model.specs.Wider.{frameHalf, widerReading, countsDownBy, widerKey, widerKeyNear, widerHeld, widerNotExpired, widerSoundHoldback}
 use Rattle.lemmas.proofs.Bounds.{Limits, Sound}
 use Rattle.lemmas.proofs.Queue.{early-from, early-to}
 use Rattle.lemmas.proofs.Schedules.{Good, limits-good, limits-modulus, limits-n, limits-grow, limits-moved, movedBy, half-moved, compared-moved, good-moved, due-window}
 use Rattle.lemmas.proofs.WideFrames.{FrameWithin, wide-held}
-use Rattle.lemmas.proofs.WiderQueue.{QueueAlong, LeftAlong, ordered-along, along-ordered, overdue-along, along-overdue, length-down-by, few-along, bytes-along}
+use Rattle.lemmas.proofs.WiderQueue.{QueueAlong, LeftAlong, ordered-along, along-ordered, expired-along, along-expired, length-down-by, few-along, bytes-along}
 use Rattle.lemmas.proofs.Carried.{lower, keyWith, near-kept}
 use Rattle.lemmas.proofs.Agreeing.{Agrees}
 
@@ -148,7 +148,7 @@ module _ (g l : Schedule) (v : ℕ) (agrees : Agrees g v l) where
       (least : ℕ) (queue : List Frame) → Good l → modulusOf l + 1 ≤ least + ownLimits l .epsilon → QueueAlong l u least queue → (f : Frame) → List·Memᴰ f queue → Seen g l u f
   seen-in least queue good far ok f m =
       let limits = limits-good l good (modulusOf l) in
-      let due : least ≤ dueAlong l (total f) = along-overdue l u least f (every-mem (widerNotOverdue l u least) (ok .overdue) m) in
+      let due : least ≤ dueAlong l (total f) = along-expired l u least f (every-mem (widerNotExpired l u least) (ok .expired) m) in
       let x : ℕ = modulusOf l + 1 - ownLimits l .epsilon in
       let window : x ≤ total f + ownLimits l .delta + ownLimits l .epsilon = due-window l good (modulusOf l) x (total f) (omega arith) (omega arith) in
       record {
@@ -295,10 +295,10 @@ module _ (g l : Schedule) (last v k : ℕ) (good : Good g) (good-l : Good l) (ag
                 (λ f m.
                 early-to (ownLimits l) (v % modulusOf l) f
                 (omega (arith, seen-later f m .hi, limits-modulus l good-l (modulusOf l))));
-            overdue =
-                every-of-mem (widerNotOverdue l (v % modulusOf l) (modulusOf l + 1 - k)) queue
+            expired =
+                every-of-mem (widerNotExpired l (v % modulusOf l) (modulusOf l + 1 - k)) queue
                 (λ f m.
-                overdue-along l (v % modulusOf l) (modulusOf l + 1 - k) f
+                expired-along l (v % modulusOf l) (modulusOf l + 1 - k) f
                 (omega (
                   arith,
                   left .later f m,

@@ -24,7 +24,7 @@ use Rattle.model.specs.Holdback.{sameOrigin, notEarly, encodeFrames}
 use Rattle.model.specs.Question.{Question, firstNo}
 use Rattle.model.specs.Judge.{Asking, askLate, askEarly, askRepeat}
 use Rattle.model.specs.Schedule.{Schedule, steady, widening, modulusOf, widestOf, ownLimits, dueAlong, comparedAlong}
-use Rattle.model.specs.Wider.{frameHalf, widerReading, widerDecode, countsDownBy, widerKey, widerKeyNear, widerBefore, widerDue, widerHeldBytes, widerHeld, widerPasses, widerNotOverdue, widerSoundHoldback, widerOpeningQueue, widerDueBefore, widerDueNow, notLateAlong, widerAskLate, widerAskCounts, widerFrameQuestions, widerPlaceQuestions, widerObserverPlaceQuestions, widerQuestions, widerObserverQuestions, widerPlace}
+use Rattle.model.specs.Wider.{frameHalf, widerReading, widerDecode, countsDownBy, widerKey, widerKeyNear, widerBefore, widerDue, widerHeldBytes, widerHeld, widerPasses, widerNotExpired, widerSoundHoldback, widerOpeningQueue, widerDueBefore, widerDueNow, notLateAlong, widerAskLate, widerAskCounts, widerFrameQuestions, widerPlaceQuestions, widerObserverPlaceQuestions, widerQuestions, widerObserverQuestions, widerPlace}
 use Rattle.lemmas.proofs.Bounds.{Limits}
 use Rattle.lemmas.proofs.Reading.{near-injective}
 use Rattle.lemmas.proofs.RoundTrip.{none-no}
@@ -38,7 +38,7 @@ pub record QueueAlong (g : Schedule) (v least : ℕ) (queue : List Frame) : Type
   pub ordered : chained (widerBefore g v) queue ≡ true
   pub single : apart sameOrigin queue ≡ true
   pub early : every (notEarly (ownLimits g) v) queue ≡ true
-  pub overdue : every (widerNotOverdue g v least) queue ≡ true
+  pub expired : every (widerNotExpired g v least) queue ≡ true
 
 -- one that a call for v leaves: each frame is due after v
 pub record LeftAlong (g : Schedule) (v : ℕ) (queue : List Frame) : Type 0 where
@@ -57,13 +57,13 @@ pub along-ordered : (g : Schedule) (v : ℕ) (queue : List Frame) → Sorted (wi
 unfolding widerBefore
 along-ordered g v queue h = chained-of-sorted (widerKeyNear g v) queue h
 
-pub overdue-along : (g : Schedule) (v least : ℕ) (f : Frame) → least ≤ dueAlong g (widerReading g v f + f .stamp .c) → widerNotOverdue g v least f ≡ true
-unfolding widerNotOverdue widerDue sum
-overdue-along g v least f h = le-leb least (dueAlong g (widerReading g v f + f .stamp .c)) h
+pub expired-along : (g : Schedule) (v least : ℕ) (f : Frame) → least ≤ dueAlong g (widerReading g v f + f .stamp .c) → widerNotExpired g v least f ≡ true
+unfolding widerNotExpired widerDue sum
+expired-along g v least f h = le-leb least (dueAlong g (widerReading g v f + f .stamp .c)) h
 
-pub along-overdue : (g : Schedule) (v least : ℕ) (f : Frame) → widerNotOverdue g v least f ≡ true → least ≤ dueAlong g (widerReading g v f + f .stamp .c)
-unfolding widerNotOverdue widerDue sum
-along-overdue g v least f h = leb-true least (dueAlong g (widerReading g v f + f .stamp .c)) h
+pub along-expired : (g : Schedule) (v least : ℕ) (f : Frame) → widerNotExpired g v least f ≡ true → least ≤ dueAlong g (widerReading g v f + f .stamp .c)
+unfolding widerNotExpired widerDue sum
+along-expired g v least f h = leb-true least (dueAlong g (widerReading g v f + f .stamp .c)) h
 
 pub length-down-by : (most half : ℕ) (t : Timestamp) → length (countsDownBy most half t) ≡ most
 unfolding countsDownBy
@@ -260,7 +260,7 @@ module _ (g : Schedule) (good : Good g) where
   pub queue-none-along : (v least : ℕ) → QueueAlong g v least []
   unfolding chained apart every
   queue-none-along v least =
-      record { frames = λ f m. absurd (List·Memᴰ·not-nil m); ordered = refl; single = refl; early = refl; overdue = refl }
+      record { frames = λ f m. absurd (List·Memᴰ·not-nil m); ordered = refl; single = refl; early = refl; expired = refl }
 
   -- the test of a queue's bytes, as facts
   pub sound-along : (v least : ℕ) (bytes : List ℕ) → widerSoundHoldback g v least bytes ≡ true → QueueAlong g v least (widerHeld g bytes)
@@ -276,7 +276,7 @@ module _ (g : Schedule) (good : Good g) where
         ordered = and-left _ _ h₂;
         single = and-left _ _ h₃;
         early = and-left _ _ h₄;
-        overdue = and-right (every (notEarly s v) queue) _ h₄;
+        expired = and-right (every (notEarly s v) queue) _ h₄;
       }
     where
       one : (f : Frame) → (a : List ℕ) × List·Memᴰ a (widerHeldBytes g bytes) × (widerDecode g a ≡ f) → every (widerPasses g) (widerHeldBytes g bytes) ≡ true → FrameWithin g s f
@@ -300,13 +300,13 @@ module _ (g : Schedule) (good : Good g) where
         ordered = along-ordered g v (select p queue) (sorted-select (widerKeyNear g v) p queue (ordered-along g v queue (ok .ordered)));
         single = apart-select sameOrigin p queue (ok .single);
         early = every-of-mem (notEarly s v) (select p queue) (λ f m. every-mem (notEarly s v) (ok .early) (mem-of-select p queue m .0));
-        overdue =
-            every-of-mem (widerNotOverdue g v least′) (select p queue)
-            (λ f m. overdue-along g v least′ f (h f (mem-of-select p queue m .0) (mem-of-select p queue m .1)));
+        expired =
+            every-of-mem (widerNotExpired g v least′) (select p queue)
+            (λ f m. expired-along g v least′ f (h f (mem-of-select p queue m .0) (mem-of-select p queue m .1)));
       }
 
   due-of : (v least : ℕ) (queue : List Frame) → QueueAlong g v least queue → (f : Frame) → List·Memᴰ f queue → least ≤ dueAlong g (widerReading g v f + f .stamp .c)
-  due-of v least queue ok f m = along-overdue g v least f (every-mem (widerNotOverdue g v least) (ok .overdue) m)
+  due-of v least queue ok f m = along-expired g v least f (every-mem (widerNotExpired g v least) (ok .expired) m)
 
   key-near-origin : (v : ℕ) (a b : Frame) → widerKeyNear g v a ≡ widerKeyNear g v b → (a .station ≡ b .station) × (widerReading g v a ≡ widerReading g v b)
   unfolding widerKeyNear
@@ -325,7 +325,7 @@ module _ (g : Schedule) (good : Good g) where
         ordered = along-ordered g v (insertAt at f queue) (sorted-insert (widerKeyNear g v) f queue (ordered-along g v queue (ok .ordered)) other);
         single = apart-insertAt sameOrigin origin-sym at f queue (p .new) (ok .single);
         early = every-insertAt (notEarly s v) at f queue ∙ and-intro (p .early) (ok .early);
-        overdue = every-insertAt (widerNotOverdue g v B) at f queue ∙ and-intro (overdue-along g v B f (p .due)) (ok .overdue);
+        expired = every-insertAt (widerNotExpired g v B) at f queue ∙ and-intro (expired-along g v B f (p .due)) (ok .expired);
       }
     where
       one : (a : Frame) → (a ≡ f) ⊎ List·Memᴰ a queue → FrameWithin g s a
@@ -380,10 +380,10 @@ module _ (g : Schedule) (good : Good g) where
   gap-small least gap d =
       omega (arith, d .most, limits-widest g good B .0, widest-good g good .modulus-least, widest-modulus g good)
 
-  pub early-few-along :
+  pub overdue-few-along :
       (v least : ℕ) (queue : List Frame) → v < B → B + 1 ≤ least + s .epsilon → QueueAlong g v least queue
       → length (select (widerDueBefore g v) queue) ≤ s .n * (2 * s .epsilon - 2)
-  early-few-along v least queue below few ok = go (due-gap g good least)
+  overdue-few-along v least queue below few ok = go (due-gap g good least)
     where
       go : (gap : ℕ) × Gap g least gap → length (select (widerDueBefore g v) queue) ≤ s .n * (2 * s .epsilon - 2)
       go (gap, d) =
@@ -470,7 +470,7 @@ module _ (g : Schedule) (good : Good g) where
         ordered = left .ordered;
         single = left .single;
         early = every-of-mem (notEarly s v) queue (λ f m. early-to s v f (omega (arith, left .early f m, modulus-own)));
-        overdue = every-of-mem (widerNotOverdue g v (B + 1)) queue (λ f m. overdue-along g v (B + 1) f (omega (arith, left .later f m)));
+        expired = every-of-mem (widerNotExpired g v (B + 1)) queue (λ f m. expired-along g v (B + 1) f (omega (arith, left .later f m)));
       }
 
   -- what a call leaves is never full
@@ -491,4 +491,4 @@ module _ (g : Schedule) (good : Good g) where
       ∙ (every-map (widerPasses g) encode queue ∙ every-of-mem (λ f. widerPasses g (encode f)) queue (λ f m. wide-passes g f (ok .frames f m))) in
       and-intro (le-leb (twoAt (encodeFrames queue ++ rest) 0) (depthOf s) (omega (arith, count, few)))
       (and-intro passed
-      (rw back (and-intro (ok .ordered) (and-intro (ok .single) (and-intro (ok .early) (ok .overdue))))))
+      (rw back (and-intro (ok .ordered) (and-intro (ok .single) (and-intro (ok .early) (ok .expired))))))

@@ -22,7 +22,7 @@ use Rattle.lemmas.proofs.Hearing.{numbersBy, fold-stamp, fold-verdicts}
 use Rattle.lemmas.proofs.Queue.{early-from}
 use Rattle.lemmas.proofs.Schedules.{Good, wide, limits-good, limits-modulus, limits-grow, Aligned, limits-aligned, modulus-aligned}
 use Rattle.lemmas.proofs.WiderQueue.{PassedAlong, judged-along}
-use Rattle.lemmas.proofs.WiderBoard.{heard-verdict-along}
+use Rattle.lemmas.proofs.WiderReceiving.{heard-verdict-along}
 use Rattle.lemmas.proofs.Carried.{Follows}
 
 -- ---- opened

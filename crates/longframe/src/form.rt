@@ -88,22 +88,22 @@ pub fn stamp_of(epsilon: usize, s: &[u8]) -> Timestamp
 }
 
 // 10 to 12: the number of the first no, or 0.
-pub fn check(setup: Setup, s: &[u8]) -> u8
+pub fn check(setup: Setup, frame: &[u8]) -> u8
     requires { ⌜ longLimits (setupOf setup) ≡ true ⌝ }
-    ensures { λ r. ⌜ r ≡ firstNo (longFrameQuestions (setupOf setup) (now (s .entry))) ⌝ }
+    ensures { λ r. ⌜ r ≡ firstNo (longFrameQuestions (setupOf setup) (now (frame .entry))) ⌝ }
 {
     let n = setup.n as usize;
     let epsilon = setup.epsilon as usize;
-    if !well_formed(epsilon, s) {
+    if !well_formed(epsilon, frame) {
         return BAD_FORM;
     }
-    if n <= station_of(s) {
+    if n <= station_of(frame) {
         return BAD_RANGE;
     }
-    if BOUND <= r_of(s) {
+    if BOUND <= r_of(frame) {
         return BAD_RANGE;
     }
-    let later = six_on(s);
+    let later = six_on(frame);
     let c = c_of(later);
     if !sound_counts(counts_part(epsilon, later), c, n, epsilon) {
         return BAD_STAMP;

@@ -4,7 +4,7 @@ use crate::form::six_on;
 use crate::form::stamp_of;
 use crate::form::station_of;
 use crate::limits::valid_for;
-use frame::Reading;
+use frame::ReadFrame;
 use frame::payload_part;
 use frame::refused;
 use setup::BAD_SETUP;
@@ -27,7 +27,7 @@ fn check_read(setup: Setup, own: u32, frame: &[u8]) -> u8
 }
 
 // The answer of the reader.
-pub fn read(setup: Setup, own: u32, frame: &[u8]) -> Reading
+pub fn read(setup: Setup, own: u32, frame: &[u8]) -> ReadFrame
     ensures { λ r. ⌜ readAnswer r (longRead (setupOf setup) own (now (frame .entry)) .payload)
         ≡ longRead (setupOf setup) own (now (frame .entry)) ⌝ }
 {
@@ -36,7 +36,7 @@ pub fn read(setup: Setup, own: u32, frame: &[u8]) -> Reading
         return refused(number);
     }
     let stamp = stamp_of(setup.epsilon as usize, frame);
-    Reading {
+    ReadFrame {
         number: 0,
         station: station_of(frame),
         stamp,

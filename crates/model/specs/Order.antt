@@ -53,5 +53,5 @@ unfoldable pub dueNear : Setup → ℕ → Frame → ℕ
 dueNear s v f = due s (readingOf s v f) (f .stamp .c)
 
 -- the clock, modulo B, of a reading near v, which reads B
-unfoldable pub clockAt : Setup → ℕ → ℕ → ℕ
-clockAt s v reading = (v + reading) % s .modulus
+unfoldable pub readingClock : Setup → ℕ → ℕ → ℕ
+readingClock s v reading = (v + reading) % s .modulus

@@ -5,8 +5,8 @@ use setup::BAD_PAYLOAD;
 use setup::BAD_SETUP;
 use setup::LONGEST_PAYLOAD;
 use setup::Setup;
-use setup::board_roomy;
 use setup::check_holdback;
+use setup::delivery_roomy;
 use setup::longest_frame;
 use setup::valid_for;
 ghost use mathlib.Core.Path.{_≡_};
@@ -40,7 +40,7 @@ pub fn check_buffers(
     if outgoing.len() < longest {
         return BAD_BUFFERS;
     }
-    if !board_roomy(holdback, verdicts, delivery) {
+    if !delivery_roomy(holdback, verdicts, delivery) {
         return BAD_BUFFERS;
     }
     0

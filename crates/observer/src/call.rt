@@ -3,8 +3,8 @@ use setup::BAD_BATCH;
 use setup::BAD_BUFFERS;
 use setup::BAD_SETUP;
 use setup::Setup;
-use setup::board_roomy;
 use setup::check_holdback;
+use setup::delivery_roomy;
 use setup::in_limits;
 ghost use mathlib.Core.Path.{_≡_};
 ghost use Prim.Native.Nat.{ℕ};
@@ -35,7 +35,7 @@ pub fn check_listen(
     if !batch::exact(batch) {
         return BAD_BATCH;
     }
-    if !board_roomy(holdback, verdicts, delivery) {
+    if !delivery_roomy(holdback, verdicts, delivery) {
         return BAD_BUFFERS;
     }
     0

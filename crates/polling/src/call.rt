@@ -3,7 +3,7 @@ use crate::front::Next;
 use crate::front::next_due;
 use crate::front::number_within;
 use holdback::FRONT;
-use holdback::START_PLACES;
+use holdback::START_ENTRIES;
 use holdback::TABLE_LENGTH;
 use holdback::sound;
 use setup::BAD_SETUP;
@@ -77,7 +77,7 @@ fn ask_queue(setup: Setup, clock: usize, d: usize, holdback: &[u8]) -> Polled
     ensures { λ r. ⌜ pollAnswer r ≡ pollBy 0 (setupOf setup) clock d (polledQueue (setupOf setup) clock (now (holdback .entry))) ⌝ }
 {
     let mut seen = [0u64; TABLE_LENGTH];
-    let mut starts = [FRONT; START_PLACES];
+    let mut starts = [FRONT; START_ENTRIES];
     let least = setup.modulus as usize + 1;
     let walk = sound(setup, clock, least, holdback, &mut seen, &mut starts);
     if !walk.sound {

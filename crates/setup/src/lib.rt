@@ -27,5 +27,5 @@ pub use numbers::EARLY;
 pub use numbers::LATE;
 pub use numbers::REPEAT;
 pub use numbers::TOO_MANY;
-pub use questions::board_roomy;
 pub use questions::check_holdback;
+pub use questions::delivery_roomy;

@@ -29,7 +29,7 @@ use Rattle.theory.proofs.Invariant.{step-good}
 use Rattle.theory.proofs.Start.{allowed-fact}
 use Rattle.theory.proofs.Fresh.{settles-fresh, legal-fresh, none-stale-before, last-sent}
 use Rattle.theory.proofs.PublishedRun.{Copies, Twin, Paired, LastAs, sent-as-snoc, ranked-snoc, twin-stays}
-use Rattle.theory.proofs.PublishedCall.{heardHere, none-overdue, frame-is, same-as, ranked-last, twin-moves}
+use Rattle.theory.proofs.PublishedCall.{heardHere, none-expired, frame-is, same-as, ranked-last, twin-moves}
 use Rattle.theory.proofs.PublishedStart.{paired-fresh}
 
 -- what the call sends in the published program
@@ -37,14 +37,14 @@ abbrev pub sentHere : Setup → List (Option Message) → Call → ℕ → Proce
 sentHere s sent call v p = cond (call .send) (some (messageOf (s .epsilon) v p (heardHere sent call) (call .payload))) none
 
 -- nothing that the process of a call holds is due before the call's clock
-abbrev pub NoneOverdue : Setup → Published → Done → Type 0
-NoneOverdue s u d =
+abbrev pub NoneExpired : Setup → Published → Done → Type 0
+NoneExpired s u d =
     (p : Process) → getElem? (u .processes) (d .node) ≡ some p
     → (m : Message) → List·Memᴰ m (buffered p (messagesHeard (u .sent) (d .call .sources))) → d .clock ≤ messageDue (s .epsilon) (s .delta) m
 
 -- an accepted call and the published program as it stands before that
 abbrev pub Follows : Setup → Published → Done → Type 0
-Follows s u d = Matched deliverableBy s u d × (d .call .step ≡ 1 → NoneOverdue s u d)
+Follows s u d = Matched deliverableBy s u d × (d .call .step ≡ 1 → NoneExpired s u d)
 
 -- an accepted call of a station
 module _ (s : Setup) (w : World) (u : Published) (call : Call) (node : Node) (v : ℕ) (paired : Paired s w u) (legal : PlainLegal s 0 w call node v)
@@ -165,7 +165,7 @@ module _ (s : Setup) (w : World) (u : Published) (call : Call) (node : Node) (v 
     λ one q q-at m t.
         let same : q ≡ p = some-inj (sym q-at ∙ p-at) in
         subst (λ (n : ℕ). n ≤ messageDue (s .epsilon) (s .delta) m) (sym moved)
-        (none-overdue s w (u .sent) call node v p (paired .good) legal (paired .sent-as) (paired .ranked) twin station one m
+        (none-expired s w (u .sent) call node v p (paired .good) legal (paired .sent-as) (paired .ranked) twin station one m
         (subst (λ (x : Process). List·Memᴰ m (buffered x (heardHere (u .sent) call))) same t)),
   )
 

@@ -22,9 +22,9 @@ use Rattle.model.specs.Run.{Node, Source, sentBy, stale, Call, Done, inputOf, i
 use Rattle.theory.specs.Demand3.{heardIn, isFrom}
 use Rattle.lemmas.proofs.Hearing.{numbersBy}
 use Rattle.lemmas.proofs.Schedules.{Good as GoodSchedule}
-use Rattle.lemmas.proofs.WiderBoard.{verdict-along}
+use Rattle.lemmas.proofs.WiderReceiving.{verdict-along}
 use Rattle.lemmas.proofs.WiderTick.{heard-numbers-along}
-use Rattle.theory.proofs.Boards.{heardOn, verdicts-here}
+use Rattle.theory.proofs.Received.{heardOn, verdicts-here}
 use Rattle.theory.proofs.World.{Called, heardAt, askingBy, leastBy, askingAt, leastAt, restAt}
 
 -- general

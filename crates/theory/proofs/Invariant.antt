@@ -23,7 +23,7 @@ use Rattle.theory.specs.Demand3.{covered, heardIn, isFrom}
 use Rattle.lemmas.proofs.Schedules.{limits-good}
 use Rattle.lemmas.proofs.Positions.{seen-in}
 use Rattle.theory.proofs.Event.{done-clock, after-clock, event-stamp, event-made, leaves-tables, tables-left, event-own}
-use Rattle.theory.proofs.Boards.{heardOn, keptOn, memory-left}
+use Rattle.theory.proofs.Received.{heardOn, keptOn, memory-left}
 use Rattle.theory.proofs.Entries.{from-entry}
 use Rattle.theory.proofs.Reach.{isStation, reached-grows, reached-gains}
 use Rattle.theory.proofs.Stamps.{bounded-grows, own-bounded}

@@ -11,7 +11,7 @@ pub mod Outputs
 pub mod Event
 pub mod Writing
 pub mod Due
-pub mod Boards
+pub mod Received
 pub mod HearLoop
 pub mod Delivery
 pub mod Entries

@@ -34,7 +34,7 @@ use Rattle.lemmas.proofs.RoundTrip.{decode-encode, frame-passes}
 use Rattle.lemmas.proofs.LongFrames.{long-decode-encode, long-frame-passes}
 use Rattle.lemmas.proofs.LongStamps.{atClock, absorb-moved}
 use Rattle.lemmas.proofs.Hearing.{numbersBy}
-use Rattle.lemmas.proofs.Board.{numbersOf}
+use Rattle.lemmas.proofs.Receiving.{numbersOf}
 use Rattle.theory.proofs.Plain.{hear-refused}
 use Rattle.theory.proofs.PublishedEvent.{ReadsTrue}
 use Rattle.theory.proofs.PublishedQueue.{SameMembers}

@@ -17,7 +17,7 @@ use Rattle.model.specs.Published.{Message, Process, deliverable, deliverableBy,
 use Rattle.model.specs.Run.{Call, Done, isEvent, runFrom, atStart}
 use Rattle.theory.specs.Premises.{stepsOfOne}
 use Rattle.theory.specs.Demand2.{messagesHeard, Published, Outcome, outcomeOf, publishOn, publish, publishAll, publishedStart, SameAs, Matched, OneProgram, Demand2Ones}
-use Rattle.theory.proofs.Demand2.{NoneOverdue, fresh-follow}
+use Rattle.theory.proofs.Demand2.{NoneExpired, fresh-follow}
 
 -- of a message that is not due before v both conditions say the same
 condition-alike : (s : Setup) (v : ℕ) (m : Message) → v ≤ messageDue (s .epsilon) (s .delta) m → deliverable (s .epsilon) (s .delta) v m ≡ deliverableBy (s .epsilon) (s .delta) v m
@@ -69,7 +69,7 @@ outcome-alike s sent p v call undue =
     }
 
 -- one call
-publish-alike : (s : Setup) (u : Published) (d : Done) → (isEvent d ≡ true → NoneOverdue s u d) → publish deliverable s u d ≡ publish deliverableBy s u d
+publish-alike : (s : Setup) (u : Published) (d : Done) → (isEvent d ≡ true → NoneExpired s u d) → publish deliverable s u d ≡ publish deliverableBy s u d
 unfolding publish outcomeOf
 publish-alike s u d undue = go (isEvent d) (getElem? (u .processes) (d .node)) refl refl
   where

@@ -122,15 +122,15 @@ module _ (g l : Schedule) (node found : Node) (call : Call) (v : ℕ) (good : Go
         found-holdback call node found (c .found-is)
         ∙ (ap (λ (x : List ℕ). x ++ call .spare) (memory .bytes) ∙ append-assoc (encodeFrames (memory .queue)) (memory .rest) (call .spare))
 
-    pub sound-shelf : widerSoundHoldback l u (leastAt l v found) (found .holdback) ≡ true
-    sound-shelf =
+    pub sound-holdback : widerSoundHoldback l u (leastAt l v found) (found .holdback) ≡ true
+    sound-holdback =
         ap₂ (λ (x : ℕ) (y : List ℕ). widerSoundHoldback l u x y) least-is bytes-are
         ∙ placed-bytes g l (node .clock) v k good good-l (c .agrees) (c .turn) (c .step-pos) (c .step-few) (memory .queue) (memory .placed) widths behind
 
-    pub opens-shelf : openedAt l v found ≡ memory .queue
+    pub opens-holdback : openedAt l v found ≡ memory .queue
     unfolding widerOpeningQueue
-    opens-shelf =
-        ap (λ (b : Bool). cond b (widerHeld l (found .holdback)) []) sound-shelf
+    opens-holdback =
+        ap (λ (b : Bool). cond b (widerHeld l (found .holdback)) []) sound-holdback
         ∙ (ap (widerHeld l) bytes-are
         ∙ placed-held g l (node .clock) v k good good-l (c .agrees) (c .turn) (c .step-pos) (c .step-few) (memory .queue) (memory .placed) widths behind)
 
@@ -197,7 +197,7 @@ module _ (g l : Schedule) (floor from : ℕ) (w : World) (node found : Node) (ca
     node-opens (inl old) (inr widths) = untouched-opens old
     node-opens (inr left) (inr widths) =
         subst (OpensQueue g floor from w (call .node) (node .clock) v)
-        (sym (opens-shelf g l node found call v good good-l c (left .memory) (λ station. left .stamp station .tables) (widths (left .memory) (left .members))))
+        (sym (opens-holdback g l node found call v good good-l c (left .memory) (λ station. left .stamp station .tables) (widths (left .memory) (left .members))))
         (left-opens left)
 
     -- and a station's stamp

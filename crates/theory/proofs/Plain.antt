@@ -17,15 +17,15 @@ use Rattle.model.specs.Batch.{batchEntries}
 use Rattle.model.specs.Question.{firstNo}
 use Rattle.model.specs.Holdback.{held, soundHoldback, encodeFrames, encodeHoldback}
 use Rattle.model.specs.Judge.{Asking, Heard, hear, hearOne, judge, judgeQuestions, placeFor, absorbAll}
-use Rattle.model.specs.Tick.{Output, Input, holdbackSize, leastDue, openingStamp, openingQueue, openingIn, openedQueue, earlyOf, heardOf, heardStamp, newStamp, deliveredOf, keptOf, repairOf, shelfSound, tablesSound, tick}
+use Rattle.model.specs.Tick.{Output, Input, holdbackSize, leastDue, openingStamp, openingQueue, openingIn, openedQueue, overdueOf, heardOf, heardStamp, newStamp, deliveredOf, keptOf, repairOf, holdbackSound, tablesSound, tick}
 use Rattle.model.specs.Schedule.{steady, Wider}
 use Rattle.model.specs.Wider.{widerNewStamp, widerSoundHoldback, widerOpeningQueue, widerDueBefore}
 use Rattle.model.specs.Run.{Node, Call, Done, World, inputOf, isAccepted, outputOf, doneOf, nodeAfter, scheduleBy, scheduleOf, lengthened}
 use Rattle.model.proofs.ComputingWider.{computingWider}
 use Rattle.lemmas.proofs.Bounds.{Limits, Sound}
-use Rattle.lemmas.proofs.Board.{Board, numbersOf, boardHeard, boardDelivered, boardKept, board-held, board-sorted, hear-verdicts}
+use Rattle.lemmas.proofs.Receiving.{Receiving, numbersOf, receiveHeard, receiveDelivered, receiveKept, receive-held, receive-sorted, hear-verdicts}
 use Rattle.lemmas.proofs.OneCall.{lengthened-none, plain-output}
-use Rattle.lemmas.proofs.OneTick.{Accepted, accepted-call, tick-board, new-sound, delivery-is, holdback-is}
+use Rattle.lemmas.proofs.OneTick.{Accepted, accepted-call, tick-receiving, new-sound, delivery-is, holdback-is}
 use Rattle.lemmas.proofs.Agreeing.{agrees-steady}
 use Rattle.theory.proofs.HearLoop.{QueueLoop}
 use Rattle.theory.proofs.Entries.{stateAt}
@@ -127,25 +127,25 @@ startPlain s v node = openingIn s (v % s .modulus) (openedPlain s v node)
 
 abbrev pub heardPlain : Setup → ℕ → Node → Call → Heard
 heardPlain s v node call =
-    boardHeard s (v % s .modulus) (leastPlain s v node) (judgeQuestions s (v % s .modulus)) (node .holdback) (batchEntries (call .batch))
+    receiveHeard s (v % s .modulus) (leastPlain s v node) (judgeQuestions s (v % s .modulus)) (node .holdback) (batchEntries (call .batch))
 
 abbrev pub deliveredPlain : Setup → ℕ → Node → Call → List Frame
 deliveredPlain s v node call =
-    boardDelivered s (v % s .modulus) (leastPlain s v node) (judgeQuestions s (v % s .modulus)) (node .holdback) (batchEntries (call .batch))
+    receiveDelivered s (v % s .modulus) (leastPlain s v node) (judgeQuestions s (v % s .modulus)) (node .holdback) (batchEntries (call .batch))
 
 abbrev pub keptPlain : Setup → ℕ → Node → Call → List Frame
 keptPlain s v node call =
-    boardKept s (v % s .modulus) (leastPlain s v node) (judgeQuestions s (v % s .modulus)) (node .holdback) (batchEntries (call .batch))
+    receiveKept s (v % s .modulus) (leastPlain s v node) (judgeQuestions s (v % s .modulus)) (node .holdback) (batchEntries (call .batch))
 
 module _ (s : Setup) (node : Node) (call : Call) {v : ℕ} (c : Ticks s node call v) where
   abbrev i : Input
   i = inputOf node call
 
-  pub board-at : Board s (v % s .modulus) (leastPlain s v node) (judgeQuestions s (v % s .modulus))
-  board-at =
-      let board : Board (call .setup) (call .clock) (leastDue (call .setup) (call .clock) (node .tables)) (judgeQuestions (call .setup) (call .clock)) =
-      unfold inputOf in (tick-board (inputOf node call) (accepted-input s node call c)) in
-      rw (c .due .setup-is, c .due .clock-is) at board
+  pub receive-at : Receiving s (v % s .modulus) (leastPlain s v node) (judgeQuestions s (v % s .modulus))
+  receive-at =
+      let receiving : Receiving (call .setup) (call .clock) (leastDue (call .setup) (call .clock) (node .tables)) (judgeQuestions (call .setup) (call .clock)) =
+      unfold inputOf in (tick-receiving (inputOf node call) (accepted-input s node call c)) in
+      rw (c .due .setup-is, c .due .clock-is) at receiving
 
   pub heard-all : heardOf (inputOf node call) ≡ hear s (v % s .modulus) (judgeQuestions s (v % s .modulus)) (startPlain s v node) (batchEntries (call .batch))
   unfolding heardOf openedQueue inputOf
@@ -166,7 +166,7 @@ module _ (s : Setup) (node : Node) (call : Call) {v : ℕ} (c : Ticks s node cal
   delivery-here =
       ap (λ (o : Output). o .delivery) (output-tick s node call c)
       ∙ (delivery-is (inputOf node call) (accepted-input s node call c)
-      ∙ unfold deliveredOf earlyOf heardOf openedQueue inputOf in (rw (c .due .setup-is, c .due .clock-is) refl))
+      ∙ unfold deliveredOf overdueOf heardOf openedQueue inputOf in (rw (c .due .setup-is, c .due .clock-is) refl))
 
   pub holdback-here : outputOf node call .holdback ≡ encodeHoldback (holdbackSize s) (keptPlain s v node call)
   holdback-here =
@@ -175,7 +175,7 @@ module _ (s : Setup) (node : Node) (call : Call) {v : ℕ} (c : Ticks s node cal
       ∙ unfold keptOf heardOf openedQueue inputOf in (rw (c .due .setup-is, c .due .clock-is) refl))
 
   pub delivers-sorted : Sorted (keyNear s (v % s .modulus)) (deliveredPlain s v node call)
-  delivers-sorted = board-sorted s (v % s .modulus) (leastPlain s v node) (judgeQuestions s (v % s .modulus)) (node .holdback) (batchEntries (call .batch)) board-at
+  delivers-sorted = receive-sorted s (v % s .modulus) (leastPlain s v node) (judgeQuestions s (v % s .modulus)) (node .holdback) (batchEntries (call .batch)) receive-at
 
   leaves-bytes : nodeAfter node (call .step) (outputOf node call) .holdback ≡ outputOf node call .holdback
   unfolding nodeAfter
@@ -184,7 +184,7 @@ module _ (s : Setup) (node : Node) (call : Call) {v : ℕ} (c : Ticks s node cal
   pub leaves-queue : held (s .epsilon) (nodeAfter node (call .step) (outputOf node call) .holdback) ≡ keptPlain s v node call
   leaves-queue =
       ap (held (s .epsilon)) (leaves-bytes ∙ holdback-here)
-      ∙ board-held s (v % s .modulus) (leastPlain s v node) (judgeQuestions s (v % s .modulus)) (node .holdback) (batchEntries (call .batch)) board-at
+      ∙ receive-held s (v % s .modulus) (leastPlain s v node) (judgeQuestions s (v % s .modulus)) (node .holdback) (batchEntries (call .batch)) receive-at
 
   -- what the call before left is opened as it is
   module _ (memory : Memory (steady s) node) (tables : Tables (steady s) node) where
@@ -202,25 +202,25 @@ module _ (s : Setup) (node : Node) (call : Call) {v : ℕ} (c : Ticks s node cal
     unfolding computingWider
     sound-tables = opening.sound-tables (steady s) (steady s) node node call v limits limits called memory tables
 
-    sound-shelf : soundHoldback s (v % s .modulus) (leastPlain s v node) (node .holdback) ≡ true
+    sound-holdback : soundHoldback s (v % s .modulus) (leastPlain s v node) (node .holdback) ≡ true
     unfolding computingWider
-    sound-shelf =
+    sound-holdback =
         go (node .listens) (c .station)
-        (opening.sound-shelf (steady s) (steady s) node node call v limits limits called memory (λ station. tables) (λ f m. refl))
+        (opening.sound-holdback (steady s) (steady s) node node call v limits limits called memory (λ station. tables) (λ f m. refl))
       where
         go : (b : Bool) → b ≡ false → widerSoundHoldback (steady s) (v % s .modulus) (leastBy b (steady s) (v % s .modulus) (node .tables)) (node .holdback) ≡ true
             → soundHoldback s (v % s .modulus) (leastPlain s v node) (node .holdback) ≡ true
         go false e h = h
         go true e h = absurd (clash refl e)
 
-    pub opens-shelf : openedPlain s v node ≡ held (s .epsilon) (node .holdback)
+    pub opens-holdback : openedPlain s v node ≡ held (s .epsilon) (node .holdback)
     unfolding openingQueue
-    opens-shelf = cond-true (held (s .epsilon) (node .holdback)) [] sound-shelf
+    opens-holdback = cond-true (held (s .epsilon) (node .holdback)) [] sound-holdback
 
     -- nothing is mended
     pub opens-calm : repairOf s (v % s .modulus) (node .tables) (node .holdback) ≡ 0
-    unfolding repairOf shelfSound
-    opens-calm = rw (sound-tables, sound-shelf)
+    unfolding repairOf holdbackSound
+    opens-calm = rw (sound-tables, sound-holdback)
 
   -- what hearing starts from, along the steady schedule
   pub start-plain :

@@ -32,20 +32,20 @@ use Rattle.theory.specs.Through.{earlierAlong, dueHereAlong, coveredAlon
 use Rattle.lemmas.proofs.Schedules.{Good as GoodSchedule, limits-good, limits-grow}
 use Rattle.lemmas.proofs.WideFrames.{half-back}
 use Rattle.lemmas.proofs.WiderQueue.{QueueAlong, opening-along, rest-along, before-along, now-along}
-use Rattle.lemmas.proofs.WiderBoard.{BoardAlong}
+use Rattle.lemmas.proofs.WiderReceiving.{ReceivingAlong}
 use Rattle.lemmas.proofs.WiderTick.{opening-stamp-along}
 use Rattle.lemmas.proofs.Agreeing.{limits-half, heard-late}
 use Rattle.lemmas.proofs.Positions.{placeAt, placedKey, Seen, seen-in, seen-order}
 use Rattle.theory.proofs.Outputs.{found-listens}
 use Rattle.theory.proofs.Cause.{cause-first}
 use Rattle.theory.proofs.Event.{done-clock, after-clock, event-made, event-own, event-reads}
-use Rattle.theory.proofs.Boards.{heardOn, deliveredOn, board-at, delivers-wide, delivers-sorted, delivers-bytes}
+use Rattle.theory.proofs.Received.{heardOn, deliveredOn, receive-at, delivers-wide, delivers-sorted, delivers-bytes}
 use Rattle.theory.proofs.Reach.{reached-some, reached-not-all}
 use Rattle.theory.proofs.Stamps.{own-under, own-strict}
 use Rattle.theory.proofs.HearLoop.{Settles, Arrival, Entry, Around, Unreached, QueueLoop, StampLoop, TakesOnce, judged-once, observed-once, queue-one, stamp-takes, stamp-one, covered-sends, some-inj}
 use Rattle.theory.proofs.Due.{due-seen, due-window-reads}
 use Rattle.theory.proofs.Delivery.{Delivers, delivery}
-use Rattle.theory.proofs.World.{eventFrame, eventDue, askingBy, askingAt, leastAt, openedAt, earlyAt, eventKey, Bounded, Under, heardAt, explained-more, CallEvent, Settled, Passed-on, Good, Legal, SentEntry, Kept, act-is, sends-event, event-kind, nodesAfter, after-at, after-other, after-together, OpensQueue, OpensStamp}
+use Rattle.theory.proofs.World.{eventFrame, eventDue, askingBy, askingAt, leastAt, openedAt, overdueAt, eventKey, Bounded, Under, heardAt, explained-more, CallEvent, Settled, Passed-on, Good, Legal, SentEntry, Kept, act-is, sends-event, event-kind, nodesAfter, after-at, after-other, after-together, OpensQueue, OpensStamp}
 use Rattle.theory.proofs.Opening.{node-opens, node-opens-stamp}
 use Rattle.theory.proofs.Entries.{heardTo, stateAt, stampAt, state-suc, stamp-suc, state-end, asking-is, stamp-end, heard-suc, state-verdict, from-entry, heard-end}
 
@@ -107,8 +107,8 @@ module _ (g l : Schedule) (floor from : ℕ) (settles : Settles g floor from) (w
   limits-g : GoodSchedule g
   limits-g = good .group .limits (call .node) node (legal .at)
 
-  board : BoardAlong l u (leastAt l v found) (askingAt l v found)
-  board = board-at g l node found call (legal .called)
+  receiving : ReceivingAlong l u (leastAt l v found) (askingAt l v found)
+  receiving = receive-at g l node found call (legal .called)
 
   found-kind : found .listens ≡ node .listens
   found-kind = found-listens call node found (legal .called .found-is)
@@ -118,9 +118,9 @@ module _ (g l : Schedule) (floor from : ℕ) (settles : Settles g floor from) (w
   around =
       record {
         limits = limits-g;
-        good = board .good;
+        good = receiving .good;
         agrees = legal .called .agrees;
-        below = board .below;
+        below = receiving .below;
         none-ahead = λ x h.
             let r = reached-some (w .nodes) x h in
             omega (arith, r .3, none-ahead g l floor from w call node found v good legal (r .0) (r .1) (r .2));
@@ -211,17 +211,17 @@ module _ (g l : Schedule) (floor from : ℕ) (settles : Settles g floor from) (w
   -- what it starts from
   starts : OpensQueue g floor from w (call .node) (node .clock) v (openedAt l v found)
   starts =
-      node-opens g l floor from w node found call v limits-g (board .good) (legal .called) (settles .0) (good .node (call .node) node (legal .at)) (legal .widths)
+      node-opens g l floor from w node found call v limits-g (receiving .good) (legal .called) (settles .0) (good .node (call .node) node (legal .at)) (legal .widths)
 
   opened-sound : QueueAlong l u (leastAt l v found) (openedAt l v found)
-  opened-sound = opening-along l (board .good) u (leastAt l v found) (found .holdback)
+  opened-sound = opening-along l (receiving .good) u (leastAt l v found) (found .holdback)
 
   -- a frame on a queue that is a message of the true clock R has its due clock as the node reads it
   due-there :
       (least : ℕ) (queue : List Frame) → modulusOf l + 1 ≤ least + ownLimits l .epsilon → QueueAlong l u least queue → (f : Frame) (R : ℕ) → List·Memᴰ f queue
       → placeAt g v f ≡ modulusOf g + R → dueAlong l (widerReading l u f + f .stamp .c) + v ≡ modulusOf l + dueAlong g (R + f .stamp .c)
   due-there least queue far ok f R there stands =
-      due-seen g l v (legal .called .agrees) R f stands (seen-in g l v (legal .called .agrees) least queue (board .good) far ok f there)
+      due-seen g l v (legal .called .agrees) R f stands (seen-in g l v (legal .called .agrees) least queue (receiving .good) far ok f there)
 
   -- so has a covered message that is due past the clock before the call
   due-waits :
@@ -235,7 +235,7 @@ module _ (g l : Schedule) (floor from : ℕ) (settles : Settles g floor from) (w
   unfolding stateAt widerHear foldLeft any widerDueBefore widerDue sum
   queue-start =
       record {
-        sound = rest-along l (board .good) u (leastAt l v found) (openedAt l v found) opened-sound;
+        sound = rest-along l (receiving .good) u (leastAt l v found) (openedAt l v found) opened-sound;
         members = λ f mem.
             explained-more g floor (w .past) (heardAt (w .past) (call .node)) (heardTo (w .past) call 0) v f (λ j h. or-left false h)
             (starts .members f (mem-of-select (λ b. not (widerDueBefore l u b)) (openedAt l v found) mem .0));
@@ -245,7 +245,7 @@ module _ (g l : Schedule) (floor from : ℕ) (settles : Settles g floor from) (w
             mem-select (λ b. not (widerDueBefore l u b)) there
             (not-of-false
             (le-ltb (dueAlong l (widerReading l u (eventFrame g m) + eventFrame g m .stamp .c)) (modulusOf l)
-            (omega (arith, due-waits (leastAt l v found) (openedAt l v found) (board .near) opened-sound k m there at fol un′, un))));
+            (omega (arith, due-waits (leastAt l v found) (openedAt l v found) (receiving .near) opened-sound k m there at fol un′, un))));
       }
 
   pub queue-at : (e : ℕ) → e ≤ length (batchEntries (call .batch)) → QueueAt e
@@ -321,7 +321,7 @@ module _ (g l : Schedule) (floor from : ℕ) (settles : Settles g floor from) (w
   heard-sound = queue-end .sound
 
   now-far : modulusOf l + 1 ≤ modulusOf l + ownLimits l .epsilon
-  now-far = omega (arith, limits-good l (board .good) (modulusOf l) .epsilon-pos)
+  now-far = omega (arith, limits-good l (receiving .good) (modulusOf l) .epsilon-pos)
 
   -- what of the covered messages heard here has come due since the clock before this call
   came-due :
@@ -354,7 +354,7 @@ module _ (g l : Schedule) (floor from : ℕ) (settles : Settles g floor from) (w
             ];
         not-past = λ f R m stands fol.
             elim (split f m) [
-              | inl q ↦ omega (arith, before-along l u f (q .1), due-there (leastAt l v found) (openedAt l v found) (board .near) opened-sound f R (q .0) stands)
+              | inl q ↦ omega (arith, before-along l u f (q .1), due-there (leastAt l v found) (openedAt l v found) (receiving .near) opened-sound f R (q .0) stands)
               | inr q ↦ omega (arith, now-along l u f (q .1), due-there (modulusOf l) (heardOn l v found call .queue) now-far heard-sound f R (q .0) stands)
             ];
         all = λ k m at fol hd lo hi.
@@ -365,10 +365,10 @@ module _ (g l : Schedule) (floor from : ℕ) (settles : Settles g floor from) (w
                   (mem-select (widerDueBefore l u) there
                   (unfold widerDueBefore widerDue sum in
                   (lt-ltb (dueAlong l (widerReading l u (eventFrame g m) + eventFrame g m .stamp .c)) (modulusOf l)
-                  (omega (arith, due-waits (leastAt l v found) (openedAt l v found) (board .near) opened-sound k m there at fol lo)))))
+                  (omega (arith, due-waits (leastAt l v found) (openedAt l v found) (receiving .near) opened-sound k m there at fol lo)))))
               | inr q ↦
                   let there = queue-end .present k m at fol hd q in
-                  Memᴰ·append-right (earlyAt l v found)
+                  Memᴰ·append-right (overdueAt l v found)
                   (mem-select (widerDueNow l u) there
                   (unfold widerDueNow widerDue sum in
                   (eq-eqb (dueAlong l (widerReading l u (eventFrame g m) + eventFrame g m .stamp .c)) (modulusOf l)
@@ -381,7 +381,7 @@ module _ (g l : Schedule) (floor from : ℕ) (settles : Settles g floor from) (w
           → (List·Memᴰ f (openedAt l v found) × (widerDueBefore l u f ≡ true))
           ⊎ (List·Memᴰ f (heardOn l v found call .queue) × (widerDueNow l u f ≡ true))
       split f m =
-          elim (List·Memᴰ·append-cases (earlyAt l v found) m) [
+          elim (List·Memᴰ·append-cases (overdueAt l v found) m) [
             | inl q ↦ inl (mem-of-select (widerDueBefore l u) (openedAt l v found) q)
             | inr q ↦ inr (mem-of-select (widerDueNow l u) (heardOn l v found call .queue) q)
           ]
@@ -389,8 +389,8 @@ module _ (g l : Schedule) (floor from : ℕ) (settles : Settles g floor from) (w
       seen : (f : Frame) → List·Memᴰ f (deliveredOn l v found call) → Seen g l u f
       seen f m =
           elim (split f m) [
-            | inl q ↦ seen-in g l v (legal .called .agrees) (leastAt l v found) (openedAt l v found) (board .good) (board .near) opened-sound f (q .0)
-            | inr q ↦ seen-in g l v (legal .called .agrees) (modulusOf l) (heardOn l v found call .queue) (board .good) now-far heard-sound f (q .0)
+            | inl q ↦ seen-in g l v (legal .called .agrees) (leastAt l v found) (openedAt l v found) (receiving .good) (receiving .near) opened-sound f (q .0)
+            | inr q ↦ seen-in g l v (legal .called .agrees) (modulusOf l) (heardOn l v found call .queue) (receiving .good) now-far heard-sound f (q .0)
           ]
 
   delivers-here :
@@ -428,7 +428,7 @@ module _ (g l : Schedule) (floor from : ℕ) (settles : Settles g floor from) (w
 
     starts-stamp : OpensStamp g floor w (call .node) v opening
     starts-stamp =
-        node-opens-stamp g l floor from w node found call v limits-g (board .good) (legal .called) (settles .0) (good .node (call .node) node (legal .at)) station
+        node-opens-stamp g l floor from w node found call v limits-g (receiving .good) (legal .called) (settles .0) (good .node (call .node) node (legal .at)) station
 
     stamp-next : (opening : Timestamp) (e : ℕ) → e < length (batchEntries (call .batch)) → StampAt opening e → StampAt opening (suc e)
     stamp-next opening e h loop =
@@ -436,7 +436,7 @@ module _ (g l : Schedule) (floor from : ℕ) (settles : Settles g floor from) (w
         (subst
         (λ (asking : Asking). StampLoop l floor (w .nodes) v opening
         (widerAbsorbBy l (firstNo (asking (stateAt l v found call e .queue) (getD (batchEntries (call .batch)) e []))) u (widerDecode l (getD (batchEntries (call .batch)) e [])) (stampAt l v found call e)))
-        (sym (asking-is l v found call (board .good) found-station))
+        (sym (asking-is l v found call (receiving .good) found-station))
         (stamp-one g l floor from settles (w .nodes) (w .past) v around (stateAt l v found call e .queue) opening (stampAt l v found call e)
         (getD (batchEntries (call .batch)) e []) (getD (call .sources) e stale) loop (entry-here e h)))
 
@@ -448,7 +448,7 @@ module _ (g l : Schedule) (floor from : ℕ) (settles : Settles g floor from) (w
     unfolding stampAt widerAbsorbAll absorbEach
     stamp-start =
         record {
-          opened = opening-stamp-along l (board .good) u (found .tables);
+          opened = opening-stamp-along l (receiving .good) u (found .tables);
           bounded = subst (λ (e : ℕ). Bounded e floor (w .nodes) v (opening .kn)) (sym own-epsilon) (starts-stamp .bounded);
           wider = λ half R f known. known;
         }
@@ -457,7 +457,7 @@ module _ (g l : Schedule) (floor from : ℕ) (settles : Settles g floor from) (w
     stamp-at e h = rw (add-zero e) at (stamp-on opening 0 e (omega arith) stamp-start)
 
     stamps-end : (opening : Timestamp) → StampAt opening many → StampLoop l floor (w .nodes) v opening heardStamp
-    stamps-end opening loop = subst (StampLoop l floor (w .nodes) v opening) (sym (stamp-end l v found call (board .good) found-station (legal .called .clock-is))) loop
+    stamps-end opening loop = subst (StampLoop l floor (w .nodes) v opening) (sym (stamp-end l v found call (receiving .good) found-station (legal .called .clock-is))) loop
 
     stamp-all : StampLoop l floor (w .nodes) v opening heardStamp
     stamp-all = stamps-end opening (stamp-at many (omega arith))
@@ -490,7 +490,7 @@ module _ (g l : Schedule) (floor from : ℕ) (settles : Settles g floor from) (w
         wide = stamp-all .opened .wide
 
         pos : 1 ≤ ownLimits l .epsilon
-        pos = limits-good l (board .good) (modulusOf l) .epsilon-pos
+        pos = limits-good l (receiving .good) (modulusOf l) .epsilon-pos
 
         more : Under half R (f .stamp) (ownLimits l .epsilon) v (eventFrame g (doneOf node call) .stamp)
         more =
@@ -534,7 +534,7 @@ module _ (g l : Schedule) (floor from : ℕ) (settles : Settles g floor from) (w
 
         verdict : firstNo (widerQuestions l u (stateAt l v found call e .queue) (messageBytes m)) ≡ 0
         verdict =
-            subst (λ (asking : Asking). firstNo (asking (stateAt l v found call e .queue) (messageBytes m)) ≡ 0) (asking-is l v found call (board .good) found-station)
+            subst (λ (asking : Asking). firstNo (asking (stateAt l v found call e .queue) (messageBytes m)) ≡ 0) (asking-is l v found call (receiving .good) found-station)
             (sym (state-verdict l v found call g node (legal .called) e (messageBytes m) (r .1)) ∙ zero-at)
 
         next :
@@ -543,7 +543,7 @@ module _ (g l : Schedule) (floor from : ℕ) (settles : Settles g floor from) (w
         next =
             rw (getElem?-getD (batchEntries (call .batch)) e [] (r .1)) at (stamp-suc l v found call e inside)
             ∙ ap (λ (asking : Asking). widerAbsorbBy l (firstNo (asking (stateAt l v found call e .queue) (messageBytes m))) u (widerDecode l (messageBytes m)) (stampAt l v found call e))
-            (asking-is l v found call (board .good) found-station)
+            (asking-is l v found call (receiving .good) found-station)
 
         taken : Under (limitsAt g (m .clock) .epsilon) (m .clock) (eventFrame g m .stamp) (ownLimits l .epsilon) v (stampAt l v found call (suc e))
         taken =
@@ -575,4 +575,4 @@ module _ (g l : Schedule) (floor from : ℕ) (settles : Settles g floor from) (w
       here made = unfold doneOf in (event-kind (doneOf node call) made)
 
   pub ends : Ends g l floor from w call node found v
-  ends = record { limits = limits-g; good = board .good; queue = queue-end; stamp = stamp-all; kept = step-kept }
+  ends = record { limits = limits-g; good = receiving .good; queue = queue-end; stamp = stamp-all; kept = step-kept }

@@ -24,20 +24,20 @@ use Rattle.model.specs.Codec.{frameOf}
 use Rattle.model.specs.Batch.{batchEntries}
 use Rattle.model.specs.Holdback.{encodeFrames, encodeHoldback}
 use Rattle.model.specs.Judge.{Heard, judgeQuestions, absorbAll}
-use Rattle.model.specs.Tick.{Output, holdbackSize, openingStamp, openedQueue, earlyOf, repairOf, heardOf, newStamp, sentBytes, dueBefore, dueNow, deliveredOf, takenCount, acceptance}
+use Rattle.model.specs.Tick.{Output, holdbackSize, openingStamp, openedQueue, overdueOf, repairOf, heardOf, newStamp, sentBytes, dueBefore, dueNow, deliveredOf, takenCount, acceptance}
 use Rattle.model.specs.Published.{Event, Message, Process, known, rank, sameMessage, newOnes, nextEvent, eventOf, deliverableBy, inOrder, buffered, deliveredAt, advanced, messageOf, messageDue}
 use Rattle.model.specs.Run.{Node, Call, Done, World, inputOf, outputOf, doneOf, nodeAfter}
 use Rattle.theory.specs.Demand2.{reduced, reducedFrame, messagesHeard, verdictsOn, outcomeOf, SameAs}
 use Rattle.theory.specs.Demand3.{isFrom, heardIn}
 use Rattle.lemmas.proofs.Counts.{trimmed-same}
 use Rattle.lemmas.proofs.Bounds.{Limits, Sound}
-use Rattle.lemmas.proofs.Board.{numbersOf, board-heard}
+use Rattle.lemmas.proofs.Receiving.{numbersOf, receive-heard}
 use Rattle.lemmas.proofs.OneTick.{tables-are, outgoing-is, sent-is, verdicts-are}
 use Rattle.model.specs.Schedule.{steady}
 use Rattle.theory.proofs.World.{Memory, Tables, LeftAt, NodeOk, eventFrame, heardAt, Good, Ticks}
 use Rattle.theory.proofs.Event.{done-clock, after-clock}
 use Rattle.theory.proofs.Entries.{heardTo}
-use Rattle.theory.proofs.Plain.{PlainLegal, output-tick, accepted-input, setup-at, clock-at, sound-at, leaves-tables, event-stamp as plain-event-stamp, leastPlain, openedPlain, startPlain, heardPlain, deliveredPlain, keptPlain, board-at, heard-all, absorbed-all, delivery-here, holdback-here, delivers-sorted, leaves-queue, opens-tables, opens-shelf, opens-calm, start-plain}
+use Rattle.theory.proofs.Plain.{PlainLegal, output-tick, accepted-input, setup-at, clock-at, sound-at, leaves-tables, event-stamp as plain-event-stamp, leastPlain, openedPlain, startPlain, heardPlain, deliveredPlain, keptPlain, receive-at, heard-all, absorbed-all, delivery-here, holdback-here, delivers-sorted, leaves-queue, opens-tables, opens-holdback, opens-calm, start-plain}
 use Rattle.theory.proofs.Fresh.{settles-fresh}
 use Rattle.theory.proofs.Promises.{around, unreached, entry-at, queue-at}
 use Rattle.theory.proofs.PublishedEvent.{ReadsTrue, absorbEvents, event-stamp, event-wide, Knows, knows-refl, knows-trans, next-knows, next-more}
@@ -90,7 +90,7 @@ module _ (s : Setup) (w : World) (sent : List (Option Message)) (call : Call) (n
       ∙ ap (step (call .step) (v % s .modulus)) (twin .stamp)
 
   pub open-queue : SameMembers (s .modulus) (openedPlain s v node) (p .buffer)
-  open-queue = rw (opens-shelf s node call ticks memory (tables-sound station)) (twin .queue)
+  open-queue = rw (opens-holdback s node call ticks memory (tables-sound station)) (twin .queue)
 
   open-waits : (m : Message) → List·Memᴰ m (p .buffer) → Waits s v m
   open-waits m t =
@@ -132,9 +132,9 @@ module _ (s : Setup) (w : World) (sent : List (Option Message)) (call : Call) (n
   all-waits m t = elim (List·Memᴰ·append-cases (p .buffer) t) [ inl q ↦ open-waits m q | inr q ↦ new-waits m q ]
 
   -- after a step of one nothing that the process holds is due before v
-  pub none-overdue : call .step ≡ 1 → (m : Message) → List·Memᴰ m (buffered p (heardHere sent call)) → v ≤ messageDue (s .epsilon) (s .delta) m
+  pub none-expired : call .step ≡ 1 → (m : Message) → List·Memᴰ m (buffered p (heardHere sent call)) → v ≤ messageDue (s .epsilon) (s .delta) m
   unfolding buffered
-  none-overdue one m t =
+  none-expired one m t =
       elim (List·Memᴰ·append-cases (p .buffer) t) [
         | inl q ↦ omega (arith, twin .undue m q, legal .called .turn, one)
         | inr q ↦ new-undue m q
@@ -214,7 +214,7 @@ module _ (s : Setup) (w : World) (sent : List (Option Message)) (call : Call) (n
   unfolding before compareFrames
   queue-sorted =
       sorted-of-chained (keyNear s (v % s .modulus)) (heardPlain s v node call .queue)
-      (board-heard s (v % s .modulus) (leastPlain s v node) (judgeQuestions s (v % s .modulus)) (node .holdback) (batchEntries (call .batch)) (board-at s node call ticks) .ordered)
+      (receive-heard s (v % s .modulus) (leastPlain s v node) (judgeQuestions s (v % s .modulus)) (node .holdback) (batchEntries (call .batch)) (receive-at s node call ticks) .ordered)
 
   pub delivered-is :
       deliveredPlain s v node call ≡ map (reducedFrame (s .modulus)) (deliveredAt deliverableBy (s .epsilon) (s .delta) v p (heardHere sent call))
@@ -278,7 +278,7 @@ module _ (s : Setup) (w : World) (sent : List (Option Message)) (call : Call) (n
       (seen-same sent (heardAt (w .past) (call .node)) (heardTo (w .past) call 0) (p .received) heard-start (twin .received))
 
   delivered-length : length (deliveredOf (inputOf node call)) ≡ length (deliveredPlain s v node call)
-  unfolding deliveredOf earlyOf heardOf openedQueue inputOf
+  unfolding deliveredOf overdueOf heardOf openedQueue inputOf
   delivered-length = rw (legal .called .setup-is, legal .called .clock-is) refl
 
   pub same-as : SameAs s (outcomeOf deliverableBy s sent p (doneOf node call .clock) call) (doneOf node call)

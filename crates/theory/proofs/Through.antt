@@ -29,11 +29,11 @@ use Rattle.theory.specs.Through.{coveredThrough, Demand3Through, Demand3
 use Rattle.lemmas.proofs.Counts.{trimmed-wide}
 use Rattle.lemmas.proofs.Schedules.{Widens, DueBy, old, new, due-by, limits-widest}
 use Rattle.lemmas.proofs.WideFrames.{half-back, wide-held}
-use Rattle.lemmas.proofs.WiderBoard.{queue-kept}
+use Rattle.lemmas.proofs.WiderReceiving.{queue-kept}
 use Rattle.lemmas.proofs.Agreeing.{Agrees}
 use Rattle.lemmas.proofs.Positions.{placeAt, placed}
 use Rattle.theory.proofs.World.{eventFrame, heardAt, Explained, AllExplained, Memory, Untouched, AsWide, Called, Legal, Group, SentEntry, EntryOk, act-is, nodesAfter, after-at, after-other, event-accepted}
-use Rattle.theory.proofs.Boards.{keptOn, board-at, memory-left}
+use Rattle.theory.proofs.Received.{keptOn, receive-at, memory-left}
 use Rattle.theory.proofs.HearLoop.{Settles, some-inj}
 use Rattle.theory.proofs.Refused.{refused-node}
 use Rattle.theory.proofs.Start.{distinct-fact, stations-few, same-setup, good-start, largest-clock}
@@ -108,7 +108,7 @@ module _ (y : Changeover) (l : Schedule) (node found : Node) (call : Call) {v : 
       let here : memory .queue ≡ keptOn l v found call =
       sym (memory-held (alongAll y) node′ memory) ∙ memory-held (alongAll y) node′ (memory-left (alongAll y) l node found call c) in
       let kept : List·Memᴰ f (keptOn l v found call) = subst (λ (q : List Frame). List·Memᴰ f q) here m in
-      sym (c .agrees .halves (length (f .stamp .kn)) (queue-kept l _ _ _ _ _ (board-at (alongAll y) l node found call c) .frames f kept .wide))
+      sym (c .agrees .halves (length (f .stamp .kn)) (queue-kept l _ _ _ _ _ (receive-at (alongAll y) l node found call c) .frames f kept .wide))
 
   pub fits-next : (next : Phase) → Has y next l → Fits y next node′
   fits-next older has = λ memory f m. left-half memory f m ∙ ap (λ (h : Schedule). frameHalf h f) has

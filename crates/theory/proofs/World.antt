@@ -152,8 +152,8 @@ leastAt l v node = leastBy (node .listens) l (v % modulusOf l) (node .tables)
 abbrev pub openedAt : Schedule → ℕ → Node → List Frame
 openedAt l v node = widerOpeningQueue l (v % modulusOf l) (leastAt l v node) (node .holdback)
 
-abbrev pub earlyAt : Schedule → ℕ → Node → List Frame
-earlyAt l v node = select (widerDueBefore l (v % modulusOf l)) (openedAt l v node)
+abbrev pub overdueAt : Schedule → ℕ → Node → List Frame
+overdueAt l v node = select (widerDueBefore l (v % modulusOf l)) (openedAt l v node)
 
 abbrev pub restAt : Schedule → ℕ → Node → List Frame
 restAt l v node = select (λ f. not (widerDueBefore l (v % modulusOf l) f)) (openedAt l v node)

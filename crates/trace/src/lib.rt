@@ -5,7 +5,7 @@ mod parse;
 mod parts;
 mod reasons;
 
-pub use lines::TickFigures;
+pub use lines::TickNumbers;
 pub use lines::put_lines;
 pub use lines::put_stopped;
 pub use parse::BAD_TRACE;

@@ -22,8 +22,8 @@ use Rattle.theory.specs.Through.{coveredThrough}
 use Rattle.theory.specs.LongAny.{longHeardBefore}
 use Rattle.theory.specs.LongClocks.{longStart, endsBelow, holdsFew}
 use Rattle.violations.specs.Tests.{sendingTest, hearingTest, deliveringTest, causalityTest, anyStateTest, anyObserverTest, sameAll, freshTest}
-use Rattle.violations.specs.Stories.{group, Scene, freshTables, freshNodes, callsOf, pastOf, causeAndEffect, heardTooLate, driftedApart, hauntedAt10, hauntedAt8, staleHeard, holdingNodes, wideGroup, wideNodes, wideCalls, widePast, steppedTooFar, notStepped, inputsFrom, inputsOf, unsoundTables, unsoundQueue, packed, packedAlone, packedEarly}
-use Rattle.violations.specs.Stories.{watchedNodes, watchedCalls, watchedPast, allAhead, leftBehind, forestalled, holdingWatched, wideWatched, watchedSteps, watchedStepped, listeningsFrom, unsoundShelf}
+use Rattle.violations.specs.Stories.{group, Scene, freshTables, freshNodes, callsOf, pastOf, causeAndEffect, heardTooLate, driftedApart, hauntedAt10, hauntedAt8, staleHeard, holdingNodes, wideGroup, wideNodes, wideCalls, widePast, steppedTooFar, notStepped, inputsFrom, inputsOf, unsoundTables, unsoundQueue, packed, packedAlone, packedOverdue}
+use Rattle.violations.specs.Stories.{watchedNodes, watchedCalls, watchedPast, allAhead, leftBehind, forestalled, holdingWatched, wideWatched, watchedSteps, watchedStepped, listeningsFrom, unsoundHoldback}
 use Rattle.violations.specs.Engines.{engineGroup, now, hearsTwo, heldTwice, holdsAll, engineTest, longSameAll, besideTest}
 use Rattle.violations.specs.Tests.{sendingAlong, hearingAlong, deliveringAlong}
 use Rattle.violations.specs.Through.{Turn, season, seasonCalls, seasonPast, freshPhases, bothPhases, twoBoth, lateUp, takenUpLate, nearChange, newTooSoon, heardNearChange, twoNear, aheadAtChange, longSeason, longNodes, longCalls, beforeChange, heardOneLate, togetherBefore, heardOwn, earlyNodes, steppedBefore, pastNodes, bothTooLong, frozenNodes, thawedSoon, haunting, hauntedLate, hauntedNodes, hauntedInTime, pastChange, knownAhead, togetherAt14, orderedBefore, oneAt, sendsOnce}
@@ -104,13 +104,13 @@ unfolding telling
 haunted-promised = refl
 
 -- damage is mended
-pub mended : (tick unsoundTables .answer .repair ∷ tick unsoundQueue .answer .repair ∷ []) ≡ 1 ∷ 2 ∷ []
+pub repaired : (tick unsoundTables .answer .repair ∷ tick unsoundQueue .answer .repair ∷ []) ≡ 1 ∷ 2 ∷ []
 unfolding telling
-mended = refl
+repaired = refl
 
-pub mended-figures : every anyStateTest (unsoundTables ∷ unsoundQueue ∷ []) ≡ true
+pub repaired-figures : every anyStateTest (unsoundTables ∷ unsoundQueue ∷ []) ≡ true
 unfolding telling
-mended-figures = refl
+repaired-figures = refl
 
 -- the premises rule the others out
 pub not-kept : map kept (heardTooLate ∷ driftedApart ∷ hauntedAt10 ∷ steppedTooFar ∷ notStepped ∷ []) ≡ replicate 5 false
@@ -170,13 +170,13 @@ unfolding telling
 watched-stepped = refl
 
 -- an observer's damage is mended
-pub watched-mended : (listen unsoundShelf .repair ∷ listen (record { setup = group; clock = 7; last = 8; holdback = unsoundShelf .holdback; batch = 0 ∷ []; verdicts = replicate 255 0; delivery = unsoundShelf .delivery }) .repair ∷ []) ≡ 2 ∷ 3 ∷ []
+pub watched-repaired : (listen unsoundHoldback .repair ∷ listen (record { setup = group; clock = 7; last = 8; holdback = unsoundHoldback .holdback; batch = 0 ∷ []; verdicts = replicate 255 0; delivery = unsoundHoldback .delivery }) .repair ∷ []) ≡ 2 ∷ 3 ∷ []
 unfolding telling
-watched-mended = refl
+watched-repaired = refl
 
-pub watched-mended-figures : anyObserverTest unsoundShelf ≡ true
+pub watched-repaired-figures : anyObserverTest unsoundHoldback ≡ true
 unfolding telling
-watched-mended-figures = refl
+watched-repaired-figures = refl
 
 -- the premises rule the others out
 pub watched-not-kept : map keptWatched (leftBehind ∷ forestalled ∷ []) ≡ replicate 2 false
@@ -193,11 +193,11 @@ unfolding telling
 packed-tight = refl
 
 -- as it was found a sound shelf may have n(δ + 3ε); but those due before v leave it before a frame is judged
-pub packed-early : (listen packedEarly .repair ∷ length (held 2 (packedEarly .holdback)) ∷ length (observedBefore packedEarly 0 .queue) ∷ []) ≡ 0 ∷ 7 ∷ 5 ∷ []
+pub packed-overdue : (listen packedOverdue .repair ∷ length (held 2 (packedOverdue .holdback)) ∷ length (observedBefore packedOverdue 0 .queue) ∷ []) ≡ 0 ∷ 7 ∷ 5 ∷ []
 unfolding telling
-packed-early = refl
+packed-overdue = refl
 
-pub packed-figures : (anyStateTest packed && every anyObserverTest (packedAlone ∷ packedEarly ∷ [])) ≡ true
+pub packed-figures : (anyStateTest packed && every anyObserverTest (packedAlone ∷ packedOverdue ∷ [])) ≡ true
 unfolding telling
 packed-figures = refl
 
@@ -208,9 +208,9 @@ unfolding engines
 engine-heard = refl
 
 -- its damage is mended
-pub engine-mended : longTick heldTwice .answer .repair ≡ 2
+pub engine-repaired : longTick heldTwice .answer .repair ≡ 2
 unfolding engines
-engine-mended = refl
+engine-repaired = refl
 
 pub engine-figures : every engineTest (hearsTwo ∷ heldTwice ∷ []) ≡ true
 unfolding engines

@@ -290,8 +290,8 @@ listeningsFrom w [] = []
 listeningsFrom w (call ∷ calls) = listeningTo (getElem? (w .nodes) (call .node)) call ++ listeningsFrom (act w call) calls
 
 -- a call for clock 7 of an observer whose shelf has a frame twice
-abbrev pub unsoundShelf : Listening
-unsoundShelf = listeningOf (observerWith group 6 (2 ∷ 0 ∷ (heldTwice ++ heldTwice))) (calling group 0 1 7 false [] [] [])
+abbrev pub unsoundHoldback : Listening
+unsoundHoldback = listeningOf (observerWith group 6 (2 ∷ 0 ∷ (heldTwice ++ heldTwice))) (calling group 0 1 7 false [] [] [])
   where
     heldTwice : List ℕ
     heldTwice = bytesOf 1 6 0 (0 ∷ 1 ∷ []) (9 ∷ [])
@@ -347,8 +347,8 @@ abbrev pub packedAlone : Listening
 packedAlone = listeningOf (observerWith (aloneGroup 1) 6 (0 ∷ 0 ∷ [])) (packedCall (aloneGroup 1))
 
 -- a call for clock 7, after 5, of an observer there with ε 2: its shelf has all seven frames that it is for, and the first two are due at 6
-abbrev pub packedEarly : Listening
-packedEarly = listeningOf (observerWith (aloneGroup 2) 5 (7 ∷ 0 ∷ frames)) (calling (aloneGroup 2) 0 2 7 false [] [] [])
+abbrev pub packedOverdue : Listening
+packedOverdue = listeningOf (observerWith (aloneGroup 2) 5 (7 ∷ 0 ∷ frames)) (calling (aloneGroup 2) 0 2 7 false [] [] [])
   where
     frames : List ℕ
     frames = bytesOf 0 2 1 (0 ∷ 0 ∷ 0 ∷ 1 ∷ []) [] ++ joined (λ r. bytesOf 0 r 0 (0 ∷ 0 ∷ 1 ∷ 0 ∷ []) []) (3 ∷ 4 ∷ 5 ∷ 6 ∷ 7 ∷ 8 ∷ [])

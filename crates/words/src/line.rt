@@ -20,7 +20,7 @@ ghost use Rattle.model.specs.Setup.{inLimits};
 ghost use Rattle.model.specs.Frame.{decode};
 ghost use Rattle.setup.specs.Views.{setupOf};
 ghost use Rattle.text.specs.Text.{Put, decimal, space};
-ghost use Rattle.words.specs.Words.{given, longestLine, orDash, ruleWord, wordOf, limitsOf, spaced, lineOf};
+ghost use Rattle.words.specs.Words.{given, longestLine, orDash, ruleWord, wordOf, ruleLimitsOf, spaced, lineOf};
 ghost use Rattle.words.specs.Answers.{shown};
 
 // 02: "For frames refused by 10 the station and r are a dash each".
@@ -101,9 +101,9 @@ fn one(first: usize) -> RuleLimits
 }
 
 // 02: "that rule's limits (n and B for 11, n and ε − 1 for 12, δ + ε for 13, ε − 1 for 14, n − 1 for 15, …, none for the others)".
-fn limits_of(setup: Setup, number: u8) -> RuleLimits
+fn rule_limits_of(setup: Setup, number: u8) -> RuleLimits
     requires { ⌜ inLimits (setupOf setup) ≡ true ⌝ }
-    ensures { λ r. ⌜ shown r ≡ limitsOf (setupOf setup) number ⌝ }
+    ensures { λ r. ⌜ shown r ≡ ruleLimitsOf (setupOf setup) number ⌝ }
 {
     let n = setup.n as usize;
     let epsilon = setup.epsilon as usize;
@@ -131,7 +131,7 @@ fn limits_of(setup: Setup, number: u8) -> RuleLimits
 }
 
 // The limits, each after a space, and the end of the line.
-fn put_limits(buf: &mut [u8], at: usize, l: RuleLimits) -> usize
+fn put_rule_limits(buf: &mut [u8], at: usize, l: RuleLimits) -> usize
     requires { ⌜ at + length (spaced (map decimal (shown l))) ≤ length (now buf) ⌝ }
     ensures { λ r. ⌜ Put (now (buf .entry)) at (spaced (map decimal (shown l))) (now (buf .exit)) r ⌝ }
 {
@@ -161,12 +161,12 @@ pub fn put_line(
     ensures { λ e. ⌜ Put (now (buf .entry)) at (lineOf (setupOf setup) position number (decode (setup .epsilon) (now (entry .entry)))) (now (buf .exit)) e ⌝ }
     ensures { λ e. ⌜ e ≤ at + longestLine ⌝ }
 {
-    let limits = limits_of(setup, number);
+    let limits = rule_limits_of(setup, number);
     let station = station_of(entry);
     let r = r_of(entry);
     let after_position = put_decimal(buf, at, position);
     let after_station = put_or_dash(buf, after_position, number, station);
     let after_r = put_or_dash(buf, after_station, number, r);
     let after_word = put_verdict(buf, after_r, number);
-    put_limits(buf, after_word, limits)
+    put_rule_limits(buf, after_word, limits)
 }

@@ -19,8 +19,8 @@ returns : tie.Need-returns
 returns c =
     let start = c .before .before .before in
     let total = c .before .sum-of in
-    let limits = limits-from (setupOf (start .args .s)) (start .pre .0 .0) in (
-      c .sum-due .ensures ∙ due-summed (setupOf (start .args .s)) (start .args .v) (decode (start .args .s .epsilon) (start .args .frame .now)) (total .result) (total .ensures),
+    let limits = limits-from (setupOf (start .args .setup)) (start .pre .0 .0) in (
+      c .sum-due .ensures ∙ due-summed (setupOf (start .args .setup)) (start .args .clock) (decode (start .args .setup .epsilon) (start .args .frame .now)) (total .result) (total .ensures),
       omega (arith, c .sum-due .ensures, total .ensures .small, limits .delta-most, limits .epsilon-most),
     )
 

@@ -36,7 +36,7 @@ wrapping-sub-u64-requires c κs = search needs
 returns : tie.Need-returns
 returns c =
     let start = c .before .before .before .before .before .before in
-    let s = setupOf (start .args .s) in
+    let s = setupOf (start .args .setup) in
     let own = c .before .before .sum-due in
     let last = c .before .sum-due2 in
     timely-by s (start .args .least) (start .args .rank) (limits-from s (start .pre .0 .0)) (start .pre .0 .1) (start .pre .1) (c .wrapping-sub-u64 .result) (own .result) (last .result) (search needs) (own .ensures) (last .ensures) (c .wrapping-sub-u64 .ensures)

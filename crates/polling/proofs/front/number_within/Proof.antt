@@ -25,7 +25,7 @@ cast-epsilon c = search needs
 loop-holds : tie.Need-loop-holds Inv-loop μ-loop
 loop-holds c =
     let start = c .before .before in
-    seek-starts (sound-stand (setupOf (start .args .s)) (start .args .v) (start .args .s .modulus) (start .args .buf .now) (start .pre .1 .0) (start .pre .1 .1 .0) (start .pre .1 .1 .1))
+    seek-starts (sound-stand (setupOf (start .args .setup)) (start .args .clock) (start .args .setup .modulus) (start .args .buf .now) (start .pre .1 .0) (start .pre .1 .1 .0) (start .pre .1 .1 .1))
 
 sub-frame-end : tie.Need-sub-frame-end Inv-loop μ-loop
 sub-frame-end c = seek-inside (c .before .loop .inv) (c .loop-test .taken)
@@ -39,7 +39,7 @@ part-frame-end-end c = search needs
 frame-end-requires : tie.Need-frame-end-requires Inv-loop μ-loop
 frame-end-requires c κs =
     let start = c .before .before .before .before .before in
-    limits-from (setupOf (start .args .s)) (start .pre .0 .0) .epsilon-most
+    limits-from (setupOf (start .args .setup)) (start .pre .0 .0) .epsilon-most
 
 add-next : tie.Need-add-next Inv-loop μ-loop
 add-next c = omega (arith, seek-next (c .before .before .before .loop .inv) (c .before .before .loop-test .taken) (c .frame-end .ensures))
@@ -64,7 +64,7 @@ returns c =
     let led = c .before .before .before .before .before .before .loop .inv in
     let more = c .before .before .before .before .before .loop-test .taken in
     let start = c .before .before .before .before .before .before .before .before .before in
-    within-number (setupOf (start .args .s)) (start .args .v) (start .args .s .modulus) (start .args .d) (start .args .buf .now) (start .pre .1 .0) (start .pre .1 .1 .1)
+    within-number (setupOf (start .args .setup)) (start .args .clock) (start .args .setup .modulus) (start .args .d) (start .args .buf .now) (start .pre .1 .0) (start .pre .1 .1 .1)
     (seek-stops led more (c .before .before .before .frame-end .ensures) (c .before .due-within .ensures) (c .if1 .taken))
 
 add-number : tie.Need-add-number Inv-loop μ-loop
@@ -83,7 +83,7 @@ loop-again c =
 returns-2 : tie.Need-returns-2 Inv-loop μ-loop
 returns-2 c =
     let start = c .before .before .before .before in
-    within-number (setupOf (start .args .s)) (start .args .v) (start .args .s .modulus) (start .args .d) (start .args .buf .now) (start .pre .1 .0) (start .pre .1 .1 .1)
+    within-number (setupOf (start .args .setup)) (start .args .clock) (start .args .setup .modulus) (start .args .d) (start .args .buf .now) (start .pre .1 .0) (start .pre .1 .1 .1)
     (seek-ends (c .before .loop .inv) (c .loop-test .left))
 
 pub number-within-spec : {M : Type 1} → statement M
