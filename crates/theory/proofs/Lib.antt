@@ -1,3 +1,4 @@
+pub mod Steadily
 pub mod Cause
 pub mod Readers
 pub mod LongReaders

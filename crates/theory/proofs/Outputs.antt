@@ -15,7 +15,7 @@ use Rattle.model.specs.Schedule.{Schedule, steady, widening, modulusOf, widestO
 use Rattle.model.specs.Wider.{widerAcceptance, tickIn}
 use Rattle.model.specs.WiderCalls.{widerListened, listenIn}
 use Rattle.model.specs.Run.{Node, Call, inputOf, listeningOf, listenedOutput, isAccepted, lengthened, outputBy, outputOf, scheduleBy, scheduleOf}
-use Rattle.model.proofs.Steady.{tick-steady, listen-steady}
+use Rattle.theory.proofs.Steadily.{tick-steady, listen-steady}
 use Rattle.lemmas.proofs.OneTick.{accepted-call}
 use Rattle.lemmas.proofs.OneListening.{listen-accepted}
 use Rattle.lemmas.proofs.Schedules.{Good, limits-n, limits-widest}

@@ -31,7 +31,7 @@ use Rattle.lemmas.proofs.Reading.{near-true}
 use Rattle.model.specs.Schedule.{steady}
 use Rattle.model.specs.Wider.{widerQuestions, widerHearOne}
 use Rattle.model.proofs.ComputingWider.{computingWider}
-use Rattle.model.proofs.Steady.{judged-steady}
+use Rattle.theory.proofs.Steadily.{judged-steady}
 use Rattle.theory.proofs.World.{sends-event, event-kind, eventFrame, heardAt, Good}
 use Rattle.theory.proofs.Fresh.{settles-fresh}
 use Rattle.theory.proofs.HearLoop.{Arrival, Entry, Around, Unreached, QueueLoop, some-inj, loop-verdict, judged-once, queue-one}
