@@ -49,8 +49,9 @@ FACT = (
     "list the missing equation",
     "on the face `",  # an equation by λ, whose body at one end is not that end
 )
+SIDES = "` ≟ `"  # two sides, of which the next line says that they are not the same
 # what says nothing of a fact: about what a proof rests on, and about names and fields that the changed code no longer has
-NO_FACT = ("` was not admitted", "` that can be named from here", "` has no field `", "` does not unfold here")
+NO_FACT = ("` was not admitted", "` cannot be unfolded because it was not admitted", "` that can be named from here", "` has no field `", "` does not unfold here")
 # a loop's invariant and measure, whose variables the changed loop may no longer have
 SHAPES = ("Inv-", "μ-")
 ERROR = re.compile(r"/crates/(?P<place>[^ ]*): error: (?:`(?P<name>[^`]*)`: )?(?P<message>.*)")
@@ -170,7 +171,7 @@ def is_fact(error):
     message = error["message"]
     if (error["name"] or "").startswith(SHAPES) or any(words in message for words in NO_FACT):
         return False
-    return True if message.startswith(FACT) else None
+    return True if message.startswith(FACT) or SIDES in message else None
 
 
 def unknown_message(log):
@@ -227,7 +228,7 @@ def room():
 def unwrapped(log):
     """The log with each message that says nothing of a fact on one line: the prover breaks a long line, and how long one is depends on
     the name of a folder too."""
-    return re.sub(r"\n  (?=has no field `|was not admitted|that can be named from here|does not unfold here)", " ", log)
+    return re.sub(r"\n  (?=has no field `|was not admitted|cannot be unfolded because|that can be named from here|does not unfold here)", " ", log)
 
 
 class Checks:

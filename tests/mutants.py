@@ -3,7 +3,7 @@
 
 A mutant leaves the definitions well-formed but another protocol, so what is proved of them (lemmas, theory) must be refused. Mutants
 are the edits of tests/mutants, and those of crates/model/must-fail that have a violation: `rt ci` holds these to model's own samples
-too. `rt ci` also tries the edits of the statements. A refusal alone says little, since a proof fits a text. So each mutant and each edit of a statement
+too. tests/edits.py tries the edits of the statements. A refusal alone says little, since a proof fits a text. So each mutant and each edit of a statement
 has a violation, tests/violations/NAME.proof: a refutation of one of the demands, or of 2.9's theorem, by computation on a concrete list of
 calls. Under the edit, and without the proofs of theory, it must be proved. What the same lists come to without an edit is proved in
 crates/violations/proofs/Unedited.antt. The harmless edits of crates/model/must-fail/controls are held to what is expected of them, and
@@ -20,10 +20,10 @@ from edits import JOBS, ROOT, Checks, Edit, controls_of, first_fact, summary, un
 
 VIOLATIONS = ROOT / "tests" / "violations"
 # what a violation states; without an edit it has no proof, since the demands and 2.9's theorem (LongClocks) are proved
-STATED = re.compile(r"^violated : (Demand(3|3Fresh|1Read|1Write|2Any|2Observer|2Fresh|2Ones|2Codec|2Long|2LongCodec)|LongClocks) → ⊥$", re.M)
+STATED = re.compile(r"^violated : (Demand(3|3Fresh|3Through|3FreshThrough|1Read|1Write|1ReadIn|1WriteIn|2Any|2Observer|2Fresh|2Ones|2Codec|2Long|2LongCodec|2In|2ListenIn|2CodecIn)|LongClocks) → ⊥$", re.M)
 UNEDITED = "violations/proofs/Unedited.antt"
 # what is computed from the definitions of model, and may come to something else under a mutant
-SAMPLES = [f"model/proofs/{path.name}" for path in sorted((ROOT / "crates" / "model" / "proofs").glob("*.antt")) if path.stem not in ("Lib", "Computing")]
+SAMPLES = [f"model/proofs/{path.name}" for path in sorted((ROOT / "crates" / "model" / "proofs").glob("*.antt")) if path.stem not in ("Lib", "Computing", "ComputingWider")]
 
 
 class Copy:
@@ -110,7 +110,7 @@ def main():
     shared = [path for path in (model / "must-fail").glob("*.edit") if path.stem in violations]
     mutants = [Edit(path, model) for path in sorted([*(ROOT / "tests" / "mutants").glob("*.edit"), *shared])]
     controls = controls_of(model)
-    statements = [Edit(path, theory) for path in sorted((theory / "must-fail").glob("*.edit"))]
+    statements = [Edit(path, theory) for path in sorted((theory / "must-fail").glob("*/*.edit"))]
     strange = [name for name, path in violations.items() if not STATED.search(path.read_text(encoding="utf-8"))]
     alone = set(violations) - {edit.name for edit in mutants + statements}
     if strange or alone:

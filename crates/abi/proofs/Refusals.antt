@@ -17,7 +17,7 @@ use Rattle.model.specs.Long.{longEncode, longDecode, askLongSetup, longFrameQue
 use Rattle.lemmas.proofs.OneTick.{tick-by}
 use Rattle.lemmas.proofs.OneListening.{listen-by}
 use Rattle.holdback.proofs.RoundTrip.{Bytes}
-use Rattle.abi.specs.Packing.{tablesLength, longTablesLength, tablesIn, longTablesIn, tablesBytes, longTablesBytes, inputWith, answerWord, returned, packedWith, packed, longPacked, listeningBy, listenWord, returnedListening, packedListening, placeWith, readWordWith, readWord, longReadWord, readTablesWith, readTables, longReadTables, writeWord}
+use Rattle.abi.specs.Packing.{tablesLength, longTablesLength, tablesIn, longTablesIn, tablesBytes, longTablesBytes, inputWith, packedAnswer, returned, packedWith, packed, longPacked, listeningBy, packedListened, returnedListening, packedListening, placeWith, packedReadWith, packedRead, longPackedRead, readTablesWith, readTables, longReadTables, packedWrite}
 use Rattle.abi.specs.Refusals.{RefusedTickOf, RefusedTick, RefusedLongTick, RefusedListening, RefusedRead, RefusedLongRead, RefusedWrite, RefusedLongWrite}
 use Rattle.abi.proofs.Words.{tables-same, long-tables-same, last-same}
 use Rattle.abi.proofs.LongWords.{tick-refused}
@@ -27,10 +27,10 @@ refused-by :
     (size : ℕ) (tablesOf : List ℕ → Timestamp) (bytes : Timestamp → List ℕ) (questions : Input → List Question) (call : Input → Output)
     → ((s : List ℕ) → length s ≡ size → Bytes s → bytes (tablesOf s) ≡ s) → ((i : Input) (k : ℕ) → firstNo (questions i) ≡ suc k → call i ≡ refusal i (suc k))
     → RefusedTickOf size tablesOf questions (λ i. packedWith bytes (call i))
-unfolding refusal answerWord
+unfolding refusal packedAnswer
 refused-by size tablesOf bytes questions call back refused s own clock tables holdback batch send payload outgoing verdicts delivery (long, below) k e =
     let i = inputWith s own clock (tablesOf tables) holdback batch send payload outgoing verdicts delivery in
-    let word : answerWord (refusal i (suc k) .answer) ≡ suc k = omega arith in
+    let word : packedAnswer (refusal i (suc k) .answer) ≡ suc k = omega arith in
     ap (packedWith bytes) (refused i k e)
     ∙ ap₂ (λ (w : ℕ) (l : List ℕ). returned w l holdback outgoing verdicts delivery) word (back tables long below)
 
@@ -43,41 +43,41 @@ unfolding longPacked
 refused-long-tick-bytes = refused-by longTablesLength longTablesIn longTablesBytes longCallQuestions longTick long-tables-same tick-refused
 
 pub refused-listening-bytes : RefusedListening
-unfolding packedListening notListened listenWord
+unfolding packedListening notListened packedListened
 refused-listening-bytes s clock last holdback batch verdicts delivery (long, below) k e =
     let i = listeningBy s clock last holdback batch verdicts delivery in
-    let word : listenWord (notListened i (suc k)) ≡ suc k = omega arith in
+    let word : packedListened (notListened i (suc k)) ≡ suc k = omega arith in
     ap packedListening (listen-by i (suc k) e)
     ∙ ap₂ (λ (w : ℕ) (l : List ℕ). returnedListening w l holdback verdicts delivery) word (last-same last long below)
 
 -- a reader and a writer, whose frame is told and laid down in whatever way
 refused-read-by :
     (at : ℕ) (bytes : Timestamp → List ℕ) (questions : List Question) (f : Frame) (tables : List ℕ) (k : ℕ) → firstNo questions ≡ suc k
-    → (readWordWith at (readBy (firstNo questions) f) ≡ suc k) × (readTablesWith bytes (readBy (firstNo questions) f) tables ≡ tables)
+    → (packedReadWith at (readBy (firstNo questions) f) ≡ suc k) × (readTablesWith bytes (readBy (firstNo questions) f) tables ≡ tables)
 refused-read-by at bytes questions f tables k e =
     let no-zero : eqb (suc k) 0 ≡ false = ne-eqb (suc k) 0 (λ (z : suc k ≡ 0). omega (arith, z)) in
     let nowhere : placeWith at (readBy (suc k) f) ≡ 0 = ap (λ (b : Bool). cond b at 0) no-zero in
-    let word : readWordWith at (readBy (suc k) f) ≡ suc k = omega (arith, nowhere) in (
-      ap (λ (n : ℕ). readWordWith at (readBy n f)) e ∙ word,
+    let word : packedReadWith at (readBy (suc k) f) ≡ suc k = omega (arith, nowhere) in (
+      ap (λ (n : ℕ). packedReadWith at (readBy n f)) e ∙ word,
       ap (λ (n : ℕ). readTablesWith bytes (readBy n f) tables) e ∙ ap (λ (b : Bool). cond b (bytes (readBy (suc k) f .stamp)) tables) no-zero,
     )
 
 pub refused-read-bytes : RefusedRead
-unfolding read readWord readTables
+unfolding read packedRead readTables
 refused-read-bytes s own bytes tables k e = refused-read-by _ tablesBytes (readQuestions s own bytes) (decode (s .epsilon) bytes) tables k e
 
 pub refused-long-read-bytes : RefusedLongRead
-unfolding longRead longReadWord longReadTables
+unfolding longRead longPackedRead longReadTables
 refused-long-read-bytes s own bytes tables k e =
     refused-read-by _ longTablesBytes (askLongSetup s own ∷ longFrameQuestions s bytes) (longDecode (s .epsilon) bytes) tables k e
 
 refused-write-by :
     (questions : List Question) (bytes buffer : List ℕ) (k : ℕ) → firstNo questions ≡ suc k
-    → (writeWord (writtenBy (firstNo questions) bytes buffer) ≡ suc k) × (writtenBy (firstNo questions) bytes buffer .buffer ≡ buffer)
-unfolding writeWord
+    → (packedWrite (writtenBy (firstNo questions) bytes buffer) ≡ suc k) × (writtenBy (firstNo questions) bytes buffer .buffer ≡ buffer)
+unfolding packedWrite
 refused-write-by questions bytes buffer k e =
-    let word : writeWord (writtenBy (suc k) bytes buffer) ≡ suc k = omega arith in
-    (ap (λ (n : ℕ). writeWord (writtenBy n bytes buffer)) e ∙ word, ap (λ (n : ℕ). writtenBy n bytes buffer .buffer) e)
+    let word : packedWrite (writtenBy (suc k) bytes buffer) ≡ suc k = omega arith in
+    (ap (λ (n : ℕ). packedWrite (writtenBy n bytes buffer)) e ∙ word, ap (λ (n : ℕ). writtenBy n bytes buffer .buffer) e)
 
 pub refused-write-bytes : RefusedWrite
 unfolding writeFrame

@@ -27,9 +27,9 @@ use Rattle.lemmas.proofs.Questions.{setup-from, first-yes, other-yes, read-numb
 use Rattle.model.specs.Holdback.{passes}
 use Rattle.lemmas.proofs.RoundTrip.{formed-from, passes-decode, passes-formed}
 use Rattle.lemmas.proofs.LongFrames.{low-number}
-use Rattle.lemmas.proofs.Board.{hear-length, board-length, board-small}
+use Rattle.lemmas.proofs.Receiving.{hear-length, receive-length, receive-small}
 use Rattle.lemmas.proofs.OneTick.{Accepted, accepted-call, no-question-fails, tick-by, new-sound, delivered-most}
-use Rattle.lemmas.proofs.OneListening.{Heeded, listen-by, listen-no-fails, listen-accepted, listen-board}
+use Rattle.lemmas.proofs.OneListening.{Heeded, listen-by, listen-no-fails, listen-accepted, listen-receiving}
 use Rattle.splice.specs.Bytes.{pasted}
 use Rattle.splice.proofs.Laws.{set-pasted, pasted-right}
 use Rattle.batch.specs.Walk.{countOf}
@@ -40,11 +40,11 @@ use Rattle.observer.proofs.Finish as heeding
 use Rattle.frame.proofs.Asking.{room-of, by-refused}
 use Rattle.frame.proofs.Laying.{length-frame}
 use Rattle.frame.specs.Lay.{Room}
-use Rattle.frame.specs.Answers.{refusedReading}
+use Rattle.frame.specs.Answers.{refusedRead}
 use Rattle.polling.specs.declared.front.Next.{Next}
 use Rattle.polling.specs.declared.front.Next.the-variants.{At}
 use Rattle.polling.specs.Answers.{SmallNext, nextOf}
-use Rattle.abi.specs.Packing.{tablesAt, tablesIn, longTablesIn, tablesBehind, tablesBytes, longTablesBytes, answerWord, readWordWith, readTablesWith, packedWith, returned, listenWord, packedListening, returnedListening}
+use Rattle.abi.specs.Packing.{tablesAt, tablesIn, longTablesIn, tablesBehind, tablesBytes, longTablesBytes, packedAnswer, packedReadWith, readTablesWith, packedWith, returned, packedListened, packedListening, returnedListening}
 
 -- ---- the tables
 
@@ -123,17 +123,17 @@ sent-few false bytes h = omega arith
 module _ (bytes : Timestamp → List ℕ) (i : Input) (o out : Output) (e : o ≡ out) where
   pub refused-packed : (s : List ℕ) → bytes (i .tables) ≡ s → ((out .answer .number ≡ 0 → ⊥) → out ≡ refusal i (out .answer .number)) → (o .answer .number ≡ 0 → ⊥)
       → returned (o .answer .number) s (o .holdback) (o .outgoing) (o .verdicts) (o .delivery) ≡ packedWith bytes out
-  unfolding refusal answerWord
+  unfolding refusal packedAnswer
   refused-packed s back refused h =
       let is : o ≡ refusal i (o .answer .number) = e ∙ (refused (λ z. h (ap (λ (x : Output). x .answer .number) e ∙ z)) ∙ ap (λ (x : Output). refusal i (x .answer .number)) (sym e)) in
-      let plain : o .answer .number ≡ answerWord (refusal i (o .answer .number) .answer) = omega arith in
+      let plain : o .answer .number ≡ packedAnswer (refusal i (o .answer .number) .answer) = omega arith in
       ap₂ (λ (w : ℕ) (l : List ℕ). returned w l (o .holdback) (o .outgoing) (o .verdicts) (o .delivery))
-      (plain ∙ ap (λ (x : Output). answerWord (x .answer)) (sym is))
+      (plain ∙ ap (λ (x : Output). packedAnswer (x .answer)) (sym is))
       (sym back ∙ ap (λ (x : Output). bytes (x .answer .tables)) (sym is))
       ∙ ap (packedWith bytes) e
 
   -- an accepted one
-  pub accepted-packed : (word : ℕ) (tables : List ℕ) → word ≡ answerWord (o .answer) → tables ≡ bytes (o .answer .tables)
+  pub accepted-packed : (word : ℕ) (tables : List ℕ) → word ≡ packedAnswer (o .answer) → tables ≡ bytes (o .answer .tables)
       → returned word tables (o .holdback) (o .outgoing) (o .verdicts) (o .delivery) ≡ packedWith bytes out
   accepted-packed word tables ew et =
       ap₂ (λ (w : ℕ) (l : List ℕ). returned w l (o .holdback) (o .outgoing) (o .verdicts) (o .delivery)) ew et ∙ ap (packedWith bytes) e
@@ -197,13 +197,13 @@ listened-small i o same zero-number byte =
     let is : o ≡ listened i = same ∙ a .accepted in
     let taken-is : o .taken ≡ length (select (λ x. eqb x 0) (observerHeard i .verdicts)) = ap (λ (x : Listened). x .taken) is in
     let taken-le = select-length-le (λ x. eqb x 0) (observerHeard i .verdicts) in
-    let heard = board-length (i .setup) (i .clock) (observerLeast i) (observerQuestions (i .setup) (i .clock)) (i .holdback) (batchEntries (i .batch)) in
+    let heard = receive-length (i .setup) (i .clock) (observerLeast i) (observerQuestions (i .setup) (i .clock)) (i .holdback) (batchEntries (i .batch)) in
     let entries : length (batchEntries (i .batch)) ≡ getD (i .batch) 0 0 = batch-count (i .batch) exact in
     let delivered-is : o .delivered ≡ length (observerDelivered i) = ap (λ (x : Listened). x .delivered) is in
     let last-is : o .last ≡ i .clock = ap (λ (x : Listened). x .last) is in
     record {
       taken-small = omega arith;
-      delivered-small = omega (arith, board-small (i .setup) (i .clock) (observerLeast i) (observerQuestions (i .setup) (i .clock)) (i .holdback) (batchEntries (i .batch)) (listen-board i a));
+      delivered-small = omega (arith, receive-small (i .setup) (i .clock) (observerLeast i) (observerQuestions (i .setup) (i .clock)) (i .holdback) (batchEntries (i .batch)) (listen-receiving i a));
       last-small = omega (arith, a .clock-below, a .limits .modulus-most);
     }
 
@@ -211,11 +211,11 @@ listened-number : (i : Listening) → firstNo (listenQuestions i) ≡ 0 → list
 unfolding listened
 listened-number i q = ap (λ (o : Listened). o .number) (listen-by i 0 q)
 
-not-listened-word : (i : Listening) (k : ℕ) (o : Listened) → o ≡ notListened i (suc k) → o .number ≡ listenWord o
-unfolding notListened listenWord
+not-listened-word : (i : Listening) (k : ℕ) (o : Listened) → o ≡ notListened i (suc k) → o .number ≡ packedListened o
+unfolding notListened packedListened
 not-listened-word i k o e =
-    let word : suc k ≡ listenWord (notListened i (suc k)) = omega arith in
-    ap (λ (x : Listened). x .number) e ∙ (word ∙ sym (ap listenWord e))
+    let word : suc k ≡ packedListened (notListened i (suc k)) = omega arith in
+    ap (λ (x : Listened). x .number) e ∙ (word ∙ sym (ap packedListened e))
 
 not-listened-last : (i : Listening) (k : ℕ) (o : Listened) → o ≡ notListened i (suc k) → twoBytes (i .last) ≡ twoBytes (o .last)
 unfolding notListened
@@ -235,7 +235,7 @@ refused-listening i s o e back h = go (firstNo (listenQuestions i)) refl
         ∙ ap packedListening e
 
 -- an accepted one
-pub accepted-listening : (i : Listening) (o : Listened) (word : ℕ) (last : List ℕ) → o ≡ listen i → word ≡ listenWord o → last ≡ twoBytes (o .last)
+pub accepted-listening : (i : Listening) (o : Listened) (word : ℕ) (last : List ℕ) → o ≡ listen i → word ≡ packedListened o → last ≡ twoBytes (o .last)
     → returnedListening word last (o .holdback) (o .verdicts) (o .delivery) ≡ packedListening (listen i)
 unfolding packedListening
 accepted-listening i o word last e ew el =
@@ -269,16 +269,16 @@ read-number-by (suc k) f = refl
 
 module _ (at : ℕ) (bytes : Timestamp → List ℕ) (a : ReadAnswer) where
   -- a refused one
-  pub refused-reading : (k : ℕ) (f : Frame) (tables : List ℕ) → a ≡ readBy k f → (a .number ≡ 0 → ⊥) → (a .number ≡ readWordWith at a) × (tables ≡ readTablesWith bytes a tables)
+  pub refused-reading : (k : ℕ) (f : Frame) (tables : List ℕ) → a ≡ readBy k f → (a .number ≡ 0 → ⊥) → (a .number ≡ packedReadWith at a) × (tables ≡ readTablesWith bytes a tables)
   refused-reading k f tables is h =
-      let plain : a ≡ refusedReading k = is ∙ by-refused k f (λ z. h (ap (λ (x : ReadAnswer). x .number) is ∙ (read-number-by k f ∙ z))) in
+      let plain : a ≡ refusedRead k = is ∙ by-refused k f (λ z. h (ap (λ (x : ReadAnswer). x .number) is ∙ (read-number-by k f ∙ z))) in
       let station-is = ap (λ (x : ReadAnswer). x .station) plain in
       let payload-is : length (a .payload) ≡ 0 = ap (λ (x : ReadAnswer). length (x .payload)) plain in
       (rw (ne-eqb (a .number) 0 h) (omega arith), rw (ne-eqb (a .number) 0 h))
 
   -- an accepted one
   pub accepted-word : (station size place : ℕ) → a .number ≡ 0 → station ≡ a .station → place ≡ at → size ≡ length (a .payload)
-      → 256 * (station + 256 * (place + 65536 * size)) ≡ readWordWith at a
+      → 256 * (station + 256 * (place + 65536 * size)) ≡ packedReadWith at a
   accepted-word station size place e es ea ep = rw (eq-eqb (a .number) 0 e) (omega (arith, e, es, ea, ep))
 
   pub accepted-tables : (tables tables′ : List ℕ) → a .number ≡ 0 → tables′ ≡ bytes (a .stamp) → tables′ ≡ readTablesWith bytes a tables

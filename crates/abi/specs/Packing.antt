@@ -82,11 +82,11 @@ longInputBy setup own clock tables holdback batch send payload outgoing verdicts
     inputWith setup own clock (longTablesIn tables) holdback batch send payload outgoing verdicts delivery
 
 -- the number in bits 0 to 7, 01's mend in 8 to 15, frames taken in 16 to 23, the outgoing length in 24 to 31, frames handed out from 32 on
-abbrev pub figures : ℕ → ℕ → ℕ → ℕ → ℕ → ℕ
-figures number repair taken sent delivered = number + 256 * (repair + 256 * (taken + 256 * (sent + 256 * delivered)))
+abbrev pub packedNumbers : ℕ → ℕ → ℕ → ℕ → ℕ → ℕ
+packedNumbers number repair taken sent delivered = number + 256 * (repair + 256 * (taken + 256 * (sent + 256 * delivered)))
 
-unfoldable pub answerWord : Answer → ℕ
-answerWord a = figures (a .number) (a .repair) (a .taken) (a .sent) (a .delivered)
+unfoldable pub packedAnswer : Answer → ℕ
+packedAnswer a = packedNumbers (a .number) (a .repair) (a .taken) (a .sent) (a .delivered)
 
 -- what a tick gives back: one number, and the tables and buffers as it left them
 pub record Returned : Type 0 where
@@ -103,7 +103,7 @@ returned word tables holdback outgoing verdicts delivery =
 
 -- the packing of a tick's output, by how its tables stand in bytes
 abbrev pub packedWith : (Timestamp → List ℕ) → Output → Returned
-packedWith bytes o = returned (answerWord (o .answer)) (bytes (o .answer .tables)) (o .holdback) (o .outgoing) (o .verdicts) (o .delivery)
+packedWith bytes o = returned (packedAnswer (o .answer)) (bytes (o .answer .tables)) (o .holdback) (o .outgoing) (o .verdicts) (o .delivery)
 
 unfoldable pub packed : Output → Returned
 packed o = packedWith tablesBytes o
@@ -125,8 +125,8 @@ listeningBy setup clock last holdback batch verdicts delivery =
     }
 
 -- the figures of an observer, which sends nothing
-unfoldable pub listenWord : Listened → ℕ
-listenWord o = figures (o .number) (o .repair) (o .taken) 0 (o .delivered)
+unfoldable pub packedListened : Listened → ℕ
+packedListened o = packedNumbers (o .number) (o .repair) (o .taken) 0 (o .delivered)
 
 -- what its call gives back: one number, and its last clock and the buffers as it left them
 pub record ReturnedListening : Type 0 where
@@ -141,22 +141,22 @@ returnedListening word last holdback verdicts delivery =
     record { word = word; last = last; holdback = holdback; verdicts = verdicts; delivery = delivery }
 
 unfoldable pub packedListening : Listened → ReturnedListening
-packedListening o = returnedListening (listenWord o) (twoBytes (o .last)) (o .holdback) (o .verdicts) (o .delivery)
+packedListening o = returnedListening (packedListened o) (twoBytes (o .last)) (o .holdback) (o .verdicts) (o .delivery)
 
 -- where the payload of a frame that was read starts, by where it does in an accepted one; 0 of a refused one
 abbrev pub placeWith : ℕ → ReadAnswer → ℕ
 placeWith at a = cond (eqb (a .number) 0) at 0
 
 -- the number in bits 0 to 7, the station in 8 to 15, the place of the payload in 16 to 31, its length in 32 to 47
-abbrev pub readWordWith : ℕ → ReadAnswer → ℕ
-readWordWith at a = a .number + 256 * (a .station + 256 * (placeWith at a + 65536 * length (a .payload)))
+abbrev pub packedReadWith : ℕ → ReadAnswer → ℕ
+packedReadWith at a = a .number + 256 * (a .station + 256 * (placeWith at a + 65536 * length (a .payload)))
 
-unfoldable pub readWord : ℕ → ReadAnswer → ℕ
-readWord epsilon a = readWordWith (payloadCountAt epsilon + 1) a
+unfoldable pub packedRead : ℕ → ReadAnswer → ℕ
+packedRead epsilon a = packedReadWith (payloadCountAt epsilon + 1) a
 
 -- 02, 2.9: an engine's frame has a first section longer by six
-unfoldable pub longReadWord : ℕ → ReadAnswer → ℕ
-longReadWord epsilon a = readWordWith (6 + (payloadCountAt epsilon + 1)) a
+unfoldable pub longPackedRead : ℕ → ReadAnswer → ℕ
+longPackedRead epsilon a = packedReadWith (6 + (payloadCountAt epsilon + 1)) a
 
 -- what the reader leaves in the tables; a refused one "writes nothing"
 abbrev pub readTablesWith : (Timestamp → List ℕ) → ReadAnswer → List ℕ → List ℕ
@@ -169,16 +169,16 @@ unfoldable pub longReadTables : ReadAnswer → List ℕ → List ℕ
 longReadTables a tables = readTablesWith longTablesBytes a tables
 
 -- the number in bits 0 to 7, the frame's length in 8 to 23
-unfoldable pub writeWord : WriteAnswer → ℕ
-writeWord a = a .number + 256 * a .size
+unfoldable pub packedWrite : WriteAnswer → ℕ
+packedWrite a = a .number + 256 * a .size
 
 -- the number in bits 0 to 7, the text's length from bit 8 on
-unfoldable pub wordsWord : WordsAnswer → ℕ
-wordsWord a = a .number + 256 * a .size
+unfoldable pub packedWords : WordsAnswer → ℕ
+packedWords a = a .number + 256 * a .size
 
 -- the number in bits 0 to 7, which frame is first in 8 to 15, what decided in 16 to 23, the count's clock in 32 to 47
-unfoldable pub compareWord : CompareAnswer → ℕ
-compareWord a = a .number + 256 * (a .order + 256 * (a .reason + 65536 * a .clock))
+unfoldable pub packedComparison : CompareAnswer → ℕ
+packedComparison a = a .number + 256 * (a .order + 256 * (a .reason + 65536 * a .clock))
 
 -- the next due clock: bit 0 set if there is one, the clock in bits 8 to 23
 abbrev pub nextBits : Option ℕ → ℕ
@@ -186,5 +186,5 @@ nextBits none = 0
 nextBits (some clock) = 1 + 256 * clock
 
 -- the number in bits 0 to 7, bit 8 set if something is next, its due clock in 16 to 31, how many are due within in 32 to 47
-unfoldable pub pollWord : PollAnswer → ℕ
-pollWord a = a .number + 256 * (nextBits (a .next) + 16777216 * a .within)
+unfoldable pub packedPoll : PollAnswer → ℕ
+packedPoll a = a .number + 256 * (nextBits (a .next) + 16777216 * a .within)

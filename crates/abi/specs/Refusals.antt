@@ -12,7 +12,7 @@ use Rattle.model.specs.Codec.{readQuestions, read, frameOf, WriteAnswer, writeQ
 use Rattle.model.specs.Tick.{Input, callQuestions, tick}
 use Rattle.model.specs.Observer.{listenQuestions, listen}
 use Rattle.model.specs.Long.{askLongSetup, longFrameQuestions, longRead, longWriteQuestions, longWrite, longCallQuestions, longTick}
-use Rattle.abi.specs.Packing.{tablesLength, longTablesLength, tablesIn, longTablesIn, inputWith, Returned, returned, packed, longPacked, listeningBy, returnedListening, packedListening, readWord, longReadWord, readTables, longReadTables, writeWord}
+use Rattle.abi.specs.Packing.{tablesLength, longTablesLength, tablesIn, longTablesIn, inputWith, Returned, returned, packed, longPacked, listeningBy, returnedListening, packedListening, packedRead, longPackedRead, readTables, longReadTables, packedWrite}
 
 -- so many bytes
 abbrev pub BytesOf : ℕ → List ℕ → Type 0
@@ -48,11 +48,11 @@ RefusedReadOf questions word left =
     → (word s own bytes ≡ suc k) × (left s own bytes tables ≡ tables)
 
 abbrev pub RefusedRead : Type 0
-RefusedRead = RefusedReadOf readQuestions (λ s own bytes. readWord (s .epsilon) (read s own bytes)) (λ s own bytes tables. readTables (read s own bytes) tables)
+RefusedRead = RefusedReadOf readQuestions (λ s own bytes. packedRead (s .epsilon) (read s own bytes)) (λ s own bytes tables. readTables (read s own bytes) tables)
 
 abbrev pub RefusedLongRead : Type 0
 RefusedLongRead =
-    RefusedReadOf (λ s own bytes. askLongSetup s own ∷ longFrameQuestions s bytes) (λ s own bytes. longReadWord (s .epsilon) (longRead s own bytes))
+    RefusedReadOf (λ s own bytes. askLongSetup s own ∷ longFrameQuestions s bytes) (λ s own bytes. longPackedRead (s .epsilon) (longRead s own bytes))
     (λ s own bytes tables. longReadTables (longRead s own bytes) tables)
 
 -- of a writer, by its questions, and what it answers and leaves in its buffer
@@ -60,7 +60,7 @@ abbrev pub RefusedWriteOf :
     (Setup → ℕ → ℕ → Timestamp → List ℕ → List ℕ → List Question) → (Setup → ℕ → ℕ → Timestamp → List ℕ → List ℕ → WriteAnswer) → Type 0
 RefusedWriteOf questions answer =
     (s : Setup) (own station : ℕ) (t : Timestamp) (payload buffer : List ℕ) (k : ℕ) → firstNo (questions s own station t payload buffer) ≡ suc k
-    → (writeWord (answer s own station t payload buffer) ≡ suc k) × (answer s own station t payload buffer .buffer ≡ buffer)
+    → (packedWrite (answer s own station t payload buffer) ≡ suc k) × (answer s own station t payload buffer .buffer ≡ buffer)
 
 abbrev pub RefusedWrite : Type 0
 RefusedWrite =

@@ -8,12 +8,14 @@ use crate::packing::put_long_tables;
 use long::tick;
 use longframe::BOUND;
 use longframe::valid_for;
+use setup::BAD_CLOCK;
+use setup::BAD_SETUP;
 use setup::Setup;
 use timestamp::Timestamp;
 ghost use mathlib.Core.Path.{_≡_};
 ghost use Rattle.model.specs.Long.{longTick, longRead, longWrite};
 ghost use Rattle.abi.specs.Fresh.{longFreshNumber, longFreshBytes};
-ghost use Rattle.abi.specs.Packing.{longSetupBy, longInputBy, longTablesIn, returned, longPacked, longReadWord, longReadTables, writeWord};
+ghost use Rattle.abi.specs.Packing.{longSetupBy, longInputBy, longTablesIn, returned, longPacked, longPackedRead, longReadTables, packedWrite};
 
 // One tick of an engine. The answer is as of `yarngravel_tick`. A refusal is the number alone, and changes nothing.
 #[no_mangle]
@@ -74,7 +76,7 @@ pub extern "C" fn yarngravel_long_read(
     frame: &[u8],
     tables: &mut [u8; 41],
 ) -> u64
-    ensures { λ r. ⌜ r ≡ longReadWord epsilon (longRead (longSetupBy n epsilon delta) own (now (frame .entry))) ⌝ }
+    ensures { λ r. ⌜ r ≡ longPackedRead epsilon (longRead (longSetupBy n epsilon delta) own (now (frame .entry))) ⌝ }
     ensures { λ _. ⌜ now (tables .exit)
         ≡ longReadTables (longRead (longSetupBy n epsilon delta) own (now (frame .entry))) (now (tables .entry)) ⌝ }
 {
@@ -107,7 +109,7 @@ pub extern "C" fn yarngravel_long_write(
     payload: &[u8],
     out: &mut [u8],
 ) -> u64
-    ensures { λ r. ⌜ r ≡ writeWord (longWrite (longSetupBy n epsilon delta) own station
+    ensures { λ r. ⌜ r ≡ packedWrite (longWrite (longSetupBy n epsilon delta) own station
         (longTablesIn (now (tables .entry))) (now (payload .entry)) (now (out .entry))) ⌝ }
     ensures { λ _. ⌜ now (out .exit) ≡ longWrite (longSetupBy n epsilon delta) own station
         (longTablesIn (now (tables .entry))) (now (payload .entry)) (now (out .entry)) .buffer ⌝ }
@@ -144,11 +146,11 @@ pub extern "C" fn yarngravel_long_fresh(
         modulus: 0,
     };
     if !valid_for(setup, own) {
-        return 1;
+        return BAD_SETUP as u64;
     }
     let v = clock as usize;
     if BOUND <= v {
-        return 2;
+        return BAD_CLOCK as u64;
     }
     let stamp = Timestamp::fresh(epsilon as usize, v);
     put_long_tables(tables, stamp);

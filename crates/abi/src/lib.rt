@@ -15,6 +15,8 @@ use packing::pack_reading;
 use packing::pack_written;
 use packing::put_tables;
 use packing::tables_of;
+use setup::BAD_CLOCK;
+use setup::BAD_SETUP;
 use setup::Setup;
 use setup::in_limits;
 use setup::valid_for;
@@ -28,7 +30,7 @@ ghost use Rattle.model.specs.Poll.{poll};
 ghost use Rattle.model.specs.Observer as observers;
 ghost use Rattle.words.specs.Words.{words};
 ghost use Rattle.abi.specs.Fresh.{freshNumber, freshBytes, freshLastNumber, freshLastBytes, version};
-ghost use Rattle.abi.specs.Packing.{setupBy, inputBy, tablesIn, returned, packed, readWord, readTables, writeWord, wordsWord, compareWord, pollWord, listeningBy, returnedListening, packedListening};
+ghost use Rattle.abi.specs.Packing.{setupBy, inputBy, tablesIn, returned, packed, packedRead, readTables, packedWrite, packedWords, packedComparison, packedPoll, listeningBy, returnedListening, packedListening};
 
 // One tick. The number in bits 0 to 7, 01's mend in 8 to 15, frames taken in 16 to 23, the outgoing length in 24 to 31,
 // frames handed out in 32 to 47. A refusal is the number alone, and changes nothing.
@@ -93,7 +95,7 @@ pub extern "C" fn yarngravel_read(
     frame: &[u8],
     tables: &mut [u8; 35],
 ) -> u64
-    ensures { λ r. ⌜ r ≡ readWord epsilon (codec.read (setupBy n epsilon delta modulus) own (now (frame .entry))) ⌝ }
+    ensures { λ r. ⌜ r ≡ packedRead epsilon (codec.read (setupBy n epsilon delta modulus) own (now (frame .entry))) ⌝ }
     ensures { λ _. ⌜ now (tables .exit)
         ≡ readTables (codec.read (setupBy n epsilon delta modulus) own (now (frame .entry))) (now (tables .entry)) ⌝ }
 {
@@ -127,7 +129,7 @@ pub extern "C" fn yarngravel_write(
     payload: &[u8],
     out: &mut [u8],
 ) -> u64
-    ensures { λ r. ⌜ r ≡ writeWord (codec.write (setupBy n epsilon delta modulus) own station
+    ensures { λ r. ⌜ r ≡ packedWrite (codec.write (setupBy n epsilon delta modulus) own station
         (tablesIn (now (tables .entry))) (now (payload .entry)) (now (out .entry))) ⌝ }
     ensures { λ _. ⌜ now (out .exit) ≡ codec.write (setupBy n epsilon delta modulus) own station
         (tablesIn (now (tables .entry))) (now (payload .entry)) (now (out .entry)) .buffer ⌝ }
@@ -155,7 +157,7 @@ pub extern "C" fn yarngravel_words(
     verdicts: &[u8],
     text: &mut [u8],
 ) -> u64
-    ensures { λ r. ⌜ r ≡ wordsWord (words (setupBy n epsilon delta modulus) own (now (batch .entry)) (now (verdicts .entry))
+    ensures { λ r. ⌜ r ≡ packedWords (words (setupBy n epsilon delta modulus) own (now (batch .entry)) (now (verdicts .entry))
         (now (text .entry))) ⌝ }
     ensures { λ _. ⌜ now (text .exit) ≡ words (setupBy n epsilon delta modulus) own (now (batch .entry)) (now (verdicts .entry))
         (now (text .entry)) .text ⌝ }
@@ -183,7 +185,7 @@ pub extern "C" fn yarngravel_compare(
     first: &[u8],
     second: &[u8],
 ) -> u64
-    ensures { λ r. ⌜ r ≡ compareWord (compareCall (setupBy n epsilon delta modulus) own clock (now (first .entry)) (now (second .entry))) ⌝ }
+    ensures { λ r. ⌜ r ≡ packedComparison (compareCall (setupBy n epsilon delta modulus) own clock (now (first .entry)) (now (second .entry))) ⌝ }
 {
     let setup = Setup {
         n,
@@ -208,7 +210,7 @@ pub extern "C" fn yarngravel_poll(
     within: u16,
     holdback: &[u8],
 ) -> u64
-    ensures { λ r. ⌜ r ≡ pollWord (poll (setupBy n epsilon delta modulus) own clock within (now (holdback .entry))) ⌝ }
+    ensures { λ r. ⌜ r ≡ packedPoll (poll (setupBy n epsilon delta modulus) own clock within (now (holdback .entry))) ⌝ }
 {
     let setup = Setup {
         n,
@@ -277,10 +279,10 @@ pub extern "C" fn yarngravel_fresh(
         modulus,
     };
     if !valid_for(setup, own) {
-        return 1;
+        return BAD_SETUP as u64;
     }
     if modulus <= clock {
-        return 2;
+        return BAD_CLOCK as u64;
     }
     let stamp = Timestamp::fresh(epsilon as usize, clock as usize);
     put_tables(tables, stamp);
@@ -308,10 +310,10 @@ pub extern "C" fn yarngravel_fresh_last(
         modulus,
     };
     if !in_limits(setup) {
-        return 1;
+        return BAD_SETUP as u64;
     }
     if setup.modulus <= clock {
-        return 2;
+        return BAD_CLOCK as u64;
     }
     splice::put_u16(last, 0, clock as usize);
     0

@@ -16,7 +16,7 @@ ghost use Rattle.comparing.specs.Answers.{compareAnswer};
 ghost use Rattle.node.specs.Answers.{answerOf};
 ghost use Rattle.polling.specs.Answers.{SmallNext, nextOf, pollAnswer};
 ghost use Rattle.splice.specs.Bytes.{pasted};
-ghost use Rattle.abi.specs.Packing.{tablesLength, tablesAt, tablesIn, tablesBytes, longTablesLength, longTablesIn, longTablesBytes, figures, answerWord, compareWord, nextBits, pollWord};
+ghost use Rattle.abi.specs.Packing.{tablesLength, tablesAt, tablesIn, tablesBytes, longTablesLength, longTablesIn, longTablesBytes, packedNumbers, packedAnswer, packedComparison, nextBits, packedPoll};
 
 // Tables with that r, whose c stands at a place of the bytes, and the 32 counts behind it.
 fn tables_at(s: &[u8], at: usize, r: usize) -> Timestamp
@@ -85,9 +85,9 @@ pub fn last_of(bytes: &[u8]) -> usize
 }
 
 // The figures of a tick, and of an observer's call, as one number.
-fn pack_figures(number: u8, repair: u8, taken: usize, sent: usize, delivered: usize) -> u64
+fn pack_numbers(number: u8, repair: u8, taken: usize, sent: usize, delivered: usize) -> u64
     requires { ⌜ (taken < 256) × ((sent < 256) × (delivered < 65536)) ⌝ }
-    ensures { λ r. ⌜ r ≡ figures number repair taken sent delivered ⌝ }
+    ensures { λ r. ⌜ r ≡ packedNumbers number repair taken sent delivered ⌝ }
 {
     number as u64
         + 256
@@ -98,17 +98,17 @@ fn pack_figures(number: u8, repair: u8, taken: usize, sent: usize, delivered: us
 // A tick's answer as one number.
 pub fn pack_answer(a: Answer) -> u64
     requires { ⌜ (a .taken < 256) × ((a .sent < 256) × (a .delivered < 65536)) ⌝ }
-    ensures { λ r. ⌜ r ≡ answerWord (answerOf a) ⌝ }
+    ensures { λ r. ⌜ r ≡ packedAnswer (answerOf a) ⌝ }
 {
-    pack_figures(a.number, a.repair, a.taken, a.sent, a.delivered)
+    pack_numbers(a.number, a.repair, a.taken, a.sent, a.delivered)
 }
 
 // An observer's answer as one number: it sends nothing.
 pub fn pack_listened(a: Listened) -> u64
     requires { ⌜ (a .taken < 256) × (a .delivered < 65536) ⌝ }
-    ensures { λ r. ⌜ r ≡ figures (a .number) (a .repair) (a .taken) 0 (a .delivered) ⌝ }
+    ensures { λ r. ⌜ r ≡ packedNumbers (a .number) (a .repair) (a .taken) 0 (a .delivered) ⌝ }
 {
-    pack_figures(a.number, a.repair, a.taken, 0, a.delivered)
+    pack_numbers(a.number, a.repair, a.taken, 0, a.delivered)
 }
 
 // What the reader found as one number.
@@ -130,7 +130,7 @@ pub fn pack_written(number: u8, size: usize) -> u64
 // A comparison as one number.
 pub fn pack_compared(a: Compared) -> u64
     requires { ⌜ a .clock < 65536 ⌝ }
-    ensures { λ r. ⌜ r ≡ compareWord (compareAnswer a) ⌝ }
+    ensures { λ r. ⌜ r ≡ packedComparison (compareAnswer a) ⌝ }
 {
     a.number as u64 + 256 * (a.order as u64 + 256 * (a.reason as u64 + 65536 * (a.clock as u64)))
 }
@@ -149,7 +149,7 @@ fn pack_next(next: Next) -> u64
 // What a poll found as one number.
 pub fn pack_polled(a: Polled) -> u64
     requires { ⌜ SmallNext (nextOf (a .next)) × (a .within < 65536) ⌝ }
-    ensures { λ r. ⌜ r ≡ pollWord (pollAnswer a) ⌝ }
+    ensures { λ r. ⌜ r ≡ packedPoll (pollAnswer a) ⌝ }
 {
     let next = a.next;
     a.number as u64 + 256 * (pack_next(next) + 16777216 * (a.within as u64))

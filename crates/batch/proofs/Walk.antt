@@ -13,8 +13,8 @@ use lib.Seq.{drop-cons, drop-drop, drop-length, take-all}
 use borrow.Author.Tests.{le-leb, lt-leb, eq-eqb, ne-eqb, leb-true}
 use Rattle.laws.proofs.Numbers.{lt-or-ge, clash, and-left, and-right}
 use Rattle.model.specs.Batch.{endsAfter, exactBatch, entriesOf, batchEntries}
-use Rattle.batch.specs.Walk.{countOf, entryAt, nextAt, stepAt}
-use Rattle.batch.specs.declared.Step.{Step}
+use Rattle.batch.specs.Walk.{countOf, entryAt, nextAt, entrySpanAt}
+use Rattle.batch.specs.declared.EntrySpan.{EntrySpan}
 
 -- ---- a batch of no bytes, and one with a count
 
@@ -103,16 +103,16 @@ module _ (s : List ℕ) (at : ℕ) where
 
 module _ (s : List ℕ) (at : ℕ) where
   -- as the code has it, at the position e after the entry
-  pub step-past : (e : ℕ) → e ≡ nextAt s at → e ≤ at → record { start = e; end = e } ≡ stepAt s at
-  unfolding stepAt nextAt
+  pub step-past : (e : ℕ) → e ≡ nextAt s at → e ≤ at → record { start = e; end = e } ≡ entrySpanAt s at
+  unfolding entrySpanAt nextAt
   step-past e h o = let b : e ≡ min (at + 1) (length s) = omega arith in λ i. record { start = b i; end = h i }
 
-  pub step-inside : (e : ℕ) → e ≡ nextAt s at → at < e → record { start = at + 1; end = e } ≡ stepAt s at
-  unfolding stepAt nextAt
+  pub step-inside : (e : ℕ) → e ≡ nextAt s at → at < e → record { start = at + 1; end = e } ≡ entrySpanAt s at
+  unfolding entrySpanAt nextAt
   step-inside e h o = let b : at + 1 ≡ min (at + 1) (length s) = omega arith in λ i. record { start = b i; end = h i }
 
-  stepped : take (stepAt s at .end - stepAt s at .start) (drop (stepAt s at .start) s) ≡ entryAt s at
-  unfolding stepAt nextAt
+  stepped : take (entrySpanAt s at .end - entrySpanAt s at .start) (drop (entrySpanAt s at .start) s) ≡ entryAt s at
+  unfolding entrySpanAt nextAt
   stepped = elim (lt-or-ge at (length s)) [
     | inl h ↦
         let b : min (at + 1) (length s) ≡ at + 1 = omega arith in
@@ -125,17 +125,17 @@ module _ (s : List ℕ) (at : ℕ) where
   ]
 
 -- as a caller has it: the bytes are a part of the batch, and are the entry; where they end, the walk goes on
-module _ (s : List ℕ) (at : ℕ) (r : Step) (e : r ≡ stepAt s at) where
+module _ (s : List ℕ) (at : ℕ) (r : EntrySpan) (e : r ≡ entrySpanAt s at) where
   pub step-ordered : r .start ≤ r .end
-  unfolding stepAt nextAt
+  unfolding entrySpanAt nextAt
   step-ordered = rw e (omega arith)
 
   pub step-within : r .end ≤ length s
-  unfolding stepAt nextAt
+  unfolding entrySpanAt nextAt
   step-within = rw e (omega arith)
 
   pub step-next : r .end ≡ nextAt s at
-  unfolding stepAt
+  unfolding entrySpanAt
   step-next = rw e
 
   pub step-entry : take (r .end - r .start) (drop (r .start) s) ≡ entryAt s at

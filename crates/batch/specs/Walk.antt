@@ -4,7 +4,7 @@ use Prim.Native.Nat.{ℕ, _+_, min}
 use mathlib.Core.List.{List}
 use lib.ListN.{length, take, drop, getD}
 use denote.Ref.{now}
-use Rattle.batch.specs.declared.Step.{Step}
+use Rattle.batch.specs.declared.EntrySpan.{EntrySpan}
 use Rattle.batch.specs.declared.walker.Walker.{Walker}
 
 -- how many entries the batch says that it has
@@ -20,8 +20,8 @@ unfoldable pub nextAt : List ℕ → ℕ → ℕ
 nextAt s at = min (at + 1 + getD s at 0) (length s)
 
 -- where that entry starts and ends
-unfoldable pub stepAt : List ℕ → ℕ → Step
-stepAt s at = record { start = min (at + 1) (length s); end = nextAt s at }
+unfoldable pub entrySpanAt : List ℕ → ℕ → EntrySpan
+entrySpanAt s at = record { start = min (at + 1) (length s); end = nextAt s at }
 
 -- the walker at the next entry
 abbrev pub movedOn : Walker → Walker

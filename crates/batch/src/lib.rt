@@ -2,12 +2,12 @@
 // Any bytes and any position get an answer.
 ghost use mathlib.Core.Path.{_≡_};
 ghost use Rattle.model.specs.Batch.{exactBatch};
-ghost use Rattle.batch.specs.Walk.{countOf, entryAt, nextAt, stepAt};
+ghost use Rattle.batch.specs.Walk.{countOf, entryAt, nextAt, entrySpanAt};
 
 pub mod walker;
 
 // One step of a walk: where an entry's bytes start and end. After them stands the next entry's length, if there is one.
-pub struct Step {
+pub struct EntrySpan {
     pub start: usize,
     pub end: usize,
 }
@@ -73,12 +73,12 @@ fn next_at(batch: &[u8], at: usize) -> usize
 }
 
 // Where the entry at a position starts and ends; both at the batch's length past its end.
-fn step_at(batch: &[u8], at: usize) -> Step
-    ensures { λ r. ⌜ r ≡ stepAt (now (batch .entry)) at ⌝ }
+fn span_at(batch: &[u8], at: usize) -> EntrySpan
+    ensures { λ r. ⌜ r ≡ entrySpanAt (now (batch .entry)) at ⌝ }
 {
     let end = next_at(batch, at);
     if end <= at {
-        return Step { start: end, end };
+        return EntrySpan { start: end, end };
     }
-    Step { start: at + 1, end }
+    EntrySpan { start: at + 1, end }
 }

@@ -13,7 +13,7 @@ use Rattle.laws.proofs.Numbers.{lt-or-ge, eq-or-ne, mod-add-left}
 use Rattle.model.specs.Setup.{Setup}
 use Rattle.model.specs.Timestamp.{sum}
 use Rattle.model.specs.Frame.{Frame}
-use Rattle.model.specs.Order.{readingOf, countsDown, keyBy, key, keyNear, clockAt}
+use Rattle.model.specs.Order.{readingOf, countsDown, keyBy, key, keyNear, readingClock}
 use Rattle.model.specs.Comparison.{Reason, reasonAt, compareKeys, countClock, clocked, compared}
 use Rattle.lemmas.proofs.Questions.{limits-from}
 use Rattle.lemmas.proofs.Counts.{length-down}
@@ -136,7 +136,7 @@ true-reason s v f g = by-place s v f g (firstDifference (keyNear s v f) (keyNear
 
 -- sum − k modulo B
 pub true-clock : TrueClock
-unfolding countClock clockAt sum
+unfolding countClock readingClock sum
 true-clock s v R k f limits is hi lo among back =
     let lim = limits-from s limits in
     let B : ℕ = s .modulus in

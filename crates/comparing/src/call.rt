@@ -1,6 +1,8 @@
 // The comparison alone, as a call: any setup, numbers and bytes get an answer.
 use crate::frames::compare_frames;
 use frame::check;
+use setup::BAD_CLOCK;
+use setup::BAD_SETUP;
 use setup::Setup;
 use setup::valid_for;
 use timestamp::Comparison;
@@ -29,10 +31,10 @@ fn check_compare(setup: Setup, own: u32, clock: usize, first: &[u8], second: &[u
     ensures { λ r. ⌜ r ≡ firstNo (compareQuestions (setupOf setup) own clock (now (first .entry)) (now (second .entry))) ⌝ }
 {
     if !valid_for(setup, own) {
-        return 1;
+        return BAD_SETUP;
     }
     if setup.modulus as usize <= clock {
-        return 2;
+        return BAD_CLOCK;
     }
     let number = check(setup, first);
     if number != 0 {

@@ -20,7 +20,7 @@ use Rattle.lemmas.proofs.Questions.{first-yes, yes-cons, no-cons, no-append, ye
 use Rattle.lemmas.proofs.RoundTrip.{none-no, formed-from, decode-wide}
 use Rattle.timestamp.specs.Views.{ofCounts}
 use Rattle.frame.specs.Lay.{Room, contentsQuestions}
-use Rattle.frame.specs.Answers.{refusedReading}
+use Rattle.frame.specs.Answers.{refusedRead}
 use Rattle.frame.proofs.Laying.{length-frame}
 
 -- ---- 1
@@ -97,10 +97,10 @@ module _ (number : ℕ) (f : Frame) where
   pub by-accepted : number ≡ 0 → readBy number f ≡ record { number = 0; station = f .station; stamp = widened (f .stamp); payload = f .payload }
   by-accepted z = rw z
 
-  pub by-refused : (number ≡ 0 → ⊥) → readBy number f ≡ refusedReading number
+  pub by-refused : (number ≡ 0 → ⊥) → readBy number f ≡ refusedRead number
   by-refused z = go number z
     where
-      go : (k : ℕ) → (k ≡ 0 → ⊥) → readBy k f ≡ refusedReading k
+      go : (k : ℕ) → (k ≡ 0 → ⊥) → readBy k f ≡ refusedRead k
       go zero h = absurd (h refl)
       go (suc k) h = refl
 
@@ -118,7 +118,7 @@ module _ (s : Setup) (own : ℕ) (bytes : List ℕ) where
     unfolding read
     read-accepted z = rw (← e) (by-accepted number (decode (s .epsilon) bytes) z)
 
-    pub read-refused : (number ≡ 0 → ⊥) → read s own bytes ≡ refusedReading number
+    pub read-refused : (number ≡ 0 → ⊥) → read s own bytes ≡ refusedRead number
     unfolding read
     read-refused z = rw (← e) (by-refused number (decode (s .epsilon) bytes) z)
 

@@ -17,7 +17,7 @@ use Rattle.model.specs.Frame.{wellFormed, frameEnd, payloadCountAt, twoAt, coun
 use Rattle.model.specs.Question.{Question, ask, firstNo, askRange, askStamp, frameQuestions}
 use Rattle.lemmas.proofs.Questions.{yes-cons, no-cons}
 use Rattle.timestamp.specs.Views.{ofCounts}
-use Rattle.timestamp.specs.Window.{limitAt, limitsOf}
+use Rattle.timestamp.specs.Window.{ceilingAt, ceilingsOf}
 use Rattle.frame.proofs.Asking.{form-right, stamp-no, stamp-sound}
 
 module _ (epsilon : ℕ) (w : List ℕ) where
@@ -132,9 +132,9 @@ module _ (s : Setup) (w : List ℕ) where
       window-right narrow h = left ∙ stamp-sound s (decode (s .epsilon) bytes) [] (sym (same-stamp narrow) ∙ h)
 
 -- what is lent to the question
-pub limits-long : (n epsilon : ℕ) (limits : List ℕ) → limits ≡ limitsOf n epsilon → length limits ≡ 96
-unfolding limitsOf
-limits-long n epsilon limits e = ap length e ∙ length-tab 96 (limitAt n epsilon)
+pub ceilings-long : (n epsilon : ℕ) (limits : List ℕ) → limits ≡ ceilingsOf n epsilon → length limits ≡ 96
+unfolding ceilingsOf
+ceilings-long n epsilon limits e = ap length e ∙ length-tab 96 (ceilingAt n epsilon)
 
 pub window-long : (w : List ℕ) → 39 ≤ length w → 32 ≤ length (take 33 (drop 6 w))
 window-long w h =

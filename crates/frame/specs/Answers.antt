@@ -3,17 +3,17 @@ use Prim.Native.Nat.{ℕ}
 use mathlib.Core.List.{List, []}
 use Rattle.model.specs.Codec.{ReadAnswer, WriteAnswer, noTimestamp}
 use Rattle.timestamp.specs.Views.{stampOf}
-use Rattle.frame.specs.declared.reader.Reading.{Reading}
+use Rattle.frame.specs.declared.reader.ReadFrame.{ReadFrame}
 use Rattle.frame.specs.declared.writer.Written.{Written}
 
 -- the reader's answer, with the part of the frame that is the payload
-abbrev pub readAnswer : Reading → List ℕ → ReadAnswer
+abbrev pub readAnswer : ReadFrame → List ℕ → ReadAnswer
 readAnswer a payload =
     record { number = a .number; station = a .station; stamp = stampOf (a .stamp); payload = payload }
 
 -- 01: a refused reader "answers the number alone"
-abbrev pub refusedReading : ℕ → ReadAnswer
-refusedReading number = record { number = number; station = 0; stamp = noTimestamp; payload = [] }
+abbrev pub refusedRead : ℕ → ReadAnswer
+refusedRead number = record { number = number; station = 0; stamp = noTimestamp; payload = [] }
 
 -- the writer's answer, with its buffer as it left it
 abbrev pub writeAnswer : Written → List ℕ → WriteAnswer

@@ -1,5 +1,8 @@
 // The form of a frame and its questions 10 to 12: where its counts say that it ends, whether they are right, and what stands at its fixed places.
 // Any bytes get an answer; a place past the end reads as 0.
+use setup::BAD_FORM;
+use setup::BAD_RANGE;
+use setup::BAD_STAMP;
 use setup::LONGEST_PAYLOAD;
 use setup::Setup;
 use splice::byte_at;
@@ -118,25 +121,25 @@ pub fn payload_part(epsilon: usize, s: &[u8]) -> &[u8]
 }
 
 // 01, 10 to 12: the number of the first no, or 0.
-pub fn check(setup: Setup, s: &[u8]) -> u8
+pub fn check(setup: Setup, frame: &[u8]) -> u8
     requires { ⌜ inLimits (setupOf setup) ≡ true ⌝ }
-    ensures { λ r. ⌜ r ≡ firstNo (frameQuestions (setupOf setup) (now (s .entry))) ⌝ }
+    ensures { λ r. ⌜ r ≡ firstNo (frameQuestions (setupOf setup) (now (frame .entry))) ⌝ }
 {
     let n = setup.n as usize;
     let epsilon = setup.epsilon as usize;
     let modulus = setup.modulus as usize;
-    if !well_formed(epsilon, s) {
-        return 10;
+    if !well_formed(epsilon, frame) {
+        return BAD_FORM;
     }
-    if n <= station_of(s) {
-        return 11;
+    if n <= station_of(frame) {
+        return BAD_RANGE;
     }
-    if modulus <= r_of(s) {
-        return 11;
+    if modulus <= r_of(frame) {
+        return BAD_RANGE;
     }
-    let c = c_of(s);
-    if !sound_counts(&s[COUNTS_AT..COUNTS_AT + 2 * epsilon], c, n, epsilon) {
-        return 12;
+    let c = c_of(frame);
+    if !sound_counts(&frame[COUNTS_AT..COUNTS_AT + 2 * epsilon], c, n, epsilon) {
+        return BAD_STAMP;
     }
     0
 }

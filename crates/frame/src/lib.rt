@@ -14,7 +14,7 @@ pub use form::payload_part;
 pub use form::r_of;
 pub use form::station_of;
 pub use newest::newest_counts;
-pub use reader::Reading;
+pub use reader::ReadFrame;
 pub use reader::payload_of;
 pub use reader::read;
 pub use reader::refused;

@@ -3,6 +3,7 @@ use crate::form::OVERHEAD;
 use crate::form::check;
 use crate::form::stamp_of;
 use crate::form::station_of;
+use setup::BAD_SETUP;
 use setup::Setup;
 use setup::valid_for;
 use timestamp::Timestamp;
@@ -11,10 +12,10 @@ ghost use mathlib.Core.List.{[]};
 ghost use Rattle.model.specs.Question.{firstNo};
 ghost use Rattle.model.specs.Codec as codec;
 ghost use Rattle.setup.specs.Views.{setupOf};
-ghost use Rattle.frame.specs.Answers.{readAnswer, refusedReading};
+ghost use Rattle.frame.specs.Answers.{readAnswer, refusedRead};
 
 // What the reader answers, by value; the payload (01: the ticket) is the answer of `payload_of`.
-pub struct Reading {
+pub struct ReadFrame {
     // 0, or the number of the first no
     pub number: u8,
     pub station: usize,
@@ -26,18 +27,18 @@ fn check_read(setup: Setup, own: u32, frame: &[u8]) -> u8
     ensures { λ r. ⌜ r ≡ firstNo (codec.readQuestions (setupOf setup) own (now (frame .entry))) ⌝ }
 {
     if !valid_for(setup, own) {
-        return 1;
+        return BAD_SETUP;
     }
     check(setup, frame)
 }
 
 // 01: a refused reader "answers the number alone".
-pub fn refused(number: u8) -> Reading
-    ensures { λ r. ⌜ readAnswer r [] ≡ refusedReading number ⌝ }
+pub fn refused(number: u8) -> ReadFrame
+    ensures { λ r. ⌜ readAnswer r [] ≡ refusedRead number ⌝ }
 {
     let kn = [0u8; Timestamp::WIDTH];
     let stamp = Timestamp { r: 0, c: 0, kn };
-    Reading {
+    ReadFrame {
         number,
         station: 0,
         stamp,
@@ -45,7 +46,7 @@ pub fn refused(number: u8) -> Reading
 }
 
 // The answer of the reader.
-pub fn read(setup: Setup, own: u32, frame: &[u8]) -> Reading
+pub fn read(setup: Setup, own: u32, frame: &[u8]) -> ReadFrame
     ensures { λ r. ⌜ readAnswer r (codec.read (setupOf setup) own (now (frame .entry)) .payload)
         ≡ codec.read (setupOf setup) own (now (frame .entry)) ⌝ }
 {
@@ -54,7 +55,7 @@ pub fn read(setup: Setup, own: u32, frame: &[u8]) -> Reading
         return refused(number);
     }
     let stamp = stamp_of(setup.epsilon as usize, frame);
-    Reading {
+    ReadFrame {
         number: 0,
         station: station_of(frame),
         stamp,

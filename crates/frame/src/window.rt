@@ -6,6 +6,9 @@ use crate::form::NODE_SIZE;
 use crate::form::R_AT;
 use crate::form::STAMP_AT;
 use crate::form::STATION_AT;
+use setup::BAD_FORM;
+use setup::BAD_RANGE;
+use setup::BAD_STAMP;
 use setup::LONGEST_PAYLOAD;
 use setup::Setup;
 use timestamp::sound_window;
@@ -18,7 +21,7 @@ ghost use Rattle.model.specs.Setup.{inLimits};
 ghost use Rattle.model.specs.Frame.{frameEnd, wellFormed, twoAt};
 ghost use Rattle.model.specs.Question.{firstNo, frameQuestions};
 ghost use Rattle.setup.specs.Views.{setupOf};
-ghost use Rattle.timestamp.specs.Window.{limitsOf};
+ghost use Rattle.timestamp.specs.Window.{ceilingsOf};
 
 // The bytes of a frame beside its payload at ε 16.
 const WINDOW: usize = 39;
@@ -58,21 +61,21 @@ fn ranged_window(n: usize, modulus: usize, w: &[u8]) -> bool
 }
 
 // The number of the first no, or 0. `limits` is what the counts are held to.
-pub fn check_window(setup: Setup, limits: &[u8], w: &[u8]) -> u8
-    requires { ⌜ (inLimits (setupOf setup) ≡ true) × (now limits ≡ limitsOf (setup .n) (setup .epsilon)) ⌝ }
+pub fn check_window(setup: Setup, ceilings: &[u8], w: &[u8]) -> u8
+    requires { ⌜ (inLimits (setupOf setup) ≡ true) × (now ceilings ≡ ceilingsOf (setup .n) (setup .epsilon)) ⌝ }
     requires { ⌜ 39 + 2 * setup .epsilon ≤ length (now w) ⌝ }
     ensures { λ r. ⌜ r ≡ firstNo (frameQuestions (setupOf setup) (take (frameEnd (setup .epsilon) (now (w .entry))) (now (w .entry)))) ⌝ }
 {
     let epsilon = setup.epsilon as usize;
     if !formed_window(epsilon, w) {
-        return 10;
+        return BAD_FORM;
     }
     if !ranged_window(setup.n as usize, setup.modulus as usize, w) {
-        return 11;
+        return BAD_RANGE;
     }
     let c = w[C_AT] as usize;
-    if !sound_window(&w[COUNTS_AT..WINDOW], c, limits, epsilon) {
-        return 12;
+    if !sound_window(&w[COUNTS_AT..WINDOW], c, ceilings, epsilon) {
+        return BAD_STAMP;
     }
     0
 }

@@ -6,6 +6,11 @@ use crate::form::OVERHEAD;
 use crate::form::R_AT;
 use crate::form::STAMP_AT;
 use crate::form::STATION_AT;
+use setup::BAD_BUFFERS;
+use setup::BAD_PAYLOAD;
+use setup::BAD_RANGE;
+use setup::BAD_SETUP;
+use setup::BAD_STAMP;
 use setup::LONGEST_PAYLOAD;
 use setup::Setup;
 use setup::valid_for;
@@ -119,16 +124,16 @@ pub fn check_contents(
     ensures { λ r. ⌜ r ≡ firstNo (contentsQuestions n epsilon bound (frameOf epsilon station (stampOf stamp) (now (payload .entry)))) ⌝ }
 {
     if LONGEST_PAYLOAD < payload.len() {
-        return 4;
+        return BAD_PAYLOAD;
     }
     if n <= station {
-        return 11;
+        return BAD_RANGE;
     }
     if bound <= stamp.r {
-        return 11;
+        return BAD_RANGE;
     }
     if !stamp.is_sound(n, epsilon) {
-        return 12;
+        return BAD_STAMP;
     }
     0
 }
@@ -145,7 +150,7 @@ fn check_write(
     ensures { λ r. ⌜ r ≡ firstNo (writeQuestions (setupOf setup) own station (stampOf stamp) (now (payload .entry)) (now (out .entry))) ⌝ }
 {
     if !valid_for(setup, own) {
-        return 1;
+        return BAD_SETUP;
     }
     let n = setup.n as usize;
     let epsilon = setup.epsilon as usize;
@@ -155,7 +160,7 @@ fn check_write(
         return contents;
     }
     if out.len() < OVERHEAD + 2 * epsilon + payload.len() {
-        return 6;
+        return BAD_BUFFERS;
     }
     0
 }

@@ -20,7 +20,7 @@ use Rattle.lemmas.proofs.Queue.{sound-queue, due-few, both-few, depth-small}
 use Rattle.setup.proofs.InLimits.{depth-most}
 use Rattle.holdback.specs.Queue.{frameStart, Spans, Stands}
 use Rattle.holdback.proofs.RoundTrip.{passing}
-use Rattle.holdback.proofs.Judging.{sound-few, sound-passes, sound-ordered, sound-overdue, sound-frames, sound-formed}
+use Rattle.holdback.proofs.Judging.{sound-few, sound-passes, sound-ordered, sound-expired, sound-frames, sound-formed}
 use Rattle.holdback.proofs.Changes.{formed-frames, length-held}
 use Rattle.holdback.proofs.Frames.{FormedUpTo, start-most}
 use Rattle.holdback.proofs.Order.{due-prefix, due-rest}
@@ -48,12 +48,12 @@ module _ (s : Setup) (v : ℕ) (b : List ℕ) (sound : soundHoldback s v (s .mod
   pub due-taken : take index (held (s .epsilon) b) ≡ select (dueNow s v) (held (s .epsilon) b)
   due-taken =
       ap (λ (n : ℕ). take n (held (s .epsilon) b)) (stands .frames)
-      ∙ sym (due-prefix s v (held (s .epsilon) b) (sound-ordered s v (s .modulus) b sound) (sound-overdue s v (s .modulus) b sound))
+      ∙ sym (due-prefix s v (held (s .epsilon) b) (sound-ordered s v (s .modulus) b sound) (sound-expired s v (s .modulus) b sound))
 
   pub due-left : drop index (held (s .epsilon) b) ≡ select (λ f. not (dueNow s v f)) (held (s .epsilon) b)
   due-left =
       ap (λ (n : ℕ). drop n (held (s .epsilon) b)) (stands .frames)
-      ∙ sym (due-rest s v (held (s .epsilon) b) (sound-ordered s v (s .modulus) b sound) (sound-overdue s v (s .modulus) b sound))
+      ∙ sym (due-rest s v (held (s .epsilon) b) (sound-ordered s v (s .modulus) b sound) (sound-expired s v (s .modulus) b sound))
 
   pub due-number : index ≡ length (select (dueNow s v) (held (s .epsilon) b))
   due-number =

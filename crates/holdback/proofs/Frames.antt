@@ -8,7 +8,7 @@ use mathlib.Core.Bool.{Bool, true, false}
 use mathlib.Core.Logic.{inl, inr}
 use mathlib.Core.List.{List, [], _∷_, _++_, map, append-assoc, append-nil}
 use lib.ListN.{length, take, drop, getD, length-take, length-drop, List·getD-eq-default}
-use lib.Seq.{drop-drop, getD-drop, getD-take, take-add, take-take, take-all}
+use lib.Seq.{drop-drop, getD-drop, getD-take, take-add, take-take}
 use Rattle.laws.specs.Lists.{tab, leading, joined}
 use Rattle.laws.proofs.Numbers.{lt-or-ge}
 use Rattle.laws.proofs.Lists.{length-tab, getD-tab, tab-ext, tab-suc, map-tab, take-tab, every-tab, leading-unique, joined-append}
@@ -16,6 +16,7 @@ use Rattle.model.specs.Setup.{width, longestFrame}
 use Rattle.model.specs.Frame.{Frame, twoAt, twoBytes, encode, countsOf, wellFormed, payloadCountAt, frameEnd, decode}
 use Rattle.model.specs.Holdback.{cutFrames, cutBy, heldBytes, held}
 use Rattle.lemmas.proofs.RoundTrip.{formed-from}
+use Rattle.lemmas.proofs.FrameWalk.{lent, lent-is}
 use Rattle.holdback.specs.Queue.{frameStart, bytesAt, frameAt, countsAt}
 use Rattle.holdback.proofs.RoundTrip.{Bytes, encode-decode, front-two}
 
@@ -95,7 +96,7 @@ formed-longest epsilon t h = let o = formed-from epsilon t h in omega arith
 pub counts-end : (epsilon : ℕ) (t : List ℕ) → wellFormed epsilon t ≡ true → payloadCountAt epsilon ≤ length t
 counts-end epsilon t h = omega (arith, formed-size epsilon t h, end-past epsilon t)
 
-formed-inside : (epsilon : ℕ) (t : List ℕ) → wellFormed epsilon (take (frameEnd epsilon t) t) ≡ true → frameEnd epsilon t ≤ length t
+pub formed-inside : (epsilon : ℕ) (t : List ℕ) → wellFormed epsilon (take (frameEnd epsilon t) t) ≡ true → frameEnd epsilon t ≤ length t
 formed-inside epsilon t h =
     omega (arith, formed-size epsilon (take (frameEnd epsilon t) t) h, end-of-bytes epsilon t, length-take (frameEnd epsilon t) t)
 
@@ -217,13 +218,6 @@ unfolding frameEnd payloadCountAt width
 end-small epsilon t h b = omega (arith, b (payloadCountAt epsilon))
 
 -- ---- where a frame stands, by the code's numbers
-
--- the bytes from a position on, as the code lends them
-abbrev pub lent : List ℕ → ℕ → List ℕ
-lent b at = take (length b - at) (drop at b)
-
-pub lent-is : (b : List ℕ) (at : ℕ) → lent b at ≡ drop at b
-lent-is b at = take-all (length b - at) (drop at b) (omega (arith, length-drop at b))
 
 -- of what is lent from `at` on, the frame that ends at `next`
 module _ (epsilon : ℕ) (b : List ℕ) (at next : ℕ) (e : next ≡ at + frameEnd epsilon (drop at b)) where

@@ -15,7 +15,7 @@ use Rattle.laws.proofs.Sorted.{pairwise-of-index, apart-index, apart-of-pairwis
 use Rattle.model.specs.Setup.{Setup, depth}
 use Rattle.model.specs.Frame.{Frame, twoAt, decode}
 use Rattle.model.specs.Order.{before, dueNear}
-use Rattle.model.specs.Holdback.{heldBytes, held, passes, notEarly, notOverdue, sameOrigin, soundHoldback}
+use Rattle.model.specs.Holdback.{heldBytes, held, passes, notEarly, notExpired, sameOrigin, soundHoldback}
 use Rattle.lemmas.proofs.Queue.{origin-sym}
 use Rattle.holdback.specs.Queue.{bytesAt, frameAt}
 use Rattle.holdback.specs.Sound.{fits, follows, isNew, frameSound}
@@ -76,17 +76,17 @@ module _ {A : Type 0} where
 pub record Fitting (s : Setup) (v least : ℕ) (bytes : List ℕ) : Type 0 where
   pub passed : passes s bytes ≡ true
   pub early : notEarly s v (decode (s .epsilon) bytes) ≡ true
-  pub overdue : notOverdue s v least (decode (s .epsilon) bytes) ≡ true
+  pub expired : notExpired s v least (decode (s .epsilon) bytes) ≡ true
 
 pub fitting : (s : Setup) (v least : ℕ) (bytes : List ℕ) → fits s v least bytes ≡ true → Fitting s v least bytes
 unfolding fits
 fitting s v least bytes h =
     let f = decode (s .epsilon) bytes in
-    let t = and-right (passes s bytes) (notEarly s v f && notOverdue s v least f) h in
+    let t = and-right (passes s bytes) (notEarly s v f && notExpired s v least f) h in
     record {
-      passed = and-left (passes s bytes) (notEarly s v f && notOverdue s v least f) h;
-      early = and-left (notEarly s v f) (notOverdue s v least f) t;
-      overdue = and-right (notEarly s v f) (notOverdue s v least f) t;
+      passed = and-left (passes s bytes) (notEarly s v f && notExpired s v least f) h;
+      early = and-left (notEarly s v f) (notExpired s v least f) t;
+      expired = and-right (notEarly s v f) (notExpired s v least f) t;
     }
 
 -- ---- the queue
@@ -131,14 +131,14 @@ module _ (s : Setup) (v least : ℕ) (b : List ℕ) where
       origin-sym (frame i) (frame j)
       ∙ any-tab-at (sameOrigin (frame j)) j frame (false-of-not (any (sameOrigin (frame j)) (tab j frame)) (frame-new j (each j l))) i h))
       (and-intro (every-tab (notEarly s v) n frame (λ k h. fit k (each k h) .early))
-      (every-tab (notOverdue s v least) n frame (λ k h. fit k (each k h) .overdue))))))
+      (every-tab (notExpired s v least) n frame (λ k h. fit k (each k h) .expired))))))
 
   module _ (h : soundHoldback s v least b ≡ true) where
     abbrev rest : Bool
     rest =
         every (passes s) (heldBytes (s .epsilon) b)
         && (chained (before s v) (held (s .epsilon) b) && (apart sameOrigin (held (s .epsilon) b)
-        && (every (notEarly s v) (held (s .epsilon) b) && every (notOverdue s v least) (held (s .epsilon) b))))
+        && (every (notEarly s v) (held (s .epsilon) b) && every (notExpired s v least) (held (s .epsilon) b))))
 
     pub sound-few : twoAt b 0 ≤ depth (s .n) (s .epsilon) (s .delta)
     unfolding soundHoldback
@@ -150,7 +150,7 @@ module _ (s : Setup) (v least : ℕ) (b : List ℕ) where
     sound-passes = and-left _ _ (and-right (leb (twoAt b 0) (depth (s .n) (s .epsilon) (s .delta))) rest h)
 
     rest-2 : (chained (before s v) (held (s .epsilon) b) && (apart sameOrigin (held (s .epsilon) b)
-        && (every (notEarly s v) (held (s .epsilon) b) && every (notOverdue s v least) (held (s .epsilon) b)))) ≡ true
+        && (every (notEarly s v) (held (s .epsilon) b) && every (notExpired s v least) (held (s .epsilon) b)))) ≡ true
     unfolding soundHoldback
     rest-2 =
         and-right (every (passes s) (heldBytes (s .epsilon) b)) _ (and-right (leb (twoAt b 0) (depth (s .n) (s .epsilon) (s .delta))) rest h)
@@ -159,32 +159,32 @@ module _ (s : Setup) (v least : ℕ) (b : List ℕ) where
     sound-ordered = and-left _ _ rest-2
 
     rest-3 : (apart sameOrigin (held (s .epsilon) b)
-        && (every (notEarly s v) (held (s .epsilon) b) && every (notOverdue s v least) (held (s .epsilon) b))) ≡ true
+        && (every (notEarly s v) (held (s .epsilon) b) && every (notExpired s v least) (held (s .epsilon) b))) ≡ true
     rest-3 = and-right (chained (before s v) (held (s .epsilon) b)) _ rest-2
 
     pub sound-single : apart sameOrigin (held (s .epsilon) b) ≡ true
     sound-single = and-left _ _ rest-3
 
-    rest-4 : (every (notEarly s v) (held (s .epsilon) b) && every (notOverdue s v least) (held (s .epsilon) b)) ≡ true
+    rest-4 : (every (notEarly s v) (held (s .epsilon) b) && every (notExpired s v least) (held (s .epsilon) b)) ≡ true
     rest-4 = and-right (apart sameOrigin (held (s .epsilon) b)) _ rest-3
 
     sound-early : every (notEarly s v) (held (s .epsilon) b) ≡ true
     sound-early = and-left _ _ rest-4
 
-    pub sound-overdue : every (notOverdue s v least) (held (s .epsilon) b) ≡ true
-    sound-overdue = and-right (every (notEarly s v) (held (s .epsilon) b)) _ rest-4
+    pub sound-expired : every (notExpired s v least) (held (s .epsilon) b) ≡ true
+    sound-expired = and-right (every (notEarly s v) (held (s .epsilon) b)) _ rest-4
 
     -- it is sound by any lesser due clock too
     pub sound-lower : (least′ : ℕ) → least′ ≤ least → soundHoldback s v least′ b ≡ true
-    unfolding soundHoldback notOverdue
+    unfolding soundHoldback notExpired
     sound-lower least′ lower =
         and-intro (le-leb (twoAt b 0) (depth (s .n) (s .epsilon) (s .delta)) sound-few)
         (and-intro sound-passes
         (and-intro sound-ordered
         (and-intro sound-single
         (and-intro sound-early
-        (every-mono (notOverdue s v least) (notOverdue s v least′) (held (s .epsilon) b)
-        (λ f o. le-leb least′ (dueNear s v f) (omega (arith, leb-true least (dueNear s v f) o))) sound-overdue)))))
+        (every-mono (notExpired s v least) (notExpired s v least′) (held (s .epsilon) b)
+        (λ f o. le-leb least′ (dueNear s v f) (omega (arith, leb-true least (dueNear s v f) o))) sound-expired)))))
 
     -- each frame of a sound queue is sound
     follows-at : (k : ℕ) → k < twoAt b 0 → follows s v b k ≡ true
@@ -207,7 +207,7 @@ module _ (s : Setup) (v least : ℕ) (b : List ℕ) where
     fits-at k l =
         and-intro (every-tab-at (passes s) (twoAt b 0) (bytesAt (s .epsilon) b) (rw (heldBytes-tab (s .epsilon) b) at sound-passes) k l)
         (and-intro (every-tab-at (notEarly s v) (twoAt b 0) frame (rw (held-tab (s .epsilon) b) at sound-early) k l)
-        (every-tab-at (notOverdue s v least) (twoAt b 0) frame (rw (held-tab (s .epsilon) b) at sound-overdue) k l))
+        (every-tab-at (notExpired s v least) (twoAt b 0) frame (rw (held-tab (s .epsilon) b) at sound-expired) k l))
 
     pub sound-frames : (k : ℕ) → k < twoAt b 0 → frameSound s v least b k ≡ true
     unfolding frameSound

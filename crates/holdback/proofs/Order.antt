@@ -18,7 +18,7 @@ use Rattle.model.specs.Setup.{Setup}
 use Rattle.model.specs.Timestamp.{sum}
 use Rattle.model.specs.Frame.{Frame}
 use Rattle.model.specs.Order.{readingOf, countsDown, keyBy, key, keyNear, compareFrames, before, due, dueNear}
-use Rattle.model.specs.Holdback.{notOverdue}
+use Rattle.model.specs.Holdback.{notExpired}
 use Rattle.model.specs.Tick.{dueBefore, dueNow}
 use Rattle.model.specs.Poll.{dueWithin}
 
@@ -53,18 +53,18 @@ module _ (s : Setup) (v : ℕ) (queue : List Frame) (ordered : chained (before s
   in-order = sorted-of-chained (keyNear s v) queue ordered
 
   -- 02, 2.2: before v
-  early-down : (y z : Frame) → List·Memᴰ y queue → List·Memᴰ z queue → dueBefore s v y ≡ true → before s v z y ≡ true → dueBefore s v z ≡ true
+  overdue-down : (y z : Frame) → List·Memᴰ y queue → List·Memᴰ z queue → dueBefore s v y ≡ true → before s v z y ≡ true → dueBefore s v z ≡ true
   unfolding dueBefore
-  early-down y z m n d l =
+  overdue-down y z m n d l =
       lt-ltb (dueNear s v z) (s .modulus) (omega (arith, ltb-true (dueNear s v y) (s .modulus) d, due-first s v z y l))
 
-  pub early-prefix : select (dueBefore s v) queue ≡ take (leading (dueBefore s v) queue) queue
+  pub overdue-prefix : select (dueBefore s v) queue ≡ take (leading (dueBefore s v) queue) queue
   unfolding before compareFrames
-  early-prefix = select-prefix (keyNear s v) (dueBefore s v) queue in-order early-down
+  overdue-prefix = select-prefix (keyNear s v) (dueBefore s v) queue in-order overdue-down
 
-  pub early-rest : select (λ f. not (dueBefore s v f)) queue ≡ drop (leading (dueBefore s v) queue) queue
+  pub overdue-rest : select (λ f. not (dueBefore s v f)) queue ≡ drop (leading (dueBefore s v) queue) queue
   unfolding before compareFrames
-  early-rest = select-suffix (keyNear s v) (dueBefore s v) queue in-order early-down
+  overdue-rest = select-suffix (keyNear s v) (dueBefore s v) queue in-order overdue-down
 
   -- 02, 2.5: at most d ticks after v
   within-down : (d : ℕ) (y z : Frame) → List·Memᴰ y queue → List·Memᴰ z queue → dueWithin s v d y ≡ true → before s v z y ≡ true → dueWithin s v d z ≡ true
@@ -80,9 +80,9 @@ module _ (s : Setup) (v : ℕ) (queue : List Frame) (ordered : chained (before s
   unfolding before compareFrames
   within-rest d = select-suffix (keyNear s v) (dueWithin s v d) queue in-order (within-down d)
 
--- where none is overdue, what is due at most 0 ticks after v is due at v
-pub now-within : (s : Setup) (v : ℕ) (f : Frame) → notOverdue s v (s .modulus) f ≡ true → dueNow s v f ≡ dueWithin s v 0 f
-unfolding dueNow dueWithin notOverdue
+-- where none is expired, what is due at most 0 ticks after v is due at v
+pub now-within : (s : Setup) (v : ℕ) (f : Frame) → notExpired s v (s .modulus) f ≡ true → dueNow s v f ≡ dueWithin s v 0 f
+unfolding dueNow dueWithin notExpired
 now-within s v f h = go (lt-or-ge (s .modulus) (dueNear s v f))
   where
     late : s .modulus ≤ dueNear s v f
@@ -92,10 +92,10 @@ now-within s v f h = go (lt-or-ge (s .modulus) (dueNear s v f))
     go (inl l) = ne-eqb (dueNear s v f) (s .modulus) (λ e. omega arith) ∙ sym (lt-leb (dueNear s v f) (s .modulus + 0) (omega arith))
     go (inr l) = eq-eqb (dueNear s v f) (s .modulus) (omega (arith, late)) ∙ sym (le-leb (dueNear s v f) (s .modulus + 0) (omega arith))
 
--- so of a queue in order of which none is overdue, that is a prefix
-module _ (s : Setup) (v : ℕ) (queue : List Frame) (ordered : chained (before s v) queue ≡ true) (kept : every (notOverdue s v (s .modulus)) queue ≡ true) where
+-- so of a queue in order of which none is expired, that is a prefix
+module _ (s : Setup) (v : ℕ) (queue : List Frame) (ordered : chained (before s v) queue ≡ true) (kept : every (notExpired s v (s .modulus)) queue ≡ true) where
   same : (f : Frame) → List·Memᴰ f queue → dueNow s v f ≡ dueWithin s v 0 f
-  same f m = now-within s v f (every-mem (notOverdue s v (s .modulus)) kept m)
+  same f m = now-within s v f (every-mem (notExpired s v (s .modulus)) kept m)
 
   pub due-prefix : select (dueNow s v) queue ≡ take (leading (dueWithin s v 0) queue) queue
   due-prefix = select-ext (dueNow s v) (dueWithin s v 0) queue same ∙ within-prefix s v queue ordered 0

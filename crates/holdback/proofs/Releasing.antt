@@ -29,14 +29,15 @@ use Rattle.lemmas.proofs.Queue.{sound-queue, queue-rest, depth-small, bytes-sou
 use Rattle.holdback.specs.Queue.{frameStart, bytesAt, frameAt, rankOf, Spans, Stands}
 use Rattle.holdback.specs.Sound.{Recent}
 use Rattle.holdback.specs.Seen.{Placeable, Within, tableLength, rankSlot, slotOf, seenTable, hasMark, withoutMark, isMarked}
-use Rattle.holdback.specs.Starts.{startUnit, usedPlaces, framesBelow, startOf, startsOf, loweredStarts}
-use Rattle.holdback.specs.Early.{SoundBy, earlyFrames, otherFrames, EarlyFront, releasedBuffer, Left, Released}
+use Rattle.holdback.specs.Starts.{startUnit, usedEntries, framesBelow, startOf, startsOf, loweredStarts}
+use Rattle.holdback.specs.Overdue.{SoundBy, overdueFrames, otherFrames, OverdueFront, releasedBuffer, Left, Released}
 use Rattle.holdback.proofs.RoundTrip.{Bytes, passing}
-use Rattle.holdback.proofs.Frames.{start-zero, held-tab, lent}
+use Rattle.lemmas.proofs.FrameWalk.{lent, Seeking, seek-starts, seek-turns}
+use Rattle.holdback.proofs.Frames.{start-zero, held-tab}
 use Rattle.holdback.proofs.Judging.{fitting, frame-fits, sound-few, sound-passes, sound-ordered, sound-single, sound-frames, sound-formed}
-use Rattle.holdback.proofs.Searching.{Led, led-starts, led-frame, led-turns}
+use Rattle.holdback.proofs.Searching.{sound-stand, seek-frame}
 use Rattle.holdback.proofs.Seen.{fitting-placeable, within, rank-slot, same-slot, seen-own, seen-less, length-seen}
-use Rattle.holdback.proofs.Order.{early-prefix, early-rest}
+use Rattle.holdback.proofs.Order.{overdue-prefix, overdue-rest}
 use Rattle.holdback.proofs.Started.{changed-long, changed-at, changed-past, starts-at, starts-past, starts-by, spans-small, leading-mono}
 use Rattle.holdback.proofs.Changes.{Pieces, pieces, written-over, length-held}
 use Rattle.holdback.proofs.Placed.{written-start}
@@ -48,27 +49,27 @@ module _ (s : Setup) (v least : ℕ) (queue : List ℕ) (sound : soundHoldback s
   frames = held (s .epsilon) queue
 
   -- the entry for the first place counts them
-  pub early-below : framesBelow s v queue 0 ≡ leading (dueBefore s v) frames
+  pub overdue-below : framesBelow s v queue 0 ≡ leading (dueBefore s v) frames
   unfolding dueBefore
-  early-below = ap (λ (m : ℕ). leading (λ f. ltb (dueNear s v f) m) frames) (add-zero (s .modulus))
+  overdue-below = ap (λ (m : ℕ). leading (λ f. ltb (dueNear s v f) m) frames) (add-zero (s .modulus))
 
-  pub early-number : framesBelow s v queue 0 ≡ length (earlyFrames s v queue)
-  early-number =
-      early-below
+  pub overdue-number : framesBelow s v queue 0 ≡ length (overdueFrames s v queue)
+  overdue-number =
+      overdue-below
       ∙ sym (length-take-le (leading (dueBefore s v) frames) frames (leading-le (dueBefore s v) frames))
-      ∙ ap length (sym (early-prefix s v frames (sound-ordered s v least queue sound)))
+      ∙ ap length (sym (overdue-prefix s v frames (sound-ordered s v least queue sound)))
 
-  pub early-first : take (length (earlyFrames s v queue)) frames ≡ earlyFrames s v queue
-  early-first =
-      ap (λ (n : ℕ). take n frames) (sym early-number ∙ early-below) ∙ sym (early-prefix s v frames (sound-ordered s v least queue sound))
+  pub overdue-first : take (length (overdueFrames s v queue)) frames ≡ overdueFrames s v queue
+  overdue-first =
+      ap (λ (n : ℕ). take n frames) (sym overdue-number ∙ overdue-below) ∙ sym (overdue-prefix s v frames (sound-ordered s v least queue sound))
 
-  pub early-others : drop (length (earlyFrames s v queue)) frames ≡ otherFrames s v queue
-  early-others =
-      ap (λ (n : ℕ). drop n frames) (sym early-number ∙ early-below) ∙ sym (early-rest s v frames (sound-ordered s v least queue sound))
+  pub overdue-others : drop (length (overdueFrames s v queue)) frames ≡ otherFrames s v queue
+  overdue-others =
+      ap (λ (n : ℕ). drop n frames) (sym overdue-number ∙ overdue-below) ∙ sym (overdue-rest s v frames (sound-ordered s v least queue sound))
 
   -- and says where the others start
-  pub early-front : {index at : ℕ} → Stands (s .epsilon) queue (framesBelow s v queue 0) index at → EarlyFront s v queue index at
-  early-front stands = record { number = stands .frames ∙ early-number; starts = stands .starts }
+  pub overdue-front : {index at : ℕ} → Stands (s .epsilon) queue (framesBelow s v queue 0) index at → OverdueFront s v queue index at
+  overdue-front stands = record { number = stands .frames ∙ overdue-number; starts = stands .starts }
 
 -- ---- the marks
 
@@ -80,12 +81,14 @@ apart-drop (suc i) (x ∷ l) h = apart-drop i l (and-right (not (any (sameOrigin
 
 -- a walk over the front that has taken the marks of i frames away
 pub record Unmarking (s : Setup) (v least : ℕ) (b table : List ℕ) (index i at : ℕ) : Type 0 where
-  pub led : Led (λ _. true) s v least b (twoAt b 0) i at
+  pub sound : soundHoldback s v least b ≡ true
+  pub seek : Seeking (frameEnd (s .epsilon)) (decode (s .epsilon)) (passes s) (λ _. true) b 2 (twoAt b 0) i at
   pub table-is : table ≡ seenTable s v (drop i (held (s .epsilon) b))
   pub most : i ≤ index
 
 pub unmarking-starts : {s : Setup} {v least : ℕ} {b table : List ℕ} {index : ℕ} → soundHoldback s v least b ≡ true → 2 ≤ length b → table ≡ seenTable s v (held (s .epsilon) b) → Unmarking s v least b table index 0 2
-unmarking-starts sound two e = record { led = led-starts (sound, (two, refl)); table-is = e; most = zero-le }
+unmarking-starts {s} {v} {least} {b} sound two e =
+    record { sound = sound; seek = seek-starts (sound-stand s v least b sound two refl); table-is = e; most = zero-le }
 
 module _ {s : Setup} {v least : ℕ} {b table : List ℕ} {index i at : ℕ} (walk : Unmarking s v least b table index i at) (more : i < twoAt b 0)
     (limits : Limits s) (below : v < s .modulus) (near : Recent s least) where
@@ -95,7 +98,7 @@ module _ {s : Setup} {v least : ℕ} {b table : List ℕ} {index i at : ℕ} (wa
   placeable-at : (k : ℕ) → k < twoAt b 0 → Placeable s v (frameAt (s .epsilon) b k)
   unfolding frameAt
   placeable-at k h =
-      fitting-placeable s v least (bytesAt (s .epsilon) b k) near (fitting s v least (bytesAt (s .epsilon) b k) (frame-fits s v least b k (sound-frames s v least b (walk .led .sound) k h)))
+      fitting-placeable s v least (bytesAt (s .epsilon) b k) near (fitting s v least (bytesAt (s .epsilon) b k) (frame-fits s v least b k (sound-frames s v least b (walk .sound) k h)))
 
   placeable-of : (g : Frame) → List·Memᴰ g (held (s .epsilon) b) → Placeable s v g
   placeable-of g m =
@@ -119,11 +122,11 @@ module _ {s : Setup} {v least : ℕ} {b table : List ℕ} {index i at : ℕ} (wa
       (λ g m. same-slot s v limits below own g (placeable-at i more) (placeable-of g (mem-of-drop (suc i) (held (s .epsilon) b) m)))
       ∙ false-of-not (any (sameOrigin own) (drop (suc i) (held (s .epsilon) b)))
       (and-left (not (any (sameOrigin own) (drop (suc i) (held (s .epsilon) b)))) (apart sameOrigin (drop (suc i) (held (s .epsilon) b)))
-      (rw front at (apart-drop i (held (s .epsilon) b) (sound-single s v least b (walk .led .sound)))))
+      (rw front at (apart-drop i (held (s .epsilon) b) (sound-single s v least b (walk .sound)))))
 
   module _ {size : ℕ} (es : size ≡ frameEnd (s .epsilon) (lent b at)) (rank : Rank) (er : rank ≡ rankOf s v (decode (s .epsilon) (take (at + size - at) (drop at b)))) where
     own-rank : rank ≡ rankOf s v own
-    own-rank = er ∙ ap (rankOf s v) (led-frame (walk .led) more es)
+    own-rank = er ∙ ap (rankOf s v) (seek-frame s (walk .seek) es)
 
     pub unmarking-within : Within s rank
     unmarking-within = within s v limits below own rank (placeable-at i more) own-rank
@@ -141,7 +144,8 @@ module _ {s : Setup} {v least : ℕ} {b table : List ℕ} {index i at : ℕ} (wa
     unfolding any
     unmarking-turns l few e =
         record {
-          led = led-turns (walk .led) more es {t = true} refl refl;
+          sound = walk .sound;
+          seek = seek-turns (walk .seek) more es {t = true} refl refl;
           table-is =
               e ∙ ap₂ withoutMark marks (rank-slot s v own rank own-rank)
               ∙ seen-less s v limits below (drop (suc i) (held (s .epsilon) b)) (own ∷ drop (suc i) (held (s .epsilon) b)) own (λ p. refl) (placeable-at i more) alone
@@ -174,7 +178,7 @@ leading-drop p (suc e) (x ∷ l) h =
 
 module _ (s : Setup) (v least : ℕ) (b : List ℕ) (sound : soundHoldback s v least b ≡ true) (limits : Limits s) (clean : Bytes b) (two : 2 ≤ length b) where
   abbrev index : ℕ
-  index = length (earlyFrames s v b)
+  index = length (overdueFrames s v b)
 
   abbrev others : List Frame
   others = otherFrames s v b
@@ -184,7 +188,7 @@ module _ (s : Setup) (v least : ℕ) (b : List ℕ) (sound : soundHoldback s v l
 
   pub others-number : length others ≡ twoAt b 0 - index
   others-number =
-      ap length (sym (early-others s v least b sound)) ∙ length-drop index (held (s .epsilon) b) ∙ ap (λ (n : ℕ). n - index) (length-held (s .epsilon) b)
+      ap length (sym (overdue-others s v least b sound)) ∙ length-drop index (held (s .epsilon) b) ∙ ap (λ (n : ℕ). n - index) (length-held (s .epsilon) b)
 
   others-few : length others ≤ depth (s .n) (s .epsilon) (s .delta)
   others-few = omega (arith, others-number, sound-few s v least b sound)
@@ -200,24 +204,24 @@ module _ (s : Setup) (v least : ℕ) (b : List ℕ) (sound : soundHoldback s v l
   start-old i h = parts i h .front
 
   -- where they end in a delivery
-  pub early-ends : frameStart (s .epsilon) b index ≡ length (encodeFrames (earlyFrames s v b))
+  pub overdue-ends : frameStart (s .epsilon) b index ≡ length (encodeFrames (overdueFrames s v b))
   unfolding encodeFrames twoBytes
-  early-ends = start-old index index-in ∙ ap (λ (l : List Frame). 2 + length (joined encode l)) (early-first s v least b sound) ∙ two-more (length (joined encode (earlyFrames s v b)))
+  overdue-ends = start-old index index-in ∙ ap (λ (l : List Frame). 2 + length (joined encode l)) (overdue-first s v least b sound) ∙ two-more (length (joined encode (overdueFrames s v b)))
 
-  pub early-small : (index ≤ 1792) × (frameStart (s .epsilon) b index < startUnit)
-  early-small =
+  pub overdue-small : (index ≤ 1792) × (frameStart (s .epsilon) b index < startUnit)
+  overdue-small =
       spans-small s b index limits (omega (arith, index-in, sound-few s v least b sound))
       (sound-formed s v least b index (λ k l. sound-frames s v least b sound k (omega (arith, index-in))))
 
-  pub early-spans : {count stop at front : ℕ} → count ≡ twoAt b 0 → stop ≡ frameStart (s .epsilon) b count → EarlyFront s v b front at → Spans (s .epsilon) b count stop front at
-  early-spans count-is ends early =
+  pub overdue-spans : {count stop at front : ℕ} → count ≡ twoAt b 0 → stop ≡ frameStart (s .epsilon) b count → OverdueFront s v b front at → Spans (s .epsilon) b count stop front at
+  overdue-spans count-is ends overdue =
       record {
         formed = every-mono (passes s) (wellFormed (s .epsilon)) (heldBytes (s .epsilon) b) (λ x h. passing s x h .well) (sound-passes s v least b sound);
         two = two;
         count-is = count-is;
         ends = ends;
-        inside = omega (arith, early .number, index-in);
-        starts = early .starts;
+        inside = omega (arith, overdue .number, index-in);
+        starts = overdue .starts;
       }
 
   -- once they have left
@@ -243,7 +247,7 @@ module _ (s : Setup) (v least : ℕ) (b : List ℕ) (sound : soundHoldback s v l
         let x : List ℕ = joined encode (take index q) in
         let y : List ℕ = joined encode (take i others) in
         let more : joined encode (take (index + i) q) ≡ x ++ y =
-        ap (joined encode) (take-add index i q ∙ ap (λ (l : List Frame). take index q ++ take i l) (early-others s v least b sound)) ∙ joined-append encode (take index q) (take i others) in
+        ap (joined encode) (take-add index i q ∙ ap (λ (l : List Frame). take index q ++ take i l) (overdue-others s v least b sound)) ∙ joined-append encode (take index q) (take i others) in
         let new : frameStart (s .epsilon) b′ i ≡ 2 + length y =
         ap (λ (l : List ℕ). frameStart (s .epsilon) l i) left ∙ written-start (s .epsilon) others _ (λ f m. others-ok .frames f m .sound .wide) i (omega (arith, others-number)) in
         omega (arith, new, start-old index index-in, start-old (index + i) (omega (arith, index-in)), ap length more, length-append x y)
@@ -255,17 +259,17 @@ module _ (s : Setup) (v least : ℕ) (b : List ℕ) (sound : soundHoldback s v l
         let p : Frame → Bool = λ f. ltb (dueNear s v f) (s .modulus + k) in
         let q : List Frame = held (s .epsilon) b in
         let low : index ≤ leading p q =
-        rw (← early-number s v least b sound) (leading-mono (λ f. ltb (dueNear s v f) (s .modulus + 0)) p q (λ f e. lt-ltb (dueNear s v f) (s .modulus + k) (omega (arith, ltb-true (dueNear s v f) (s .modulus + 0) e)))) in
+        rw (← overdue-number s v least b sound) (leading-mono (λ f. ltb (dueNear s v f) (s .modulus + 0)) p q (λ f e. lt-ltb (dueNear s v f) (s .modulus + k) (omega (arith, ltb-true (dueNear s v f) (s .modulus + 0) e)))) in
         let fewer : leading p q ≡ index + framesBelow s v b′ k =
-        leading-drop p index q low ∙ ap (λ (l : List Frame). index + leading p l) (early-others s v least b sound ∙ sym left-held) in
+        leading-drop p index q low ∙ ap (λ (l : List Frame). index + leading p l) (overdue-others s v least b sound ∙ sym left-held) in
         let most : framesBelow s v b′ k ≤ twoAt b 0 - index =
         omega (arith, leading-le p (held (s .epsilon) b′), length-held (s .epsilon) b′, left-count) in
         rw fewer (omega (arith, start-left (framesBelow s v b′ k) most, start-old index index-in))
 
-    pub starts-left : {starts l : List ℕ} → starts ≡ startsOf s v b → l ≡ loweredStarts (usedPlaces s) (index * startUnit + (frameStart (s .epsilon) b index - 2)) starts → l ≡ startsOf s v b′
+    pub starts-left : {starts l : List ℕ} → starts ≡ startsOf s v b → l ≡ loweredStarts (usedEntries s) (index * startUnit + (frameStart (s .epsilon) b index - 2)) starts → l ≡ startsOf s v b′
     starts-left {starts} old e =
         let step : ℕ = index * startUnit + (frameStart (s .epsilon) b index - 2) in
-        let to : ℕ = usedPlaces s in
+        let to : ℕ = usedEntries s in
         starts-by s v b′ (changed-long (λ m. m - step) 0 starts to e)
         (λ k a h. changed-at (λ m. m - step) 0 starts to e k h ∙ rw (starts-at s v b limits old k a, le-ltb k 0 zero-le, lt-ltb k to a) (omega (arith, start-lowered k)))
         (λ k a h. changed-past (λ m. m - step) 0 starts to e k a h ∙ starts-past s v b old k a h)
@@ -273,7 +277,7 @@ module _ (s : Setup) (v least : ℕ) (b : List ℕ) (sound : soundHoldback s v l
   -- where there are none, nothing changes
   module _ (none : index ≡ 0) where
     pub none-held : held (s .epsilon) b ≡ others
-    none-held = sym (ap (λ (n : ℕ). drop n (held (s .epsilon) b)) none) ∙ early-others s v least b sound
+    none-held = sym (ap (λ (n : ℕ). drop n (held (s .epsilon) b)) none) ∙ overdue-others s v least b sound
 
     pub none-leave : b ≡ releasedBuffer s v b
     none-leave = written-over (s .epsilon) b 0 (parts 0 zero-le) ∙ ap (λ (l : List Frame). overlay (encodeFrames l) b) none-held
@@ -285,45 +289,45 @@ module _ (s : Setup) (v least : ℕ) (b : List ℕ) (sound : soundHoldback s v l
 
 -- ---- all together
 
-module _ {s : Setup} {v : ℕ} {b : List ℕ} {front at : ℕ} (sound : SoundBy s v b) (limits : Limits s) (clean : Bytes b) (two : 2 ≤ length b) (early : EarlyFront s v b front at) where
-  at-ends : at ≡ length (encodeFrames (earlyFrames s v b))
-  at-ends = early .starts ∙ ap (frameStart (s .epsilon) b) (early .number) ∙ early-ends s v (sound .least) b (sound .sound) limits clean two
+module _ {s : Setup} {v : ℕ} {b : List ℕ} {front at : ℕ} (sound : SoundBy s v b) (limits : Limits s) (clean : Bytes b) (two : 2 ≤ length b) (overdue : OverdueFront s v b front at) where
+  at-ends : at ≡ length (encodeFrames (overdueFrames s v b))
+  at-ends = overdue .starts ∙ ap (frameStart (s .epsilon) b) (overdue .number) ∙ overdue-ends s v (sound .least) b (sound .sound) limits clean two
 
   pub released-none : {table starts d d′ : List ℕ} → front ≡ 0 → table ≡ seenTable s v (held (s .epsilon) b) → starts ≡ startsOf s v b
-      → d′ ≡ overlay (encodeFrames (earlyFrames s v b)) d → Released s v b d front at b table starts d′
+      → d′ ≡ overlay (encodeFrames (overdueFrames s v b)) d → Released s v b d front at b table starts d′
   released-none zero-is marks tabled given =
-      let none : length (earlyFrames s v b) ≡ 0 = sym (early .number) ∙ zero-is in
+      let none : length (overdueFrames s v b) ≡ 0 = sym (overdue .number) ∙ zero-is in
       let same = none-held s v (sound .least) b (sound .sound) limits clean two none in
       record {
-        number = early .number;
+        number = overdue .number;
         ends = at-ends;
         queue-is = none-leave s v (sound .least) b (sound .sound) limits clean two none;
         held-is = same;
         sound = none-sound s v (sound .least) b (sound .sound) limits clean two none;
         count-is = omega arith;
-        stop-is = omega (arith, early .starts ∙ ap (frameStart (s .epsilon) b) zero-is, start-zero (s .epsilon) b);
+        stop-is = omega (arith, overdue .starts ∙ ap (frameStart (s .epsilon) b) zero-is, start-zero (s .epsilon) b);
         table-is = marks ∙ ap (seenTable s v) same;
         starts-is = tabled;
         given = given;
       }
 
   pub released-some : {b′ table′ starts′ d d′ : List ℕ} → Left s v b front b′ table′ starts′
-      → d′ ≡ overlay (encodeFrames (earlyFrames s v b)) d → Released s v b d front at b′ table′ starts′ d′
+      → d′ ≡ overlay (encodeFrames (overdueFrames s v b)) d → Released s v b d front at b′ table′ starts′ d′
   released-some {b′} left given =
-      let n : ℕ = length (earlyFrames s v b) in
+      let n : ℕ = length (overdueFrames s v b) in
       let inside = index-in s v (sound .least) b (sound .sound) limits clean two in
       let counted = left-count s v (sound .least) b (sound .sound) limits clean two b′ (left .queue-is) in
       let all : n + (twoAt b 0 - n) ≡ twoAt b 0 = omega arith in
       let stop = start-left s v (sound .least) b (sound .sound) limits clean two b′ (left .queue-is) (twoAt b 0 - n) (omega arith) in
       record {
-        number = early .number;
+        number = overdue .number;
         ends = at-ends;
         queue-is = left .queue-is;
         held-is = left-held s v (sound .least) b (sound .sound) limits clean two b′ (left .queue-is);
         sound = left-sound s v (sound .least) b (sound .sound) limits clean two b′ (left .queue-is);
-        count-is = counted ∙ ap (λ (m : ℕ). twoAt b 0 - m) (sym (early .number));
+        count-is = counted ∙ ap (λ (m : ℕ). twoAt b 0 - m) (sym (overdue .number));
         stop-is =
-            ap₂ _+_ (ap (frameStart (s .epsilon) b′) counted) (early .starts ∙ ap (frameStart (s .epsilon) b) (early .number))
+            ap₂ _+_ (ap (frameStart (s .epsilon) b′) counted) (overdue .starts ∙ ap (frameStart (s .epsilon) b) (overdue .number))
             ∙ stop ∙ ap (λ (m : ℕ). frameStart (s .epsilon) b m + 2) all;
         table-is = left .table-is;
         starts-is = left .starts-is;

@@ -21,7 +21,7 @@ use Rattle.holdback.specs.Sound.{Recent}
 use Rattle.holdback.specs.Seen.{Placeable, Within, wordLength, tableLength, rankSlot, slotOf, seenTable, withoutMark, isMarked, marked}
 use Rattle.lemmas.proofs.Bounds.{Limits}
 use Rattle.holdback.proofs.RoundTrip.{passing}
-use Rattle.lemmas.proofs.Queue.{overdue-from, reading-high}
+use Rattle.lemmas.proofs.Queue.{expired-from, reading-high}
 use Rattle.lemmas.proofs.Reading.{near-injective}
 use Rattle.holdback.proofs.Bits.{table-has, table-with, table-without, no-marks, length-table}
 use Rattle.holdback.proofs.Judging.{Fitting}
@@ -30,7 +30,7 @@ use Rattle.holdback.proofs.Judging.{Fitting}
 pub fitting-placeable : (s : Setup) (v least : ℕ) (bytes : List ℕ) → Recent s least → Fitting s v least bytes → Placeable s v (decode (s .epsilon) bytes)
 fitting-placeable s v least bytes near fit =
     let p = passing s bytes (fit .passed) in
-    let o = overdue-from s v least (decode (s .epsilon) bytes) (fit .overdue) in
+    let o = expired-from s v least (decode (s .epsilon) bytes) (fit .expired) in
     record { station-below = p .station-below; r-below = p .r-below; not-before = omega arith }
 
 pub rank-below : (s : Setup) → Limits s → (rank : Rank) → Within s rank → rankSlot s rank < tableLength * wordLength

@@ -11,23 +11,25 @@ use lib.Dec.{ltb, eqb, leb·suc-suc}
 use lib.ListN.{length, take, getD, set, getD-replicate}
 use lib.Seq.{getD-set-same, getD-set-other}
 use borrow.Author.Tests.{lt-ltb, le-ltb, ltb-true, leb-true, eq-eqb, ne-eqb}
-use Rattle.laws.specs.Lists.{tab, every, leading, insertAt}
+use Rattle.laws.specs.Lists.{every, leading, insertAt}
 use Rattle.laws.proofs.Numbers.{lt-or-ge, eq-or-ne, true-or-false, cond-same}
-use Rattle.laws.proofs.Lists.{length-tab, getD-tab, tab-getD, eq-tab, tab-ext, set-tab, replicate-tab, take-tab, leading-le, leading-ext, every-leading}
+use Rattle.laws.proofs.Lists.{length-tab, getD-tab, tab-getD, eq-tab, tab-ext, set-tab, replicate-tab, leading-le, leading-ext, every-mono, every-leading}
 use Rattle.model.specs.Setup.{Setup, width, longestFrame, depth}
 use Rattle.model.specs.Timestamp.{sum}
-use Rattle.model.specs.Frame.{Frame, twoAt, decode}
+use Rattle.model.specs.Frame.{Frame, twoAt, decode, frameEnd}
 use Rattle.model.specs.Order.{due, dueNear, before}
-use Rattle.model.specs.Holdback.{held, soundHoldback, notEarly, notOverdue}
+use Rattle.model.specs.Holdback.{held, passes, soundHoldback, notEarly, notExpired}
 use Rattle.model.specs.Poll.{dueWithin}
+use Rattle.lemmas.specs.Standing.{leftBy, endBy}
 use Rattle.lemmas.proofs.Bounds.{Limits}
+use Rattle.lemmas.proofs.FrameWalk.{Seeking, seek-from}
 use Rattle.setup.proofs.InLimits.{depth-most}
 use Rattle.holdback.specs.Queue.{frameStart, frameAt, Stands}
 use Rattle.holdback.specs.Sound.{fits, follows, frameSound}
-use Rattle.holdback.specs.Starts.{startUnit, startLimit, startPlaces, usedPlaces, front, allFront, sumPlace, framesBelow, startOf, startsOf, changed, filled, highest, spreadStarts, movedStarts, Moving}
-use Rattle.holdback.proofs.Frames.{start-zero, start-most, held-tab, leading-held, FormedUpTo}
-use Rattle.holdback.proofs.Judging.{every-tab-at, fitting, frame-follows, sound-few, sound-frames, sound-formed}
-use Rattle.holdback.proofs.Searching.{Led}
+use Rattle.holdback.specs.Starts.{startUnit, startLimit, startEntries, usedEntries, front, allFront, sumWait, framesBelow, startOf, startsOf, changed, filled, highest, spreadStarts, movedStarts, Moving}
+use Rattle.holdback.proofs.Frames.{start-zero, start-most, leading-held, FormedUpTo}
+use Rattle.holdback.proofs.Judging.{fitting, frame-follows, sound-few, sound-frames, sound-formed}
+use Rattle.holdback.proofs.Searching.{start-by, sound-stand, stand-held}
 use Rattle.holdback.proofs.Order.{due-first, due-before}
 use Rattle.holdback.proofs.Changes.{length-held}
 
@@ -37,30 +39,30 @@ module _ (f : ℕ → ℕ) (from : ℕ) (starts : List ℕ) where
   abbrev changedAt : ℕ → ℕ → ℕ
   changedAt to k = cond (ltb k from) (getD starts k 0) (cond (ltb k to) (f (getD starts k 0)) (getD starts k 0))
 
-  pub changed-at : (to : ℕ) {l : List ℕ} → l ≡ changed f from to starts → (k : ℕ) → k < startPlaces → getD l k 0 ≡ changedAt to k
+  pub changed-at : (to : ℕ) {l : List ℕ} → l ≡ changed f from to starts → (k : ℕ) → k < startEntries → getD l k 0 ≡ changedAt to k
   unfolding changed
-  changed-at to e k h = ap (λ (m : List ℕ). getD m k 0) e ∙ getD-tab startPlaces (changedAt to) k 0 h
+  changed-at to e k h = ap (λ (m : List ℕ). getD m k 0) e ∙ getD-tab startEntries (changedAt to) k 0 h
 
   -- the places from `to` on are as they were
-  pub changed-past : (to : ℕ) {l : List ℕ} → l ≡ changed f from to starts → (k : ℕ) → to ≤ k → k < startPlaces → getD l k 0 ≡ getD starts k 0
+  pub changed-past : (to : ℕ) {l : List ℕ} → l ≡ changed f from to starts → (k : ℕ) → to ≤ k → k < startEntries → getD l k 0 ≡ getD starts k 0
   changed-past to e k past h = changed-at to e k h ∙ rw (le-ltb k to past) (cond-same (ltb k from) (getD starts k 0))
 
-  pub changed-long : (to : ℕ) {l : List ℕ} → l ≡ changed f from to starts → length l ≡ startPlaces
+  pub changed-long : (to : ℕ) {l : List ℕ} → l ≡ changed f from to starts → length l ≡ startEntries
   unfolding changed
-  changed-long to e = ap length e ∙ length-tab startPlaces (changedAt to)
+  changed-long to e = ap length e ∙ length-tab startEntries (changedAt to)
 
   none-yet : (k : ℕ) → (k < from) ⊎ (from ≤ k) → getD starts k 0 ≡ changedAt from k
   none-yet k (inl h) = rw (lt-ltb k from h)
   none-yet k (inr h) = rw (le-ltb k from h)
 
-  pub changed-starts : length starts ≡ startPlaces → starts ≡ changed f from from starts
+  pub changed-starts : length starts ≡ startEntries → starts ≡ changed f from from starts
   unfolding changed
   changed-starts long =
-      sym (tab-getD startPlaces starts 0 long)
-      ∙ tab-ext startPlaces (λ k. getD starts k 0) (changedAt from) (λ k h. none-yet k (lt-or-ge k from))
+      sym (tab-getD startEntries starts 0 long)
+      ∙ tab-ext startEntries (λ k. getD starts k 0) (changedAt from) (λ k h. none-yet k (lt-or-ge k from))
 
   -- the next place is as it was
-  pub changed-next : {l : List ℕ} (i : ℕ) → i < startPlaces → l ≡ changed f from i starts → getD l i 0 ≡ getD starts i 0
+  pub changed-next : {l : List ℕ} (i : ℕ) → i < startEntries → l ≡ changed f from i starts → getD l i 0 ≡ getD starts i 0
   changed-next i h e = changed-at i e i h ∙ rw (le-ltb i i (omega arith)) (cond-same (ltb i from) (getD starts i 0))
 
   -- two ends that tell the same places
@@ -85,20 +87,20 @@ module _ (f : ℕ → ℕ) (from : ℕ) (starts : List ℕ) where
   unfolding changed
   changed-turns i x h e same =
       ap₂ (λ (m : List ℕ) (y : ℕ). set m i y) e same
-      ∙ set-tab startPlaces (changedAt i) i (f (getD starts i 0))
-      ∙ tab-ext startPlaces (λ k. cond (eqb k i) (f (getD starts i 0)) (changedAt i k)) (changedAt (i + 1)) (λ k _. one-more i k h (eq-or-ne k i))
+      ∙ set-tab startEntries (changedAt i) i (f (getD starts i 0))
+      ∙ tab-ext startEntries (λ k. cond (eqb k i) (f (getD starts i 0)) (changedAt i k)) (changedAt (i + 1)) (λ k _. one-more i k h (eq-or-ne k i))
 
   pub changed-ends : {l : List ℕ} (i to : ℕ) → to ≤ i → i ≤ from + (to - from) → l ≡ changed f from i starts → l ≡ changed f from to starts
   unfolding changed
   changed-ends i to low high e =
-      e ∙ tab-ext startPlaces (changedAt i) (changedAt to) (λ k _. same-places i to k (λ g l. omega arith) (λ g l. omega arith))
+      e ∙ tab-ext startEntries (changedAt i) (changedAt to) (λ k _. same-places i to k (λ g l. omega arith) (λ g l. omega arith))
 
-pub all-front : (starts : List ℕ) {l : List ℕ} → l ≡ filled front 0 startPlaces starts → l ≡ allFront
+pub all-front : (starts : List ℕ) {l : List ℕ} → l ≡ filled front 0 startEntries starts → l ≡ allFront
 unfolding changed
 all-front starts e =
     e
-    ∙ tab-ext startPlaces (λ k. cond (ltb k 0) (getD starts k 0) (cond (ltb k startPlaces) front (getD starts k 0))) (λ k. front) (λ k h. rw (le-ltb k 0 (omega arith), lt-ltb k startPlaces h))
-    ∙ sym (replicate-tab startPlaces front)
+    ∙ tab-ext startEntries (λ k. cond (ltb k 0) (getD starts k 0) (cond (ltb k startEntries) front (getD starts k 0))) (λ k. front) (λ k h. rw (le-ltb k 0 (omega arith), lt-ltb k startEntries h))
+    ∙ sym (replicate-tab startEntries front)
 
 -- ---- a table whose entries are spread
 
@@ -122,11 +124,11 @@ highest-set starts p x (suc n) inside h low = go (highest-set starts p x n insid
         let here : getD (set starts p x) n 0 ≡ x = ap (λ (m : ℕ). getD (set starts p x) m 0) e ∙ getD-set-same starts p x 0 inside in
         omega (arith, low, here, highest-before starts p x n l)
 
-pub highest-front : (starts : List ℕ) → starts ≡ allFront → (n : ℕ) → n ≤ startPlaces → highest starts n ≡ front
+pub highest-front : (starts : List ℕ) → starts ≡ allFront → (n : ℕ) → n ≤ startEntries → highest starts n ≡ front
 unfolding highest
 highest-front starts e zero h = refl
 highest-front starts e (suc n) h =
-    ap₂ max (highest-front starts e n (omega arith)) (ap (λ (l : List ℕ). getD l n 0) e ∙ getD-replicate startPlaces n front 0 (omega arith)) ∙ refl
+    ap₂ max (highest-front starts e n (omega arith)) (ap (λ (l : List ℕ). getD l n 0) e ∙ getD-replicate startEntries n front 0 (omega arith)) ∙ refl
 
 pub highest-none : (starts : List ℕ) → front ≡ highest starts 0
 unfolding highest
@@ -140,26 +142,26 @@ module _ (starts : List ℕ) where
   abbrev spreadAt : ℕ → ℕ → ℕ
   spreadAt to k = cond (ltb k to) (highest starts (suc k)) (getD starts k 0)
 
-  spread-at : (to : ℕ) {l : List ℕ} → l ≡ spreadStarts to starts → (k : ℕ) → k < startPlaces → getD l k 0 ≡ spreadAt to k
+  spread-at : (to : ℕ) {l : List ℕ} → l ≡ spreadStarts to starts → (k : ℕ) → k < startEntries → getD l k 0 ≡ spreadAt to k
   unfolding spreadStarts
-  spread-at to e k h = ap (λ (m : List ℕ). getD m k 0) e ∙ getD-tab startPlaces (spreadAt to) k 0 h
+  spread-at to e k h = ap (λ (m : List ℕ). getD m k 0) e ∙ getD-tab startEntries (spreadAt to) k 0 h
 
-  pub spread-long : (to : ℕ) {l : List ℕ} → l ≡ spreadStarts to starts → length l ≡ startPlaces
+  pub spread-long : (to : ℕ) {l : List ℕ} → l ≡ spreadStarts to starts → length l ≡ startEntries
   unfolding spreadStarts
-  spread-long to e = ap length e ∙ length-tab startPlaces (spreadAt to)
+  spread-long to e = ap length e ∙ length-tab startEntries (spreadAt to)
 
-  pub spread-below : (to : ℕ) {l : List ℕ} → l ≡ spreadStarts to starts → (k : ℕ) → k < to → k < startPlaces → getD l k 0 ≡ highest starts (suc k)
+  pub spread-below : (to : ℕ) {l : List ℕ} → l ≡ spreadStarts to starts → (k : ℕ) → k < to → k < startEntries → getD l k 0 ≡ highest starts (suc k)
   spread-below to e k a h = spread-at to e k h ∙ rw (lt-ltb k to a)
 
   -- the places from `to` on are as they were
-  pub spread-past : (to : ℕ) {l : List ℕ} → l ≡ spreadStarts to starts → (k : ℕ) → to ≤ k → k < startPlaces → getD l k 0 ≡ getD starts k 0
+  pub spread-past : (to : ℕ) {l : List ℕ} → l ≡ spreadStarts to starts → (k : ℕ) → to ≤ k → k < startEntries → getD l k 0 ≡ getD starts k 0
   spread-past to e k a h = spread-at to e k h ∙ rw (le-ltb k to a)
 
-  pub spread-starts : length starts ≡ startPlaces → starts ≡ spreadStarts 0 starts
+  pub spread-starts : length starts ≡ startEntries → starts ≡ spreadStarts 0 starts
   unfolding spreadStarts
   spread-starts long =
-      sym (tab-getD startPlaces starts 0 long)
-      ∙ tab-ext startPlaces (λ k. getD starts k 0) (spreadAt 0) (λ k _. rw (le-ltb k 0 zero-le))
+      sym (tab-getD startEntries starts 0 long)
+      ∙ tab-ext startEntries (λ k. getD starts k 0) (spreadAt 0) (λ k _. rw (le-ltb k 0 zero-le))
 
   spread-more : (i k : ℕ) → (k ≡ i) ⊎ (k ≡ i → ⊥) → (k < i) ⊎ (i ≤ k) → cond (eqb k i) (highest starts (suc i)) (spreadAt i k) ≡ spreadAt (i + 1) k
   spread-more i k (inl e) _ = rw (eq-eqb k i e, lt-ltb k (i + 1) (omega arith), e)
@@ -170,17 +172,17 @@ module _ (starts : List ℕ) where
   unfolding spreadStarts
   spread-turns i x e same =
       ap₂ (λ (m : List ℕ) (y : ℕ). set m i y) e same
-      ∙ set-tab startPlaces (spreadAt i) i (highest starts (suc i))
-      ∙ tab-ext startPlaces (λ k. cond (eqb k i) (highest starts (suc i)) (spreadAt i k)) (spreadAt (i + 1)) (λ k _. spread-more i k (eq-or-ne k i) (lt-or-ge k i))
+      ∙ set-tab startEntries (spreadAt i) i (highest starts (suc i))
+      ∙ tab-ext startEntries (λ k. cond (eqb k i) (highest starts (suc i)) (spreadAt i k)) (spreadAt (i + 1)) (λ k _. spread-more i k (eq-or-ne k i) (lt-or-ge k i))
 
 -- ---- places of sums
 
 -- the table has room for them
-pub used-most : (s : Setup) → Limits s → usedPlaces s ≤ startPlaces
+pub used-most : (s : Setup) → Limits s → usedEntries s ≤ startEntries
 used-most s limits = omega (arith, limits .epsilon-most, limits .delta-most)
 
 module _ (s : Setup) (v least : ℕ) where
-  pub place-inside : Limits s → (bytes : List ℕ) → fits s v least bytes ≡ true → dueNear s v (decode (s .epsilon) bytes) + 1 < s .modulus + usedPlaces s
+  pub place-inside : Limits s → (bytes : List ℕ) → fits s v least bytes ≡ true → dueNear s v (decode (s .epsilon) bytes) + 1 < s .modulus + usedEntries s
   unfolding notEarly dueNear due sum
   place-inside limits bytes h =
       let f : Frame = decode (s .epsilon) bytes in
@@ -188,9 +190,9 @@ module _ (s : Setup) (v least : ℕ) where
       omega (arith, early, limits .epsilon-pos)
 
   -- the place of the sum of a frame that is not due before v
-  pub place-at : s .modulus ≤ least → (bytes : List ℕ) → fits s v least bytes ≡ true → s .modulus + sumPlace s v (decode (s .epsilon) bytes) ≡ dueNear s v (decode (s .epsilon) bytes)
-  unfolding sumPlace notOverdue
-  place-at late bytes h = omega (arith, leb-true least _ (fitting s v least bytes h .overdue))
+  pub place-at : s .modulus ≤ least → (bytes : List ℕ) → fits s v least bytes ≡ true → s .modulus + sumWait s v (decode (s .epsilon) bytes) ≡ dueNear s v (decode (s .epsilon) bytes)
+  unfolding sumWait notExpired
+  place-at late bytes h = omega (arith, leb-true least _ (fitting s v least bytes h .expired))
 
   -- due clocks do not fall in a queue in order
   pub sums-rise : (b : List ℕ) (i : ℕ) → ((k : ℕ) → k < i + 1 → frameSound s v least b k ≡ true) → (j : ℕ) → j < i + 1
@@ -212,30 +214,30 @@ module _ (s : Setup) (v least : ℕ) where
 
 module _ (s : Setup) (v : ℕ) (queue : List ℕ) where
   abbrev entryAt : ℕ → ℕ
-  entryAt k = cond (ltb k (usedPlaces s)) (startOf s v queue k) front
+  entryAt k = cond (ltb k (usedEntries s)) (startOf s v queue k) front
 
-  pub starts-long : {l : List ℕ} → l ≡ startsOf s v queue → length l ≡ startPlaces
+  pub starts-long : {l : List ℕ} → l ≡ startsOf s v queue → length l ≡ startEntries
   unfolding startsOf
-  starts-long e = ap length e ∙ length-tab startPlaces entryAt
+  starts-long e = ap length e ∙ length-tab startEntries entryAt
 
-  entry-at : {l : List ℕ} → l ≡ startsOf s v queue → (k : ℕ) → k < startPlaces → getD l k 0 ≡ entryAt k
+  entry-at : {l : List ℕ} → l ≡ startsOf s v queue → (k : ℕ) → k < startEntries → getD l k 0 ≡ entryAt k
   unfolding startsOf
-  entry-at e k h = ap (λ (l : List ℕ). getD l k 0) e ∙ getD-tab startPlaces entryAt k 0 h
+  entry-at e k h = ap (λ (l : List ℕ). getD l k 0) e ∙ getD-tab startEntries entryAt k 0 h
 
-  pub starts-at : Limits s → {l : List ℕ} → l ≡ startsOf s v queue → (k : ℕ) → k < usedPlaces s → getD l k 0 ≡ startOf s v queue k
-  starts-at limits e k h = entry-at e k (omega (arith, used-most s limits)) ∙ rw (lt-ltb k (usedPlaces s) h)
+  pub starts-at : Limits s → {l : List ℕ} → l ≡ startsOf s v queue → (k : ℕ) → k < usedEntries s → getD l k 0 ≡ startOf s v queue k
+  starts-at limits e k h = entry-at e k (omega (arith, used-most s limits)) ∙ rw (lt-ltb k (usedEntries s) h)
 
-  pub starts-past : {l : List ℕ} → l ≡ startsOf s v queue → (k : ℕ) → usedPlaces s ≤ k → k < startPlaces → getD l k 0 ≡ front
-  starts-past e k past h = entry-at e k h ∙ rw (le-ltb k (usedPlaces s) past)
+  pub starts-past : {l : List ℕ} → l ≡ startsOf s v queue → (k : ℕ) → usedEntries s ≤ k → k < startEntries → getD l k 0 ≡ front
+  starts-past e k past h = entry-at e k h ∙ rw (le-ltb k (usedEntries s) past)
 
-  pub starts-by : {l : List ℕ} → length l ≡ startPlaces → ((k : ℕ) → k < usedPlaces s → k < startPlaces → getD l k 0 ≡ startOf s v queue k)
-      → ((k : ℕ) → usedPlaces s ≤ k → k < startPlaces → getD l k 0 ≡ front) → l ≡ startsOf s v queue
+  pub starts-by : {l : List ℕ} → length l ≡ startEntries → ((k : ℕ) → k < usedEntries s → k < startEntries → getD l k 0 ≡ startOf s v queue k)
+      → ((k : ℕ) → usedEntries s ≤ k → k < startEntries → getD l k 0 ≡ front) → l ≡ startsOf s v queue
   unfolding startsOf
-  starts-by {l} long each past = eq-tab l startPlaces entryAt 0 long (λ k h. go k h (lt-or-ge k (usedPlaces s)))
+  starts-by {l} long each past = eq-tab l startEntries entryAt 0 long (λ k h. go k h (lt-or-ge k (usedEntries s)))
     where
-      go : (k : ℕ) → k < startPlaces → (k < usedPlaces s) ⊎ (usedPlaces s ≤ k) → getD l k 0 ≡ entryAt k
-      go k h (inl a) = each k a h ∙ rw (lt-ltb k (usedPlaces s) a)
-      go k h (inr a) = past k a h ∙ rw (le-ltb k (usedPlaces s) a)
+      go : (k : ℕ) → k < startEntries → (k < usedEntries s) ⊎ (usedEntries s ≤ k) → getD l k 0 ≡ entryAt k
+      go k h (inl a) = each k a h ∙ rw (lt-ltb k (usedEntries s) a)
+      go k h (inr a) = past k a h ∙ rw (le-ltb k (usedEntries s) a)
 
   below-most : (k : ℕ) → framesBelow s v queue k ≤ twoAt queue 0
   below-most k = omega (arith, leading-le (λ f. ltb (dueNear s v f) (s .modulus + k)) (held (s .epsilon) queue), length-held (s .epsilon) queue)
@@ -263,8 +265,8 @@ module _ (s : Setup) (v : ℕ) (queue : List ℕ) where
   pub starts-none : held (s .epsilon) queue ≡ [] → allFront ≡ startsOf s v queue
   unfolding startsOf startOf leading
   starts-none none =
-      replicate-tab startPlaces front
-      ∙ tab-ext startPlaces (λ _. front) entryAt (λ k _. rw (none, start-zero (s .epsilon) queue) (sym (cond-same (ltb k (usedPlaces s)) front)))
+      replicate-tab startEntries front
+      ∙ tab-ext startEntries (λ _. front) entryAt (λ k _. rw (none, start-zero (s .epsilon) queue) (sym (cond-same (ltb k (usedEntries s)) front)))
 
 -- ---- how large they are
 
@@ -286,9 +288,9 @@ module _ (s : Setup) (v least : ℕ) (queue : List ℕ) (limits : Limits s) (sou
   pub moving : {step : ℕ} {starts : List ℕ} → starts ≡ startsOf s v queue → step < startLimit → Moving starts step
   unfolding startOf
   moving {step} {starts} e small =
-      record { long = starts-long s v queue e; each = λ k h. go k h (lt-or-ge k (usedPlaces s)); small = small }
+      record { long = starts-long s v queue e; each = λ k h. go k h (lt-or-ge k (usedEntries s)); small = small }
     where
-      go : (k : ℕ) → k < startPlaces → (k < usedPlaces s) ⊎ (usedPlaces s ≤ k) → getD starts k 0 < startLimit
+      go : (k : ℕ) → k < startEntries → (k < usedEntries s) ⊎ (usedEntries s ≤ k) → getD starts k 0 < startLimit
       go k h (inl a) = omega (arith, starts-at s v queue limits e k a, below-small k)
       go k h (inr a) = omega (arith, starts-past s v queue e k a h)
 
@@ -304,23 +306,18 @@ module _ (s : Setup) (v least : ℕ) (queue : List ℕ) (limits : Limits s) (sou
 
   -- a search that starts at an entry, for a frame that is not due before v
   pub start-leads : {count m : ℕ} (k : ℕ) (f : Frame) → 2 ≤ length queue → count ≡ twoAt queue 0 → m ≡ startOf s v queue k → s .modulus + k ≡ dueNear s v f
-      → Led (λ g. before s v g f) s v least queue count (m / startUnit) (m % startUnit)
+      → Seeking (frameEnd (s .epsilon)) (decode (s .epsilon)) (passes s) (λ g. before s v g f) queue 2 count (m / startUnit) (m % startUnit)
   start-leads {count} {m} k f two count-is e own =
       let i : ℕ = framesBelow s v queue k in
-      let frame : ℕ → Frame = frameAt (s .epsilon) queue in
-      let most : i ≤ twoAt queue 0 = below-most s v queue k in
-      let all : every (λ g. ltb (dueNear s v g) (s .modulus + k)) (tab i frame) ≡ true =
-      ap (every (λ g. ltb (dueNear s v g) (s .modulus + k))) (sym (ap (take i) (held-tab (s .epsilon) queue) ∙ take-tab i (twoAt queue 0) frame most)) ∙ every-leading (λ g. ltb (dueNear s v g) (s .modulus + k)) (held (s .epsilon) queue) in
       let index : m / startUnit ≡ i = start-parts k m e .0 in
       let next : m % startUnit ≡ frameStart (s .epsilon) queue i = start-parts k m e .1 in
-      record {
-        sound = sound;
-        two = two;
-        count-is = count-is;
-        starts = next ∙ ap (frameStart (s .epsilon) queue) (sym index);
-        most = omega arith;
-        ahead = λ j h. due-before s v (frame j) f (omega (arith, ltb-true (dueNear s v (frame j)) (s .modulus + k) (every-tab-at (λ g. ltb (dueNear s v g) (s .modulus + k)) i frame all j (omega arith)), own));
-      }
+      let ahead : every (λ g. before s v g f) (take (m / startUnit) (leftBy (frameEnd (s .epsilon)) (decode (s .epsilon)) queue 2 count)) ≡ true =
+      ap₂ (λ (n : ℕ) (l : List Frame). every (λ g. before s v g f) (take n l)) index (stand-held (s .epsilon) queue count-is)
+      ∙ every-mono (λ g. ltb (dueNear s v g) (s .modulus + k)) (λ g. before s v g f) (take i (held (s .epsilon) queue))
+      (λ g h. due-before s v g f (omega (arith, ltb-true (dueNear s v g) (s .modulus + k) h, own)))
+      (every-leading (λ g. ltb (dueNear s v g) (s .modulus + k)) (held (s .epsilon) queue)) in
+      seek-from (decode (s .epsilon)) (λ g. before s v g f) queue count 2 (m / startUnit) (m % startUnit) (sound-stand s v least queue sound two count-is)
+      (omega (arith, below-most s v queue k)) ahead (next ∙ start-by (s .epsilon) queue i ∙ ap (endBy (frameEnd (s .epsilon)) queue 2) (sym index))
 
 -- ---- a frame put at its place
 
@@ -384,19 +381,19 @@ module _ (s : Setup) (v : ℕ) (queue queue′ : List ℕ) (f : Frame) (place si
       ap (leading below) held-is ∙ leading-grows below place f (held (s .epsilon) queue) high (lt-ltb (dueNear s v f) (s .modulus + k) h) in
       rw e (omega (arith, behind i high (below-most s v queue k)))
 
-  own-place : s .modulus + sumPlace s v f ≡ dueNear s v f
-  unfolding sumPlace
+  own-place : s .modulus + sumWait s v f ≡ dueNear s v f
+  unfolding sumWait
   own-place = omega (arith, late)
 
-  pub moved-table : Limits s → {starts l : List ℕ} → starts ≡ startsOf s v queue → l ≡ movedStarts (sumPlace s v f + 1) (usedPlaces s) (startUnit + size) starts → l ≡ startsOf s v queue′
+  pub moved-table : Limits s → {starts l : List ℕ} → starts ≡ startsOf s v queue → l ≡ movedStarts (sumWait s v f + 1) (usedEntries s) (startUnit + size) starts → l ≡ startsOf s v queue′
   moved-table limits {starts} {l} old e =
-      let from : ℕ = sumPlace s v f + 1 in
-      let to : ℕ = usedPlaces s in
+      let from : ℕ = sumWait s v f + 1 in
+      let to : ℕ = usedEntries s in
       let move : ℕ → ℕ = λ m. m + (startUnit + size) in
       starts-by s v queue′ (changed-long move from starts to e)
       (λ k a h. changed-at move from starts to e k h ∙ rw (starts-at s v queue limits old k a, lt-ltb k to a) (go k (lt-or-ge k from)))
       (λ k a h. changed-past move from starts to e k a h ∙ starts-past s v queue old k a h)
     where
-      go : (k : ℕ) → (k < sumPlace s v f + 1) ⊎ (sumPlace s v f + 1 ≤ k) → cond (ltb k (sumPlace s v f + 1)) (startOf s v queue k) (startOf s v queue k + (startUnit + size)) ≡ startOf s v queue′ k
-      go k (inl a) = rw (lt-ltb k (sumPlace s v f + 1) a) (entry-stays k (omega (arith, own-place)))
-      go k (inr a) = rw (le-ltb k (sumPlace s v f + 1) a) (entry-moves k (omega (arith, own-place)))
+      go : (k : ℕ) → (k < sumWait s v f + 1) ⊎ (sumWait s v f + 1 ≤ k) → cond (ltb k (sumWait s v f + 1)) (startOf s v queue k) (startOf s v queue k + (startUnit + size)) ≡ startOf s v queue′ k
+      go k (inl a) = rw (lt-ltb k (sumWait s v f + 1) a) (entry-stays k (omega (arith, own-place)))
+      go k (inr a) = rw (le-ltb k (sumWait s v f + 1) a) (entry-moves k (omega (arith, own-place)))

@@ -15,10 +15,10 @@ use Rattle.model.specs.Setup.{Setup, width}
 use Rattle.model.specs.Timestamp.{sum}
 use Rattle.model.specs.Frame.{Frame, decode}
 use Rattle.model.specs.Question.{firstNo, frameQuestions}
-use Rattle.model.specs.Order.{readingOf, countsDown, keyBy, key, keyNear, compareFrames, before, due, dueNear}
+use Rattle.model.specs.Order.{readingOf, countsDown, keyBy, key, keyNear, compareFrames, before, sumDue, due, dueNear}
 use Rattle.model.specs.Comparison.{compareKeys}
 use Rattle.model.specs.Comparison as model
-use Rattle.model.specs.Holdback.{passes, notEarly, notOverdue}
+use Rattle.model.specs.Holdback.{passes, notEarly, notExpired}
 use Rattle.timestamp.specs.declared.ordering.Comparison.{Comparison}
 use Rattle.timestamp.specs.declared.ordering.Comparison.the-variants.{First, Second, Alike}
 use Rattle.timestamp.specs.declared.ordering.Rank.{Rank}
@@ -30,7 +30,7 @@ use Rattle.timestamp.proofs.Ordered.{Tags}
 use Rattle.lemmas.proofs.RoundTrip.{formed-from, decode-wide}
 use Rattle.holdback.specs.Queue.{rankAt, rankOf, rankBefore}
 use Rattle.holdback.specs.Sound.{fits, timely, Recent, Summed}
-use Rattle.holdback.specs.Starts.{rankPlace, placesTo, sumPlace}
+use Rattle.holdback.specs.Starts.{rankWait, entriesTo, sumWait}
 use Rattle.holdback.proofs.RoundTrip.{passing}
 
 -- ---- 10 to 12 by their number
@@ -53,20 +53,20 @@ summed s v bytes reading c limits ok er ec =
     let h = reading-high s v (decode (s .epsilon) bytes) limits in
     record { is-sum = ap₂ _+_ er ec; small = omega arith }
 
--- early or overdue, by the rank: x is how far the due clock lies past the least, in numbers that wrap
+-- early or expired, by the rank: x is how far its due clock, `own`, lies past the least, in numbers that wrap, and `last` the due clock of the
+-- largest sum allowed
 module _ (s : Setup) (least : ℕ) (rank : Rank) (limits : Limits s) (near : Recent s least) (small : (rank .reading ≤ 2 ^ 17) × (rank .c < s .epsilon)) where
-  pub timely-by : (x : ℕ) → x < 2 ^ 64 → (x + least) % 2 ^ 64 ≡ rank .reading + rank .c + s .delta + s .epsilon
-      → leb x (s .modulus + s .delta + 2 * s .epsilon - 1 - least) ≡ timely s least rank
+  pub timely-by : (x own last : ℕ) → x < 2 ^ 64 → own ≡ sumDue s (rank .reading + rank .c) → last ≡ sumDue s (s .modulus + (s .epsilon - 1)) → (x + least) % 2 ^ 64 ≡ own
+      → leb x (last - least) ≡ timely s least rank
   unfolding timely due sum
-  timely-by x wide e =
+  timely-by x own last wide own-is last-is e =
       let total : ℕ = rank .reading + rank .c in
-      let after : ℕ = total + s .delta + s .epsilon in
       elim (lt-or-ge (s .modulus + (s .epsilon - 1)) total) [
-        | inl early ↦ rw (lt-leb total (s .modulus + (s .epsilon - 1)) early, lt-leb x (s .modulus + s .delta + 2 * s .epsilon - 1 - least) (omega arith))
+        | inl early ↦ rw (lt-leb total (s .modulus + (s .epsilon - 1)) early, lt-leb x (last - least) (omega arith))
         | inr inside ↦
-            elim (lt-or-ge after least) [
-              | inl overdue ↦ rw (le-leb total (s .modulus + (s .epsilon - 1)) inside, lt-leb least after overdue, lt-leb x (s .modulus + s .delta + 2 * s .epsilon - 1 - least) (omega arith))
-              | inr later ↦ rw (le-leb total (s .modulus + (s .epsilon - 1)) inside, le-leb least after later, le-leb x (s .modulus + s .delta + 2 * s .epsilon - 1 - least) (omega arith))
+            elim (lt-or-ge (sumDue s total) least) [
+              | inl expired ↦ rw (le-leb total (s .modulus + (s .epsilon - 1)) inside, lt-leb least (sumDue s total) expired, lt-leb x (last - least) (omega arith))
+              | inr later ↦ rw (le-leb total (s .modulus + (s .epsilon - 1)) inside, le-leb least (sumDue s total) later, le-leb x (last - least) (omega arith))
             ]
       ]
 
@@ -76,26 +76,26 @@ fits-passes s v least bytes h = and-left (passes s bytes) _ h
 
 -- a frame that passes 10 to 12 fits if its rank is timely
 pub fits-by : (s : Setup) (v least : ℕ) (bytes : List ℕ) (rank : Rank) → passes s bytes ≡ true → rank ≡ rankOf s v (decode (s .epsilon) bytes) → timely s least rank ≡ fits s v least bytes
-unfolding fits timely notEarly notOverdue dueNear
+unfolding fits timely notEarly notExpired dueNear
 fits-by s v least bytes rank ok e = ap (timely s least) e ∙ rw ok
 
-pub due-summed : (s : Setup) (v : ℕ) (f : Frame) (r : ℕ) → Summed s v f r → r + s .delta + s .epsilon ≡ dueNear s v f
+pub due-summed : (s : Setup) (v : ℕ) (f : Frame) (r : ℕ) → Summed s v f r → sumDue s r ≡ dueNear s v f
 unfolding dueNear due sum
-due-summed s v f r total = rw (total .is-sum)
+due-summed s v f r total = ap (sumDue s) (total .is-sum)
 
 -- the place of a sum
-pub rank-past : (s : Setup) (least : ℕ) (rank : Rank) → timely s least rank ≡ true → least ≤ rank .reading + rank .c + s .delta + s .epsilon
+pub rank-past : (s : Setup) (least : ℕ) (rank : Rank) → timely s least rank ≡ true → least ≤ sumDue s (rank .reading + rank .c)
 unfolding timely due sum
 rank-past s least rank h = leb-true _ _ (and-right (leb (rank .reading + rank .c) (s .modulus + (s .epsilon - 1))) _ h)
 
-pub rank-placed : (s : Setup) (v : ℕ) (f : Frame) (rank : Rank) → rank ≡ rankOf s v f → rankPlace s rank ≡ sumPlace s v f
-unfolding rankPlace sumPlace dueNear
-rank-placed s v f rank e = ap (rankPlace s) e
+pub rank-placed : (s : Setup) (v : ℕ) (f : Frame) (rank : Rank) → rank ≡ rankOf s v f → rankWait s rank ≡ sumWait s v f
+unfolding rankWait sumWait dueNear
+rank-placed s v f rank e = ap (rankWait s) e
 
 -- the places up to it
-pub places-placed : (s : Setup) (v : ℕ) (f : Frame) {total : ℕ} → total ≡ readingOf s v f + f .stamp .c → placesTo s total ≡ dueNear s v f + 1 - s .modulus
-unfolding placesTo dueNear due sum
-places-placed s v f e = ap (placesTo s) e
+pub places-placed : (s : Setup) (v : ℕ) (f : Frame) {total : ℕ} → total ≡ readingOf s v f + f .stamp .c → entriesTo s total ≡ dueNear s v f + 1 - s .modulus
+unfolding entriesTo dueNear due sum
+places-placed s v f e = ap (entriesTo s) e
 
 -- ---- the order of two
 

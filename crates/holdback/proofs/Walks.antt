@@ -34,9 +34,10 @@ use Rattle.holdback.specs.Queue.{frameStart, bytesAt, frameAt, rankOf}
 use Rattle.holdback.specs.Keys.{keyAt, keyOf, noKey, keyLess, Roomy}
 use Rattle.holdback.specs.Sound.{fits, follows, isNew, frameSound, timely, unsound, judgedAt, lastKey, Recent, Walking, Starting, emptied, Walked}
 use Rattle.holdback.specs.Seen.{Placeable, Within, rankSlot, slotOf, hasMark, withMark, isMarked, marked, seenTable, tableLength, wordLength}
-use Rattle.holdback.specs.Starts.{startUnit, startPlaces, usedPlaces, front, allFront, placesTo, startsOf, highest, spreadStarts}
+use Rattle.holdback.specs.Starts.{startUnit, startEntries, usedEntries, front, allFront, entriesTo, startsOf, highest, spreadStarts}
 use Rattle.holdback.proofs.RoundTrip.{Bytes, passing}
-use Rattle.holdback.proofs.Frames.{start-zero, start-suc, start-inside, start-most, counts-at, counts-bytes, bytes-drop, held-tab, FormedUpTo, lent, lent-is, lent-frame, next-start, bytes-part}
+use Rattle.lemmas.proofs.FrameWalk.{lent, lent-is}
+use Rattle.holdback.proofs.Frames.{start-zero, start-suc, start-inside, start-most, counts-at, counts-bytes, bytes-drop, held-tab, FormedUpTo, lent-frame, next-start, bytes-part}
 use Rattle.holdback.proofs.Judging.{fitting, frame-fits, frame-follows, frame-new, sound-by, sound-few, sound-frames, sound-formed}
 use Rattle.holdback.proofs.Started.{used-most, highest-before, highest-set, highest-front, spread-long, spread-below, spread-past, place-inside, sums-rise, starts-by, starts-none, start-at, spans-small}
 use Rattle.holdback.proofs.Seen.{fitting-placeable, within, rank-below, rank-slot, seen-at, seen-more, length-seen}
@@ -159,7 +160,7 @@ module _ {s : Setup} {v least : ℕ} {b table : List ℕ} {i : ℕ} {last : Key}
       unfolding frameAt
       timely-is = fits-by s v least (bytesAt (s .epsilon) b i) rank passed own-rank
 
-      -- it is early or overdue
+      -- it is early or expired
       pub judged-untimely : (t : Bool) → t ≡ timely s least rank → not t ≡ true → unsound ≡ judgedAt s v least b i
       judged-untimely t e n = judged-unfit (sym (e ∙ timely-is) ∙ false-of-not t n)
 
@@ -253,15 +254,15 @@ pub record Ended (s : Setup) (v : ℕ) (b : List ℕ) (i k entry : ℕ) : Type 0
 
 -- the table of starts at frame i: the largest entry up to a place is that of the frames so far
 pub record Ending (s : Setup) (v : ℕ) (b : List ℕ) (i : ℕ) (starts : List ℕ) : Type 0 where
-  pub long : length starts ≡ startPlaces
-  pub past : (k : ℕ) → usedPlaces s ≤ k → k < startPlaces → getD starts k 0 ≡ front
-  pub each : (k : ℕ) → k < usedPlaces s → Ended s v b i k (highest starts (suc k))
+  pub long : length starts ≡ startEntries
+  pub past : (k : ℕ) → usedEntries s ≤ k → k < startEntries → getD starts k 0 ≡ front
+  pub each : (k : ℕ) → k < usedEntries s → Ended s v b i k (highest starts (suc k))
 
 pub ending-starts : {s : Setup} {v : ℕ} {b starts : List ℕ} → Limits s → starts ≡ allFront → Ending s v b 0 starts
 ending-starts {s} {v} {b} {starts} limits e =
     record {
-      long = ap length e ∙ length-replicate startPlaces front;
-      past = λ k _ h. ap (λ (l : List ℕ). getD l k 0) e ∙ getD-replicate startPlaces k front 0 h;
+      long = ap length e ∙ length-replicate startEntries front;
+      past = λ k _ h. ap (λ (l : List ℕ). getD l k 0) e ∙ getD-replicate startEntries k front 0 h;
       each = λ k h.
           record {
             number = 0;
@@ -378,7 +379,7 @@ module _ {s : Setup} {v least : ℕ} {b table : List ℕ} {i : ℕ} {last : Key}
       let small = rank-fits s v least (bytesAt (s .epsilon) b i) rank limits (frame-fits s v least b i (right .sound)) refl in
       omega (arith, right-sum, small .0, small .1 .0, limits .epsilon-most)
 
-  pub judged-place : Limits s → placesTo s (key .sum) < usedPlaces s
+  pub judged-place : Limits s → entriesTo s (key .sum) < usedEntries s
   unfolding frameAt
   judged-place limits =
       omega (arith, places-placed s v (frameAt (s .epsilon) b i) right-sum, place-inside s v least limits (bytesAt (s .epsilon) b i) (frame-fits s v least b i (right .sound)))
@@ -394,18 +395,18 @@ module _ {s : Setup} {v least : ℕ} {b table : List ℕ} {i : ℕ} {last : Key}
       omega (arith, old .entry-is, old .most, spans-small s b m limits (omega (arith, old .most)) (λ j h. formed-so-far walk j (omega (arith, old .most))) .1)
 
   pub ending-turns : Limits s → i < depth (s .n) (s .epsilon) (s .delta) → {k : ℕ} {starts l : List ℕ} → Ending s v b i starts
-      → k ≡ placesTo s (key .sum) → l ≡ set starts k ((i + 1) * startUnit + next) → Ending s v b (i + 1) l
+      → k ≡ entriesTo s (key .sum) → l ≡ set starts k ((i + 1) * startUnit + next) → Ending s v b (i + 1) l
   ending-turns limits few {k} {starts} {l} old e h =
       let x : ℕ = (i + 1) * startUnit + next in
       let own : k ≡ dueNear s v (frameAt (s .epsilon) b i) + 1 - s .modulus = e ∙ places-placed s v (frameAt (s .epsilon) b i) right-sum in
-      let inside : k < usedPlaces s = omega (arith, e, judged-place limits) in
+      let inside : k < usedEntries s = omega (arith, e, judged-place limits) in
       record {
         long = ap length h ∙ length-set starts k x ∙ old .long;
         past = λ j a g. ap (λ (m : List ℕ). getD m j 0) h ∙ getD-set-other starts k j x 0 (λ q. omega arith) ∙ old .past j a g;
         each = λ j a. go j own inside (old .each j a) (lt-or-ge j k);
       }
     where
-      go : (j : ℕ) → k ≡ dueNear s v (frameAt (s .epsilon) b i) + 1 - s .modulus → k < usedPlaces s → Ended s v b i j (highest starts (suc j)) → (j < k) ⊎ (k ≤ j) → Ended s v b (i + 1) j (highest l (suc j))
+      go : (j : ℕ) → k ≡ dueNear s v (frameAt (s .epsilon) b i) + 1 - s .modulus → k < usedEntries s → Ended s v b i j (highest starts (suc j)) → (j < k) ⊎ (k ≤ j) → Ended s v b (i + 1) j (highest l (suc j))
       go j own inside o (inl a) =
           record {
             number = o .number;
@@ -431,15 +432,15 @@ module _ {s : Setup} {v least : ℕ} {b table : List ℕ} {i : ℕ} {last : Key}
 
 -- in the end it is spread
 pub ending-ends : {s : Setup} {v : ℕ} {b : List ℕ} {i count to : ℕ} {starts l : List ℕ} → Ending s v b i starts
-    → count ≡ twoAt b 0 → i ≤ count → count ≤ i → to ≡ usedPlaces s → l ≡ spreadStarts to starts → l ≡ startsOf s v b
+    → count ≡ twoAt b 0 → i ≤ count → count ≤ i → to ≡ usedEntries s → l ≡ spreadStarts to starts → l ≡ startsOf s v b
 ending-ends {s} {v} {b} {i} {count} {to} {starts} {l} old count-is le ge used h =
-    let spread : l ≡ spreadStarts (usedPlaces s) starts = h ∙ ap (λ (n : ℕ). spreadStarts n starts) used in
-    starts-by s v b (spread-long starts (usedPlaces s) spread)
+    let spread : l ≡ spreadStarts (usedEntries s) starts = h ∙ ap (λ (n : ℕ). spreadStarts n starts) used in
+    starts-by s v b (spread-long starts (usedEntries s) spread)
     (λ k a g.
     let o = old .each k a in
-    spread-below starts (usedPlaces s) spread k a g ∙ o .entry-is
+    spread-below starts (usedEntries s) spread k a g ∙ o .entry-is
     ∙ start-at s v b {i = o .number} {at = frameStart (s .epsilon) b (o .number)} k refl (omega (arith, o .most, count-is)) (o .smaller) (λ q. o .larger (omega (arith, count-is))))
-    (λ k a g. spread-past starts (usedPlaces s) spread k a g ∙ old .past k a g)
+    (λ k a g. spread-past starts (usedEntries s) spread k a g ∙ old .past k a g)
 
 pub walked-no : {s : Setup} {v least : ℕ} {b table starts : List ℕ} {walk : Walk} → walk ≡ emptied → soundHoldback s v least b ≡ false → table ≡ seenTable s v [] → starts ≡ allFront
     → Walked s v least b (walk .sound) (walk .count) (walk .end) table starts

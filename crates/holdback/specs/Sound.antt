@@ -11,7 +11,7 @@ use Rattle.model.specs.Setup.{Setup, depth}
 use Rattle.model.specs.Timestamp.{sum}
 use Rattle.model.specs.Frame.{Frame, twoAt, decode}
 use Rattle.model.specs.Order.{readingOf, before, due}
-use Rattle.model.specs.Holdback.{passes, notEarly, notOverdue, sameOrigin, soundHoldback}
+use Rattle.model.specs.Holdback.{passes, notEarly, notExpired, sameOrigin, soundHoldback}
 use Rattle.model.specs.Tick.{openingQueue, holdbackSize}
 use Rattle.timestamp.specs.declared.ordering.Rank.{Rank}
 use Rattle.holdback.specs.declared.keys.Key.{Key}
@@ -22,10 +22,10 @@ use Rattle.holdback.specs.Keys.{keyOf, noKey}
 use Rattle.holdback.specs.Seen.{seenTable}
 use Rattle.holdback.specs.Starts.{startsOf, allFront}
 
--- of a frame alone: it passes 10 to 12, is not early, and not overdue by the least due clock that is allowed
+-- of a frame alone: it passes 10 to 12, is not early, and not expired by the least due clock that is allowed
 unfoldable pub fits : Setup → ℕ → ℕ → List ℕ → Bool
 fits s v least bytes =
-    passes s bytes && (notEarly s v (decode (s .epsilon) bytes) && notOverdue s v least (decode (s .epsilon) bytes))
+    passes s bytes && (notEarly s v (decode (s .epsilon) bytes) && notExpired s v least (decode (s .epsilon) bytes))
 
 -- "strictly in order": frame k of a queue comes after the one before it
 unfoldable pub follows : Setup → ℕ → List ℕ → ℕ → Bool

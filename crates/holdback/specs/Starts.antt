@@ -9,7 +9,7 @@ use lib.ListN.{length, getD, replicate}
 use Rattle.laws.specs.Lists.{tab, leading}
 use Rattle.model.specs.Setup.{Setup}
 use Rattle.model.specs.Frame.{Frame}
-use Rattle.model.specs.Order.{due, dueNear}
+use Rattle.model.specs.Order.{sumDue, due, dueNear}
 use Rattle.model.specs.Holdback.{held}
 use Rattle.timestamp.specs.declared.ordering.Rank.{Rank}
 use Rattle.holdback.specs.Queue.{frameStart}
@@ -23,12 +23,12 @@ abbrev pub startLimit : ℕ
 startLimit = 2147483648
 
 -- places in the table of starts
-abbrev pub startPlaces : ℕ
-startPlaces = 97
+abbrev pub startEntries : ℕ
+startEntries = 97
 
 -- those that a setup uses: a place for each sum of the frames that are not due before v, which are δ + 2ε at most, and one for the end
-abbrev pub usedPlaces : Setup → ℕ
-usedPlaces s = s .delta + 2 * s .epsilon + 1
+abbrev pub usedEntries : Setup → ℕ
+usedEntries s = s .delta + 2 * s .epsilon + 1
 
 -- the entry for the front: no frames, and the first one starts behind the count
 abbrev pub front : ℕ
@@ -36,19 +36,19 @@ front = 2
 
 -- the table of starts of an empty queue
 abbrev pub allFront : List ℕ
-allFront = replicate startPlaces front
+allFront = replicate startEntries front
 
--- the place for a sum: how far its due clock, sum + δ + ε, lies past v, which reads B
-unfoldable pub rankPlace : Setup → Rank → ℕ
-rankPlace s rank = due s (rank .reading) (rank .c) - s .modulus
+-- the place for a sum: how far its due clock lies past v, which reads B
+unfoldable pub rankWait : Setup → Rank → ℕ
+rankWait s rank = due s (rank .reading) (rank .c) - s .modulus
 
 -- the places up to that of a sum: none where it is due before v
-unfoldable pub placesTo : Setup → ℕ → ℕ
-placesTo s total = total + s .delta + s .epsilon + 1 - s .modulus
+unfoldable pub entriesTo : Setup → ℕ → ℕ
+entriesTo s total = sumDue s total + 1 - s .modulus
 
 -- the place for the sum of a frame
-unfoldable pub sumPlace : Setup → ℕ → Frame → ℕ
-sumPlace s v f = dueNear s v f - s .modulus
+unfoldable pub sumWait : Setup → ℕ → Frame → ℕ
+sumWait s v f = dueNear s v f - s .modulus
 
 -- how many frames stand at the front of a queue that are due before v, or whose sums have places below k
 abbrev pub framesBelow : Setup → ℕ → List ℕ → ℕ → ℕ
@@ -61,12 +61,12 @@ startOf s v queue k =
 
 -- the table of starts of a queue; the places that are not used have the front
 unfoldable pub startsOf : Setup → ℕ → List ℕ → List ℕ
-startsOf s v queue = tab startPlaces (λ k. cond (ltb k (usedPlaces s)) (startOf s v queue k) front)
+startsOf s v queue = tab startEntries (λ k. cond (ltb k (usedEntries s)) (startOf s v queue k) front)
 
 -- the table with the places from one up to, not including, another changed
 unfoldable pub changed : (ℕ → ℕ) → ℕ → ℕ → List ℕ → List ℕ
 changed f from to starts =
-    tab startPlaces (λ k. cond (ltb k from) (getD starts k 0) (cond (ltb k to) (f (getD starts k 0)) (getD starts k 0)))
+    tab startEntries (λ k. cond (ltb k from) (getD starts k 0) (cond (ltb k to) (f (getD starts k 0)) (getD starts k 0)))
 
 -- one entry in all of them
 abbrev pub filled : ℕ → ℕ → ℕ → List ℕ → List ℕ
@@ -87,10 +87,10 @@ highest starts (suc k) = max (highest starts k) (getD starts k 0)
 
 -- the table with each place below one raised to the largest entry up to it
 unfoldable pub spreadStarts : ℕ → List ℕ → List ℕ
-spreadStarts to starts = tab startPlaces (λ k. cond (ltb k to) (highest starts (suc k)) (getD starts k 0))
+spreadStarts to starts = tab startEntries (λ k. cond (ltb k to) (highest starts (suc k)) (getD starts k 0))
 
 -- numbers with which entries are moved
 pub record Moving (starts : List ℕ) (step : ℕ) : Type 0 where
-  pub long : length starts ≡ startPlaces
-  pub each : (k : ℕ) → k < startPlaces → getD starts k 0 < startLimit
+  pub long : length starts ≡ startEntries
+  pub each : (k : ℕ) → k < startEntries → getD starts k 0 < startLimit
   pub small : step < startLimit

@@ -26,12 +26,12 @@ pub fn rank_at(reading: usize, frame: &[u8]) -> Rank
 }
 
 // The same, with r read near v here.
-pub fn rank_of(s: Setup, v: usize, frame: &[u8]) -> Rank
-    requires { ⌜ (inLimits (setupOf s) ≡ true) × (v < s .modulus) ⌝ }
-    requires { ⌜ decode (s .epsilon) (now frame) .stamp .r < s .modulus ⌝ }
-    ensures { λ r. ⌜ r ≡ rankOf (setupOf s) v (decode (s .epsilon) (now (frame .entry))) ⌝ }
+pub fn rank_of(setup: Setup, clock: usize, frame: &[u8]) -> Rank
+    requires { ⌜ (inLimits (setupOf setup) ≡ true) × (clock < setup .modulus) ⌝ }
+    requires { ⌜ decode (setup .epsilon) (now frame) .stamp .r < setup .modulus ⌝ }
+    ensures { λ r. ⌜ r ≡ rankOf (setupOf setup) clock (decode (setup .epsilon) (now (frame .entry))) ⌝ }
 {
-    rank_at(reading_of(s, v, frame), frame)
+    rank_at(reading_of(setup, clock, frame), frame)
 }
 
 // The first of two frames comes before the second, by their ranks and counts.
@@ -49,13 +49,13 @@ pub fn comes_before(epsilon: usize, f: Rank, kf: &[u8], g: Rank, kg: &[u8]) -> b
 
 // The same, of a frame by its bytes and another by its rank and bytes. The search for a place asks this alone: 01's comparison decides, by the
 // sums and then by its loop over the ε counts.
-pub fn frame_before(s: Setup, v: usize, f: &[u8], g: Rank, sg: &[u8]) -> bool
-    requires { ⌜ (inLimits (setupOf s) ≡ true) × (v < s .modulus) ⌝ }
-    requires { ⌜ (passes (setupOf s) (now f) ≡ true) × Ranked (s .epsilon) g (countsOf (s .epsilon) (now sg)) ⌝ }
-    ensures { λ b. ⌜ b ≡ rankBefore (s .epsilon) (rankOf (setupOf s) v (decode (s .epsilon) (now (f .entry)))) (decode (s .epsilon) (now (f .entry)) .stamp .kn) g (countsOf (s .epsilon) (now (sg .entry))) ⌝ }
+pub fn frame_before(setup: Setup, clock: usize, f: &[u8], g: Rank, sg: &[u8]) -> bool
+    requires { ⌜ (inLimits (setupOf setup) ≡ true) × (clock < setup .modulus) ⌝ }
+    requires { ⌜ (passes (setupOf setup) (now f) ≡ true) × Ranked (setup .epsilon) g (countsOf (setup .epsilon) (now sg)) ⌝ }
+    ensures { λ b. ⌜ b ≡ rankBefore (setup .epsilon) (rankOf (setupOf setup) clock (decode (setup .epsilon) (now (f .entry)))) (decode (setup .epsilon) (now (f .entry)) .stamp .kn) g (countsOf (setup .epsilon) (now (sg .entry))) ⌝ }
 {
-    let epsilon = s.epsilon as usize;
-    let rank = rank_of(s, v, f);
+    let epsilon = setup.epsilon as usize;
+    let rank = rank_of(setup, clock, f);
     let kf = frame::counts_part(epsilon, f);
     let kg = frame::counts_part(epsilon, sg);
     comes_before(epsilon, rank, kf, g, kg)

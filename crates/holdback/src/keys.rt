@@ -50,19 +50,19 @@ fn older_counts(epsilon: usize, c: usize, frame: &[u8]) -> u64
 }
 
 // The key of the frame at the front of some bytes, by its rank.
-pub fn key_of(s: Setup, rank: Rank, w: &[u8]) -> Key
-    requires { ⌜ (inLimits (setupOf s) ≡ true) × Within (setupOf s) rank ⌝ }
-    requires { ⌜ (rank .c < s .epsilon) × (payloadCountAt (s .epsilon) ≤ length (now w)) ⌝ }
-    ensures { λ r. ⌜ r ≡ keyAt (setupOf s) rank (countsOf (s .epsilon) (now (w .entry))) ⌝ }
+pub fn key_of(setup: Setup, rank: Rank, w: &[u8]) -> Key
+    requires { ⌜ (inLimits (setupOf setup) ≡ true) × Within (setupOf setup) rank ⌝ }
+    requires { ⌜ (rank .c < setup .epsilon) × (payloadCountAt (setup .epsilon) ≤ length (now w)) ⌝ }
+    ensures { λ r. ⌜ r ≡ keyAt (setupOf setup) rank (countsOf (setup .epsilon) (now (w .entry))) ⌝ }
 {
-    let epsilon = s.epsilon as usize;
+    let epsilon = setup.epsilon as usize;
     let newest = frame::newest_counts(epsilon, rank.c, 0, w);
     let older = older_counts(epsilon, rank.c, w);
     Key {
         sum: rank.reading + rank.c,
         newest,
         older,
-        slot: slot(s, rank),
+        slot: slot(setup, rank),
     }
 }
 

@@ -22,12 +22,12 @@ const WORD_LENGTH: usize = 64;
 pub const TABLE_LENGTH: usize = 32;
 
 // The place of a station and a reading.
-pub fn slot(s: Setup, rank: Rank) -> usize
-    requires { ⌜ (inLimits (setupOf s) ≡ true) × Within (setupOf s) rank ⌝ }
-    ensures { λ r. ⌜ (r ≡ rankSlot (setupOf s) rank) × (r < tableLength * wordLength) ⌝ }
+pub fn slot(setup: Setup, rank: Rank) -> usize
+    requires { ⌜ (inLimits (setupOf setup) ≡ true) × Within (setupOf setup) rank ⌝ }
+    ensures { λ r. ⌜ (r ≡ rankSlot (setupOf setup) rank) × (r < tableLength * wordLength) ⌝ }
 {
-    let back = s.delta as usize + 3 * (s.epsilon as usize);
-    rank.station * ROW_LENGTH + (rank.reading + back - s.modulus as usize)
+    let back = setup.delta as usize + 3 * (setup.epsilon as usize);
+    rank.station * ROW_LENGTH + (rank.reading + back - setup.modulus as usize)
 }
 
 // A place is marked.
@@ -47,30 +47,30 @@ pub fn put_mark(i: usize, seen: &mut [u64])
 }
 
 // The place of a rank is marked.
-fn is_marked(s: Setup, rank: Rank, seen: &[u64]) -> bool
-    requires { ⌜ (inLimits (setupOf s) ≡ true) × Within (setupOf s) rank ⌝ }
+fn is_marked(setup: Setup, rank: Rank, seen: &[u64]) -> bool
+    requires { ⌜ (inLimits (setupOf setup) ≡ true) × Within (setupOf setup) rank ⌝ }
     requires { ⌜ length (now seen) ≡ tableLength ⌝ }
-    ensures { λ b. ⌜ b ≡ hasMark (now (seen .entry)) (rankSlot (setupOf s) rank) ⌝ }
+    ensures { λ b. ⌜ b ≡ hasMark (now (seen .entry)) (rankSlot (setupOf setup) rank) ⌝ }
 {
-    has_mark(slot(s, rank), seen)
+    has_mark(slot(setup, rank), seen)
 }
 
 // Marks it, which was not.
-fn set_mark(s: Setup, rank: Rank, seen: &mut [u64])
-    requires { ⌜ (inLimits (setupOf s) ≡ true) × Within (setupOf s) rank ⌝ }
-    requires { ⌜ (length (now seen) ≡ tableLength) × (hasMark (now seen) (rankSlot (setupOf s) rank) ≡ false) ⌝ }
-    ensures { λ _. ⌜ now (seen .exit) ≡ withMark (now (seen .entry)) (rankSlot (setupOf s) rank) ⌝ }
+fn set_mark(setup: Setup, rank: Rank, seen: &mut [u64])
+    requires { ⌜ (inLimits (setupOf setup) ≡ true) × Within (setupOf setup) rank ⌝ }
+    requires { ⌜ (length (now seen) ≡ tableLength) × (hasMark (now seen) (rankSlot (setupOf setup) rank) ≡ false) ⌝ }
+    ensures { λ _. ⌜ now (seen .exit) ≡ withMark (now (seen .entry)) (rankSlot (setupOf setup) rank) ⌝ }
 {
-    put_mark(slot(s, rank), seen);
+    put_mark(slot(setup, rank), seen);
 }
 
 // Takes its mark away, which was there.
-pub fn clear_mark(s: Setup, rank: Rank, seen: &mut [u64])
-    requires { ⌜ (inLimits (setupOf s) ≡ true) × Within (setupOf s) rank ⌝ }
-    requires { ⌜ (length (now seen) ≡ tableLength) × (hasMark (now seen) (rankSlot (setupOf s) rank) ≡ true) ⌝ }
-    ensures { λ _. ⌜ now (seen .exit) ≡ withoutMark (now (seen .entry)) (rankSlot (setupOf s) rank) ⌝ }
+pub fn clear_mark(setup: Setup, rank: Rank, seen: &mut [u64])
+    requires { ⌜ (inLimits (setupOf setup) ≡ true) × Within (setupOf setup) rank ⌝ }
+    requires { ⌜ (length (now seen) ≡ tableLength) × (hasMark (now seen) (rankSlot (setupOf setup) rank) ≡ true) ⌝ }
+    ensures { λ _. ⌜ now (seen .exit) ≡ withoutMark (now (seen .entry)) (rankSlot (setupOf setup) rank) ⌝ }
 {
-    let i = slot(s, rank);
+    let i = slot(setup, rank);
     seen[i / WORD_LENGTH] -= 1u64 << (i % WORD_LENGTH);
 }
 
@@ -87,22 +87,22 @@ pub fn clear_marks(seen: &mut [u64])
 }
 
 // The place of a frame, with its r at that reading, is marked. 01, 16: "that station and r" are shelved already.
-pub fn repeats(s: Setup, v: usize, frame: &[u8], reading: usize, seen: &[u64]) -> bool
-    requires { ⌜ (inLimits (setupOf s) ≡ true) × (v < s .modulus) ⌝ }
-    requires { ⌜ Placeable (setupOf s) v (decode (s .epsilon) (now frame)) ⌝ }
-    requires { ⌜ (length (now seen) ≡ tableLength) × (reading ≡ readingOf (setupOf s) v (decode (s .epsilon) (now frame))) ⌝ }
-    ensures { λ b. ⌜ b ≡ isMarked (setupOf s) v (decode (s .epsilon) (now (frame .entry))) (now (seen .entry)) ⌝ }
+pub fn repeats(setup: Setup, clock: usize, frame: &[u8], reading: usize, seen: &[u64]) -> bool
+    requires { ⌜ (inLimits (setupOf setup) ≡ true) × (clock < setup .modulus) ⌝ }
+    requires { ⌜ Placeable (setupOf setup) clock (decode (setup .epsilon) (now frame)) ⌝ }
+    requires { ⌜ (length (now seen) ≡ tableLength) × (reading ≡ readingOf (setupOf setup) clock (decode (setup .epsilon) (now frame))) ⌝ }
+    ensures { λ b. ⌜ b ≡ isMarked (setupOf setup) clock (decode (setup .epsilon) (now (frame .entry))) (now (seen .entry)) ⌝ }
 {
-    is_marked(s, rank_at(reading, frame), seen)
+    is_marked(setup, rank_at(reading, frame), seen)
 }
 
 // Marks the place of a frame, with its r at that reading; it was not marked.
-pub fn mark(s: Setup, v: usize, frame: &[u8], reading: usize, seen: &mut [u64])
-    requires { ⌜ (inLimits (setupOf s) ≡ true) × (v < s .modulus) ⌝ }
-    requires { ⌜ Placeable (setupOf s) v (decode (s .epsilon) (now frame)) ⌝ }
-    requires { ⌜ (length (now seen) ≡ tableLength) × (reading ≡ readingOf (setupOf s) v (decode (s .epsilon) (now frame))) ⌝ }
-    requires { ⌜ isMarked (setupOf s) v (decode (s .epsilon) (now frame)) (now seen) ≡ false ⌝ }
-    ensures { λ _. ⌜ now (seen .exit) ≡ marked (setupOf s) v (decode (s .epsilon) (now (frame .entry))) (now (seen .entry)) ⌝ }
+pub fn mark(setup: Setup, clock: usize, frame: &[u8], reading: usize, seen: &mut [u64])
+    requires { ⌜ (inLimits (setupOf setup) ≡ true) × (clock < setup .modulus) ⌝ }
+    requires { ⌜ Placeable (setupOf setup) clock (decode (setup .epsilon) (now frame)) ⌝ }
+    requires { ⌜ (length (now seen) ≡ tableLength) × (reading ≡ readingOf (setupOf setup) clock (decode (setup .epsilon) (now frame))) ⌝ }
+    requires { ⌜ isMarked (setupOf setup) clock (decode (setup .epsilon) (now frame)) (now seen) ≡ false ⌝ }
+    ensures { λ _. ⌜ now (seen .exit) ≡ marked (setupOf setup) clock (decode (setup .epsilon) (now (frame .entry))) (now (seen .entry)) ⌝ }
 {
-    set_mark(s, rank_at(reading, frame), seen);
+    set_mark(setup, rank_at(reading, frame), seen);
 }

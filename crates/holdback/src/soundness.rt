@@ -8,16 +8,16 @@ use crate::origins::clear_marks;
 use crate::origins::has_mark;
 use crate::origins::put_mark;
 use crate::starts::FRONT;
-use crate::starts::START_PLACES;
+use crate::starts::START_ENTRIES;
 use crate::starts::START_UNIT;
 use crate::starts::fill;
 use crate::starts::spread;
-use crate::timing::places_to;
+use crate::timing::entries_to;
 use crate::timing::timely;
-use crate::timing::used_places;
+use crate::timing::used_entries;
 use setup::Setup;
 use setup::depth;
-use timestamp::limits_of;
+use timestamp::ceilings_of;
 ghost use mathlib.Core.Path.{_≡_};
 ghost use mathlib.Core.Bool.{true};
 ghost use Prim.Native.Nat.{_≤_, _<_};
@@ -25,7 +25,7 @@ ghost use lib.ListN.{length, replicate};
 ghost use Rattle.model.specs.Setup.{inLimits, depth};
 ghost use Rattle.model.specs.Tick.{holdbackSize};
 ghost use Rattle.setup.specs.Views.{setupOf};
-ghost use Rattle.timestamp.specs.Window.{limitsOf};
+ghost use Rattle.timestamp.specs.Window.{ceilingsOf};
 ghost use Rattle.holdback.specs.Seen.{tableLength};
 ghost use Rattle.holdback.specs.Starts.{allFront};
 ghost use Rattle.holdback.specs.Sound.{emptied, unsound, judgedAt, Recent, Walking, Starting, Walked};
@@ -65,30 +65,30 @@ fn unsound() -> Judged
 // Judges frame i, which starts at `at`; the one before it has the key `last`. Once it passes 10 to 12, its rank is read, once for the tests
 // behind that. The buffer has room for it, as it has for each frame of a queue.
 fn judge_at(
-    s: Setup,
-    v: usize,
+    setup: Setup,
+    clock: usize,
     least: usize,
-    limits: &[u8],
+    ceilings: &[u8],
     buf: &[u8],
     seen: &[u64],
     i: usize,
     last: Key,
     at: usize,
 ) -> Judged
-    requires { ⌜ (inLimits (setupOf s) ≡ true) × ((v < s .modulus) × (now limits ≡ limitsOf (s .n) (s .epsilon))) ⌝ }
-    requires { ⌜ Recent (setupOf s) least × (i < depth (s .n) (s .epsilon) (s .delta)) ⌝ }
-    requires { ⌜ Walking (setupOf s) v least (now buf) (now seen) i last at ⌝ }
-    ensures { λ r. ⌜ r ≡ judgedAt (setupOf s) v least (now (buf .entry)) i ⌝ }
+    requires { ⌜ (inLimits (setupOf setup) ≡ true) × ((clock < setup .modulus) × (now ceilings ≡ ceilingsOf (setup .n) (setup .epsilon))) ⌝ }
+    requires { ⌜ Recent (setupOf setup) least × (i < depth (setup .n) (setup .epsilon) (setup .delta)) ⌝ }
+    requires { ⌜ Walking (setupOf setup) clock least (now buf) (now seen) i last at ⌝ }
+    ensures { λ r. ⌜ r ≡ judgedAt (setupOf setup) clock least (now (buf .entry)) i ⌝ }
 {
-    let next = at + frame::window_end(s.epsilon as usize, &buf[at..]);
-    if frame::check_window(s, limits, &buf[at..]) != 0 {
+    let next = at + frame::window_end(setup.epsilon as usize, &buf[at..]);
+    if frame::check_window(setup, ceilings, &buf[at..]) != 0 {
         return unsound();
     }
-    let rank = rank_of(s, v, &buf[at..next]);
-    if !timely(s, least, rank) {
+    let rank = rank_of(setup, clock, &buf[at..next]);
+    if !timely(setup, least, rank) {
         return unsound();
     }
-    let key = key_of(s, rank, &buf[at..]);
+    let key = key_of(setup, rank, &buf[at..]);
     if !key_less(last, key) {
         return unsound();
     }
@@ -102,38 +102,38 @@ fn judge_at(
 // the frame ends; frames that are due before v share the first place. The entries grow, so in the end each place gets the largest up to it.
 // At a frame that is not sound the tables of origins and of starts become what they were.
 fn walk_frames(
-    s: Setup,
-    v: usize,
+    setup: Setup,
+    clock: usize,
     least: usize,
-    limits: &[u8],
+    ceilings: &[u8],
     buf: &[u8],
     count: usize,
     seen: &mut [u64],
     starts: &mut [u32],
 ) -> Walk
-    requires { ⌜ (inLimits (setupOf s) ≡ true) × ((v < s .modulus) × (now limits ≡ limitsOf (s .n) (s .epsilon))) ⌝ }
-    requires { ⌜ Recent (setupOf s) least × Starting (setupOf s) v (now buf) (now seen) (now starts) count ⌝ }
-    ensures { λ w. ⌜ Walked (setupOf s) v least (now (buf .entry)) (w .sound) (w .count) (w .end) (now (seen .exit)) (now (starts .exit)) ⌝ }
+    requires { ⌜ (inLimits (setupOf setup) ≡ true) × ((clock < setup .modulus) × (now ceilings ≡ ceilingsOf (setup .n) (setup .epsilon))) ⌝ }
+    requires { ⌜ Recent (setupOf setup) least × Starting (setupOf setup) clock (now buf) (now seen) (now starts) count ⌝ }
+    ensures { λ w. ⌜ Walked (setupOf setup) clock least (now (buf .entry)) (w .sound) (w .count) (w .end) (now (seen .exit)) (now (starts .exit)) ⌝ }
 {
     let mut i = 0;
     let mut at = 2;
     let mut last = no_key();
     while i < count {
-        let judged = judge_at(s, v, least, limits, buf, seen, i, last, at);
+        let judged = judge_at(setup, clock, least, ceilings, buf, seen, i, last, at);
         let next = judged.end;
         if next == 0 {
             clear_marks(seen);
-            fill(starts, 0, START_PLACES, FRONT);
+            fill(starts, 0, START_ENTRIES, FRONT);
             return emptied();
         }
         last = judged.key;
         put_mark(last.slot, seen);
-        let k = places_to(s, last.sum);
+        let k = entries_to(setup, last.sum);
         at = next;
         i += 1;
         starts[k] = (i * START_UNIT + at) as u32;
     }
-    spread(starts, used_places(s));
+    spread(starts, used_entries(setup));
     Walk {
         sound: true,
         count,
@@ -146,19 +146,25 @@ fn walk_frames(
 // and of starts are lent, the one empty and the other with the front in each place, and come back for the frames of the queue, or
 // of an empty one. Where there are no frames, they are that already.
 pub fn sound(
-    s: Setup,
-    v: usize,
+    setup: Setup,
+    clock: usize,
     least: usize,
     buf: &[u8],
     seen: &mut [u64],
     starts: &mut [u32],
 ) -> Walk
-    requires { ⌜ (inLimits (setupOf s) ≡ true) × ((v < s .modulus) × Recent (setupOf s) least) ⌝ }
-    requires { ⌜ (holdbackSize (setupOf s) ≤ length (now buf)) × ((now seen ≡ replicate tableLength 0) × (now starts ≡ allFront)) ⌝ }
-    ensures { λ w. ⌜ Walked (setupOf s) v least (now (buf .entry)) (w .sound) (w .count) (w .end) (now (seen .exit)) (now (starts .exit)) ⌝ }
+    requires { ⌜ (inLimits (setupOf setup) ≡ true) × ((clock < setup .modulus) × Recent (setupOf setup) least) ⌝ }
+    requires { ⌜ (holdbackSize (setupOf setup) ≤ length (now buf)) × ((now seen ≡ replicate tableLength 0) × (now starts ≡ allFront)) ⌝ }
+    ensures { λ w. ⌜ Walked (setupOf setup) clock least (now (buf .entry)) (w .sound) (w .count) (w .end) (now (seen .exit)) (now (starts .exit)) ⌝ }
 {
     let count = splice::two_at(buf, 0);
-    if depth(s.n as usize, s.epsilon as usize, s.delta as usize) < count {
+    if depth(
+        setup.n as usize,
+        setup.epsilon as usize,
+        setup.delta as usize,
+    )
+        < count
+    {
         return emptied();
     }
     if count == 0 {
@@ -166,6 +172,6 @@ pub fn sound(
         let end = 2;
         return Walk { sound, count, end };
     }
-    let limits = limits_of(s.n as usize, s.epsilon as usize);
-    walk_frames(s, v, least, &limits, buf, count, seen, starts)
+    let ceilings = ceilings_of(setup.n as usize, setup.epsilon as usize);
+    walk_frames(setup, clock, least, &ceilings, buf, count, seen, starts)
 }

@@ -1,2 +1,4 @@
 pub mod Lists
 pub mod Longer
+pub mod Through
+pub mod Both

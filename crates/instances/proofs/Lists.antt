@@ -15,9 +15,9 @@ use Rattle.model.specs.Question.{firstNo}
 use Rattle.model.specs.Judge.{judgeQuestions, observerQuestions}
 use Rattle.model.specs.Tick.{holdbackSize}
 use Rattle.model.specs.Published.{Condition, Process, known, beyond, initial, eventC, eventKn, counted, nextEvent, rank, less, deliverable, deliverableBy, inOrder, sameMessage, newOnes, eventOf, buffered, deliveredAt, advanced, messageOf, started}
-use Rattle.model.specs.Run.{Node, Source, sentBy, stale, Call, Done, inputOf, listeningOf, listenedOutput, isAccepted, movedClock, nodeAfter, outputOf, doneOf, act, atStart, runFrom, isEvent, sends, messageBytes}
+use Rattle.model.specs.Run.{Node, Source, sentBy, stale, Call, Done, lengthened, inputOf, listeningOf, listenedOutput, isAccepted, movedClock, nodeAfter, outputOf, doneOf, act, atStart, runFrom, isEvent, sends, messageBytes}
 use Rattle.model.proofs.Computing.{computing}
-use Rattle.theory.specs.Premises.{sameSetup, together, distinct, validFor, exactHoldback, goodStart, largestClock, staleUntil, entriesAllowed, oneSetup, trueClock, stepAllowed, hearsAllowed, acceptedWell, allowed, keeps, noneStale, stepsOfOne, isSent, sameTimestamp, isFresh, allFresh}
+use Rattle.theory.specs.Premises.{sameSetup, together, distinct, validFor, exactHoldback, goodStart, largestClock, staleUntil, entriesAllowed, oneSetup, trueClock, stepAllowed, hearsAllowed, plainCall, acceptedWell, allowed, keeps, noneStale, stepsOfOne, isSent, sameTimestamp, isFresh, allFresh}
 use Rattle.theory.specs.Demand2.{messagesHeard, outcomeOf, publish, publishAll, publishedStart, publishedAfter, Matched}
 use Rattle.theory.specs.Demand3.{coveredFrom, coveredFrame, Promised}
 use Rattle.theory.proofs.Demand2.{demand2-fresh}
@@ -26,7 +26,7 @@ use Rattle.theory.proofs.Demand3.{demand3, demand3-fresh}
 
 -- every definition of the runs, the premises and the published program, opened at once
 unfoldable running : Unit {0}
-unfolding keeps allowed acceptedWell oneSetup trueClock stepAllowed hearsAllowed sameSetup together distinct validFor exactHoldback goodStart entriesAllowed staleUntil largestClock largest sameList noneStale stepsOfOne isSent sameTimestamp isFresh allFresh coveredFrame coveredFrom act atStart runFrom doneOf outputOf nodeAfter movedClock isAccepted inputOf listeningOf listenedOutput isEvent sends messageBytes known beyond initial eventC eventKn counted nextEvent rank less deliverable deliverableBy inOrder sortBy sameMessage newOnes eventOf buffered deliveredAt advanced messageOf started messagesHeard outcomeOf publish publishAll publishedStart computing
+unfolding keeps allowed plainCall acceptedWell oneSetup trueClock stepAllowed hearsAllowed sameSetup together distinct validFor exactHoldback goodStart entriesAllowed staleUntil largestClock largest sameList noneStale stepsOfOne isSent sameTimestamp isFresh allFresh coveredFrame coveredFrom act atStart runFrom doneOf outputOf nodeAfter movedClock isAccepted lengthened inputOf listeningOf listenedOutput isEvent sends messageBytes known beyond initial eventC eventKn counted nextEvent rank less deliverable deliverableBy inOrder sortBy sameMessage newOnes eventOf buffered deliveredAt advanced messageOf started messagesHeard outcomeOf publish publishAll publishedStart computing
 running = tt
 
 -- n 2, ε 2, δ 1 and the least B
@@ -76,6 +76,8 @@ stepping step node clock send payload entries =
     record {
       node = node;
       setup = group;
+      wider = none;
+      spare = [];
       own = node;
       clock = clock % 14;
       step = step;
@@ -112,6 +114,8 @@ failing node s clock =
     record {
       node = node;
       setup = s;
+      wider = none;
+      spare = [];
       own = node;
       clock = clock;
       step = 7;

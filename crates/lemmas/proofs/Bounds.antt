@@ -11,7 +11,7 @@ use Rattle.model.specs.Setup.{Setup, width}
 use Rattle.model.specs.Timestamp.{Timestamp}
 use Rattle.model.specs.Frame.{Frame}
 use Rattle.model.specs.Order.{before}
-use Rattle.model.specs.Holdback.{sameOrigin, notEarly, notOverdue}
+use Rattle.model.specs.Holdback.{sameOrigin, notEarly, notExpired}
 
 -- the limits of a setup that the proofs use
 pub record Limits (s : Setup) : Type 0 where
@@ -61,4 +61,4 @@ pub record QueueOk (s : Setup) (v least : ℕ) (queue : List Frame) : Type 0 whe
   pub ordered : chained (before s v) queue ≡ true
   pub single : apart sameOrigin queue ≡ true
   pub early : every (notEarly s v) queue ≡ true
-  pub overdue : every (notOverdue s v least) queue ≡ true
+  pub expired : every (notExpired s v least) queue ≡ true

@@ -1,15 +1,13 @@
--- 02, 2.10: "Carry tables and shelf over without emptying either". A shelf that one call leaves is sound for the next, also where the setups
--- differ: both pairs again, at a clock k later; the old pair, then both; both, then the new pair alone. Assumes nothing.
+-- 02, 2.10: "Carry tables and shelf over without emptying either". A shelf that one call leaves is sound for the next, from any state, where the second has the
+-- first's pairs, at a clock k later. (Where the setups differ it is carried by places among true clocks: Positions.) Assumes nothing.
 use Prim.Native.Nat.{ℕ, _+_, _-_, _*_, _%_, _≤_, _<_}
 use native.Mathlib.Omega.{arith}
 use native.Mathlib.Nat.{mod-eq-of-lt}
 use mathlib.Core.Path.{_≡_, refl, sym, ap, ap₂, subst, _∙_}
 use mathlib.Core.Logic.{inl, inr}
-use mathlib.Core.Bool.{true, false}
+use mathlib.Core.Bool.{true}
 use mathlib.Core.List.{List, [], _∷_, _++_, List·Memᴰ}
-use lib.Dec.{ltb}
 use lib.ListN.{length}
-use borrow.Author.Tests.{lt-ltb, le-ltb}
 use Rattle.laws.specs.Lex.{lexCompare}
 use Rattle.laws.proofs.Numbers.{eq-or-ne, lt-or-gt}
 use Rattle.laws.proofs.Lists.{every-of-mem}
@@ -20,17 +18,17 @@ use Rattle.model.specs.Timestamp.{sum, near}
 use Rattle.model.specs.Frame.{Frame}
 use Rattle.model.specs.Order.{readingOf}
 use Rattle.model.specs.Holdback.{notEarly, encodeFrames}
-use Rattle.model.specs.Schedule.{Schedule, steady, widening, limitsAt, modulusOf, ownLimits, halfOf, oldDue, dueAlong, comparedAlong}
-use Rattle.model.specs.Wider.{frameHalf, widerReading, countsDownBy, widerKey, widerKeyNear, widerNotOverdue, widerSoundHoldback}
+use Rattle.model.specs.Schedule.{Schedule, limitsAt, modulusOf, ownLimits, dueAlong, comparedAlong}
+use Rattle.model.specs.Wider.{frameHalf, widerReading, countsDownBy, widerKey, widerKeyNear, widerNotExpired, widerSoundHoldback}
 use Rattle.lemmas.proofs.Bounds.{Sound}
 use Rattle.lemmas.proofs.Reading.{near-later}
 use Rattle.lemmas.proofs.Queue.{early-to}
-use Rattle.lemmas.proofs.Schedules.{Widens, Good, LimitsBy, narrow, wide, limits-by, DueBy, old, new, due-by, limits-good, limits-modulus, limits-n, limits-grow, limits-widest, due-window, Aligned, limits-aligned, due-aligned, compared-aligned, half-aligned, modulus-aligned, widest-aligned, near-wider}
-use Rattle.lemmas.proofs.WiderQueue.{QueueAlong, LeftAlong, ordered-along, along-ordered, overdue-along, length-down-by, depth-grows, left-room-along, bytes-along}
-use Rattle.lemmas.proofs.WideFrames.{half-back, FrameWithin}
+use Rattle.lemmas.proofs.Schedules.{Good, wide, old, new, limits-good, limits-modulus, limits-n, limits-grow, due-window, Aligned, limits-aligned, due-aligned, compared-aligned, half-aligned, modulus-aligned, widest-aligned, near-wider}
+use Rattle.lemmas.proofs.WiderQueue.{QueueAlong, LeftAlong, ordered-along, along-ordered, expired-along, length-down-by, depth-grows, left-room-along, bytes-along}
+use Rattle.lemmas.proofs.WideFrames.{FrameWithin}
 
 -- keys with sums and readings k less, and the same counts, are in the same order; where the sums differ, so may the numbers of counts
-lower : (k x x′ a a′ y y′ : ℕ) (m m′ : List ℕ) → (x ≡ x′ → length m ≡ length m′)
+pub lower : (k x x′ a a′ y y′ : ℕ) (m m′ : List ℕ) → (x ≡ x′ → length m ≡ length m′)
     → lexCompare ((x + k) ∷ (m ++ (a ∷ (y + k) ∷ []))) ((x′ + k) ∷ (m′ ++ (a′ ∷ (y′ + k) ∷ [])))
     ≡ lexCompare (x ∷ (m ++ (a ∷ y ∷ []))) (x′ ∷ (m′ ++ (a′ ∷ y′ ∷ [])))
 lower k x x′ a a′ y y′ m m′ same =
@@ -60,7 +58,7 @@ pub record Kept (l l′ : Schedule) (v v′ k : ℕ) (f : Frame) : Type 0 where
   pub compared : comparedAlong l′ (widerReading l′ v′ f + f .stamp .c) ≡ comparedAlong l (widerReading l v f + f .stamp .c)
 
 -- a key by its parts
-abbrev keyWith : ℕ → ℕ → ℕ → ℕ → Frame → List ℕ
+abbrev pub keyWith : ℕ → ℕ → ℕ → ℕ → Frame → List ℕ
 keyWith most half total reading f = total ∷ (countsDownBy most half (f .stamp) ++ (f .station ∷ reading ∷ []))
 
 module _ (l l′ : Schedule) (v v′ k : ℕ) where
@@ -109,10 +107,10 @@ module _ (l l′ : Schedule) (v v′ k : ℕ) where
       }
 
   -- the shelf is sound there, where the least due clock allowed is the one after v
-  pub shelf-carried :
+  pub holdback-carried :
       (queue : List Frame) → Good l → Good l′ → Follows l l′ → ((f : Frame) → List·Memᴰ f queue → Kept l l′ v v′ k f) → LeftAlong l v queue
       → QueueAlong l′ v′ (modulusOf l′ + 1 - k) queue
-  shelf-carried queue good good′ follows kept left =
+  holdback-carried queue good good′ follows kept left =
       record {
         frames = λ f m. kept-frame f good good′ follows (kept f m) (left .frames f m);
         ordered =
@@ -124,9 +122,9 @@ module _ (l l′ : Schedule) (v v′ k : ℕ) where
             (λ f m.
             early-to (ownLimits l′) v′ f
             (omega (arith, left .early f m, kept f m .reading, follows .modulus, follows .epsilon, limits-modulus l′ good′ (modulusOf l′))));
-        overdue =
-            every-of-mem (widerNotOverdue l′ v′ (modulusOf l′ + 1 - k)) queue
-            (λ f m. overdue-along l′ v′ (modulusOf l′ + 1 - k) f (omega (arith, left .later f m, kept f m .due, follows .modulus)));
+        expired =
+            every-of-mem (widerNotExpired l′ v′ (modulusOf l′ + 1 - k)) queue
+            (λ f m. expired-along l′ v′ (modulusOf l′ + 1 - k) f (omega (arith, left .later f m, kept f m .due, follows .modulus)));
       }
 
   -- and so are its bytes, whatever stands behind them: it was not full, and the next limits leave as much room or more
@@ -183,7 +181,7 @@ module _ (l l′ : Schedule) (v k : ℕ) (good : Good l) (good′ : Good l′) (
       (omega (arith, old, far, few, large, follows .epsilon, follows .delta))
       ∙ sym old)
 
--- ---- the three changes
+-- ---- with one setup
 
 -- both pairs again, or one: the next schedule is this one, k clocks later
 module _ (l l′ : Schedule) (v k : ℕ) (good : Good l) (good′ : Good l′) (aligned : Aligned k 0 l′ l) where
@@ -214,7 +212,7 @@ module _ (l l′ : Schedule) (v k : ℕ) (good : Good l) (good′ : Good l′) (
       (queue : List Frame) → v < modulusOf l → k ≤ ownLimits l′ .epsilon → LeftAlong l v queue
       → QueueAlong l′ ((v + k) % modulusOf l) (modulusOf l′ + 1 - k) queue
   carried-moved queue below few left =
-      shelf-carried l l′ v ((v + k) % modulusOf l) k queue good good′ moved-follows
+      holdback-carried l l′ v ((v + k) % modulusOf l) k queue good good′ moved-follows
       (λ f m. moved-kept f ((v + k) % modulusOf l) (reading-kept l l′ v k good good′ moved-follows below few f (left .frames f m) (left .later f m))) left
 
   -- 02: "Carry … shelf over without emptying"
@@ -223,108 +221,3 @@ module _ (l l′ : Schedule) (v k : ℕ) (good : Good l) (good′ : Good l′) (
       → widerSoundHoldback l′ ((v + k) % modulusOf l) (modulusOf l′ + 1 - k) (encodeFrames queue ++ rest) ≡ true
   holdback-moved queue rest below few left =
       bytes-carried l l′ v ((v + k) % modulusOf l) k queue rest good good′ moved-follows below left (carried-moved queue below few left)
-
--- the old pair, then both. "its last clock being at least δ + 2ε before V": v reads B − k in the next call
-module _ (s after : Setup) (change v k : ℕ) (good : Widens s after) (before-V : s .modulus + (s .delta + 2 * s .epsilon) ≤ change + k) where
-  abbrev both : Schedule
-  both = widening s after change
-
-  pub up-follows : Follows (steady s) both
-  up-follows =
-      record {
-        n = limits-n both good (s .modulus) ∙ good .n;
-        modulus = refl;
-        epsilon = epsilon (limits-by s after change (s .modulus));
-        delta = delta (limits-by s after change (s .modulus));
-      }
-    where
-      epsilon : LimitsBy s after change (s .modulus) (ownLimits both) → s .epsilon ≤ ownLimits both .epsilon
-      epsilon (narrow p e) = rw e (omega arith)
-      epsilon (wide p e) = rw e (good .epsilon)
-
-      delta : LimitsBy s after change (s .modulus) (ownLimits both) → s .delta ≤ ownLimits both .delta
-      delta (narrow p e) = rw e (omega arith)
-      delta (wide p e) = rw e (good .delta)
-
-  -- every frame on the shelf is due before V, by its old due clock, and narrow
-  pub up-kept :
-      (f : Frame) (v′ : ℕ) → FrameWithin (steady s) s f → widerReading (steady s) v f + f .stamp .c ≤ s .modulus + (s .epsilon - 1)
-      → widerReading both v′ f + k ≡ widerReading (steady s) v f → Kept (steady s) both v v′ k f
-  unfolding oldDue
-  up-kept f v′ ok early e =
-      let x : ℕ = widerReading both v′ f + f .stamp .c in
-      let some : 1 ≤ s .epsilon = good .old .epsilon-pos in
-      let first : x + s .delta + s .epsilon < change = omega (arith, early, e, before-V, some) in
-      let is : ltb (x + s .delta + s .epsilon) change ≡ true = lt-ltb (x + s .delta + s .epsilon) change first in
-      record {
-        reading = e;
-        half = ap (halfOf both) (ok .wide) ∙ half-back both (s .epsilon) (inl refl);
-        due = rw is (omega (arith, e));
-        compared = rw is refl;
-      }
-
-  pub carried-up :
-      (queue : List Frame) → v < s .modulus → k ≤ ownLimits both .epsilon → LeftAlong (steady s) v queue
-      → QueueAlong both ((v + k) % s .modulus) (s .modulus + 1 - k) queue
-  carried-up queue below few left =
-      shelf-carried (steady s) both v ((v + k) % s .modulus) k queue (good .old) good up-follows
-      (λ f m.
-      up-kept f ((v + k) % s .modulus) (left .frames f m) (left .early f m)
-      (reading-kept (steady s) both v k (good .old) good up-follows below few f (left .frames f m) (left .later f m))) left
-
-  pub holdback-up :
-      (queue : List Frame) (rest : List ℕ) → v < s .modulus → k ≤ ownLimits both .epsilon → LeftAlong (steady s) v queue
-      → widerSoundHoldback both ((v + k) % s .modulus) (s .modulus + 1 - k) (encodeFrames queue ++ rest) ≡ true
-  holdback-up queue rest below few left =
-      bytes-carried (steady s) both v ((v + k) % s .modulus) k queue rest (good .old) good up-follows below left (carried-up queue below few left)
-
--- both pairs, then the new one, where every frame on the shelf is wide. V is at most one past v, which reads B
-module _ (before after : Setup) (change v k : ℕ) (good : Widens before after) (past-V : change ≤ before .modulus + 1) where
-  abbrev pairs : Schedule
-  pairs = widening before after change
-
-  pub down-follows : Follows pairs (steady after)
-  down-follows =
-      record {
-        n = sym (limits-n pairs good (before .modulus));
-        modulus = good .modulus;
-        epsilon = limits-widest pairs good (before .modulus) .0;
-        delta = limits-widest pairs good (before .modulus) .1;
-      }
-
-  -- what is due after v has its new due clock
-  pub down-kept :
-      (f : Frame) (v′ : ℕ) → frameHalf pairs f ≡ after .epsilon → before .modulus < dueAlong pairs (widerReading pairs v f + f .stamp .c)
-      → widerReading (steady after) v′ f + k ≡ widerReading pairs v f → Kept pairs (steady after) v v′ k f
-  unfolding oldDue
-  down-kept f v′ broad later e =
-      let x : ℕ = widerReading pairs v f + f .stamp .c in
-      let most : change ≤ x + before .delta + before .epsilon = go (due-by before after change x) in
-      let is : ltb (x + before .delta + before .epsilon) change ≡ false = le-ltb (x + before .delta + before .epsilon) change most in
-      record {
-        reading = e;
-        half = sym broad;
-        due = rw is (omega (arith, e));
-        compared = rw is refl;
-      }
-    where
-      go :
-          DueBy before after change (widerReading pairs v f + f .stamp .c) (dueAlong pairs (widerReading pairs v f + f .stamp .c))
-          → change ≤ widerReading pairs v f + f .stamp .c + before .delta + before .epsilon
-      go (old p q) = absurd (omega (arith, p, q, later, past-V))
-      go (new p q) = p
-
-  pub carried-down :
-      (queue : List Frame) → v < before .modulus → k ≤ after .epsilon → ((f : Frame) → List·Memᴰ f queue → frameHalf pairs f ≡ after .epsilon) → LeftAlong pairs v queue
-      → QueueAlong (steady after) ((v + k) % before .modulus) (after .modulus + 1 - k) queue
-  carried-down queue below few all-wide left =
-      shelf-carried pairs (steady after) v ((v + k) % before .modulus) k queue good (good .new) down-follows
-      (λ f m.
-      down-kept f ((v + k) % before .modulus) (all-wide f m) (left .later f m)
-      (reading-kept pairs (steady after) v k good (good .new) down-follows below few f (left .frames f m) (left .later f m))) left
-
-  pub holdback-down :
-      (queue : List Frame) (rest : List ℕ) → v < before .modulus → k ≤ after .epsilon → ((f : Frame) → List·Memᴰ f queue → frameHalf pairs f ≡ after .epsilon) → LeftAlong pairs v queue
-      → widerSoundHoldback (steady after) ((v + k) % before .modulus) (after .modulus + 1 - k) (encodeFrames queue ++ rest) ≡ true
-  holdback-down queue rest below few all-wide left =
-      bytes-carried pairs (steady after) v ((v + k) % before .modulus) k queue rest good (good .new) down-follows below left (carried-down queue below few all-wide left)

@@ -13,7 +13,7 @@ use Rattle.laws.proofs.Numbers.{lt-or-ge, compare-lt, compare-gt}
 use Rattle.model.specs.Setup.{Setup}
 use Rattle.model.specs.Timestamp.{sum}
 use Rattle.model.specs.Frame.{Frame}
-use Rattle.model.specs.Order.{readingOf, countsDown, keyBy, key, keyNear, compareFrames, clockAt}
+use Rattle.model.specs.Order.{readingOf, countsDown, keyBy, key, keyNear, compareFrames, readingClock}
 use Rattle.model.specs.Comparison.{Reason, bySum, byCount, byStation, byR, byNothing, reasonPast, reasonAt, compareKeys, countClock, clocked, compared}
 use Rattle.lemmas.proofs.Bounds.{Limits}
 use Rattle.lemmas.proofs.Reading.{near-low}
@@ -94,7 +94,7 @@ same-reason s v f =
 
 -- it is below B
 pub clock-below : (s : Setup) (v : ℕ) (f g : Frame) (k : ℕ) → Limits s → compared s v f g .reason ≡ byCount k → k < s .modulus
-unfolding compared countClock clockAt
+unfolding compared countClock readingClock
 clock-below s v f g k limits e = go (compareKeys (s .epsilon) (keyNear s v f) (keyNear s v g) .reason) e
   where
     go : (r : Reason) → clocked (countClock s v (sum (readingOf s v f) (f .stamp .c))) r ≡ byCount k → k < s .modulus

@@ -460,17 +460,6 @@ module _ (epsilon B reading : ℕ) (t f : Timestamp) where
   unfolding absorb absorbWide
   absorb-wide = absorbed-wide epsilon epsilon B reading t f
 
--- tick 3, with the frame's reading at its true clock R and v at the true clock v
-pub absorb-count : (epsilon B v R reading : ℕ) (t f : Timestamp) → length (t .kn) ≡ width epsilon → reading + v ≡ B + R → (w : ℕ) → v ≤ w → w < v + width epsilon → placedAt v (absorb epsilon B t reading f .kn) w ≡ max (placedAt v (t .kn) w) (placedAt R (f .kn) w)
-absorb-count epsilon B v R reading t f wide e w lo hi =
-    count-index v (absorb epsilon B t reading f .kn) w (w - v) (omega arith)
-    ∙ absorb-at epsilon B reading t f (w - v) (omega arith)
-    ∙ rw (count-index v (t .kn) w (w - v) (omega arith), count-moved reading R (f .kn) (B + (w - v)) w (omega arith))
-
-pub absorb-sum : (epsilon B v R reading : ℕ) (t f : Timestamp) → reading + v ≡ B + R → v + absorb epsilon B t reading f .c ≡ max (v + t .c) (max v (R + f .c))
-unfolding absorb absorbWide
-absorb-sum epsilon B v R reading t f e = absorbed-sum epsilon epsilon B reading t f v R e
-
 pub opened-absorb : (n epsilon B reading : ℕ) (t f : Timestamp) → 1 ≤ n → 1 ≤ epsilon → Opened n epsilon t → Sound n epsilon f → reading < B + epsilon → sum reading (f .c) ≤ B + (epsilon - 1) → atMost (n - 1) (countsFrom epsilon reading (f .kn) B) ≡ true → Opened n epsilon (absorb epsilon B t reading f)
 unfolding absorb absorbWide
 opened-absorb n epsilon B reading t f n-pos e o s hi early full = absorbed-opened epsilon epsilon B reading t f n n-pos e o s early full

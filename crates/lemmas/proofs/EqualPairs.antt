@@ -14,7 +14,7 @@ use Rattle.laws.proofs.Lists.{eq-tab}
 use Rattle.model.specs.Setup.{Setup, width, depthOf}
 use Rattle.model.specs.Timestamp.{Timestamp, countAt, countsFrom, sum, atMost, clockStep, soundClock, soundBeside, soundTables, trimmed, replaced, shift, step, absorb, countOwn}
 use Rattle.model.specs.Frame.{Frame, twoAt, encode, decode, frameEnd, wellFormed}
-use Rattle.model.specs.Order.{readingOf, clockAt}
+use Rattle.model.specs.Order.{readingOf, readingClock}
 use Rattle.model.specs.Comparison.{compareKeys, countClock, atClocks}
 use Rattle.model.specs.Batch.{batchEntries}
 use Rattle.model.specs.Question.{ask, firstNo, askRange}
@@ -24,7 +24,7 @@ use Rattle.model.specs.Judge.{askLate, askEarly, askRepeat, verdictBy, hearBy, 
 use Rattle.model.specs.Tick.{Input, holdbackSize, stepOf, leastAt, takenCount, acceptedWith}
 use Rattle.model.specs.Observer.{Listening}
 use Rattle.model.specs.Schedule.{Schedule, steady, widening, limitsAt, ownLimits, halfOf, tablesHalf, oldDue, dueAlong, comparedAlong}
-use Rattle.model.specs.Wider.{widerFormed, widerDecode, widerEnd, soundWithin, widerFrameQuestions, countsDownBy, widerKey, widerKeyNear, widerBefore, widerDue, widerHeldBytes, widerHeld, widerPasses, widerNotOverdue, widerSoundHoldback, widerOpeningQueue, widerDueBefore, widerDueNow, notLateAlong, widerAskLate, widerAskCounts, widerPlaceQuestions, widerObserverPlaceQuestions, widerQuestions, widerObserverQuestions, widerPlace, widerJudge, widerHearOne, widerHear, absorbWide, widerAbsorbBy, widerAbsorbAll, widerTablesSound, widerLeast, widerShelfSound, widerRepair, stepInto, widerOpeningStamp, widerOpened, widerHeard, widerHeardStamp, widerNewStamp, widerSent, widerDeliveredOf, widerKeptOf, widerAcceptance}
+use Rattle.model.specs.Wider.{widerFormed, widerDecode, widerEnd, soundWithin, widerFrameQuestions, countsDownBy, widerKey, widerKeyNear, widerBefore, widerDue, widerHeldBytes, widerHeld, widerPasses, widerNotExpired, widerSoundHoldback, widerOpeningQueue, widerDueBefore, widerDueNow, notLateAlong, widerAskLate, widerAskCounts, widerPlaceQuestions, widerObserverPlaceQuestions, widerQuestions, widerObserverQuestions, widerPlace, widerJudge, widerHearOne, widerHear, absorbWide, widerAbsorbBy, widerAbsorbAll, widerTablesSound, widerLeast, widerHoldbackSound, widerRepair, stepInto, widerOpeningStamp, widerOpened, widerHeard, widerHeardStamp, widerNewStamp, widerSent, widerDeliveredOf, widerKeptOf, widerAcceptance}
 use Rattle.model.specs.WiderCalls.{widerLastSound, widerObserverLeast, widerObserverRepair, widerObserverOpened, widerObserverHeard, widerObserverDelivered, widerObserverKept, widerListened, widerPolledQueue, widerSoonestDue, widerNextDue, widerDueWithin, widerNumberWithin, widerPollBy, widerCompared}
 use Rattle.lemmas.proofs.Counts.{count-zero, count-index, shift-at, length-shift, trimmed-wide, tables-step}
 
@@ -110,7 +110,7 @@ module _ (s : Setup) (change : ℕ) where
   held-same = λ j bytes. map (decode-same j) (held-bytes-same j bytes)
 
   holdback-same : widerSoundHoldback twice ≡ widerSoundHoldback once
-  unfolding widerSoundHoldback widerPasses widerNotOverdue
+  unfolding widerSoundHoldback widerPasses widerNotExpired
   holdback-same = λ j v least bytes.
       leb (twoAt bytes 0) (depthOf (own j)) && (every (λ b. eqb (firstNo (questions-same j b)) 0) (held-bytes-same j bytes)
       && (chained (before-same j v) (held-same j bytes) && (apart sameOrigin (held-same j bytes)
@@ -244,7 +244,7 @@ module _ (s : Setup) (change : ℕ) where
       select (due-before-same j (i .clock)) (opened-same j i) ++ select (due-now-same j (i .clock)) (heard-same j i .queue)
 
   pub tick-same : (i : Input) → widerAcceptance twice i ≡ widerAcceptance once i
-  unfolding widerAcceptance widerRepair widerShelfSound widerSent widerKeptOf
+  unfolding widerAcceptance widerRepair widerHoldbackSound widerSent widerKeptOf
   tick-same i = λ j.
       acceptedWith i
       (cond (tables-same j (i .clock) (i .tables)) 0 1 + cond (holdback-same j (i .clock) (least-same j (i .clock) (i .tables)) (i .holdback)) 0 2)
@@ -296,7 +296,7 @@ module _ (s : Setup) (change : ℕ) where
   poll-same v d holdback = λ j.
       record {
         number = 0;
-        next = Option·map (clockAt (own j) v) (smallest (map (due-same j v) (opening-same j v (s .modulus + 1) holdback)));
+        next = Option·map (readingClock (own j) v) (smallest (map (due-same j v) (opening-same j v (s .modulus + 1) holdback)));
         within = length (select (λ f. leb (due-same j v f) (s .modulus + d)) (opening-same j v (s .modulus + 1) holdback));
       }
 

@@ -212,18 +212,18 @@ long-count queue rest = two-at-frames longEncode queue rest
 
 -- a bundle of entries
 module _ {A : Type 0} (bytes : A → List ℕ) where
-  pub bundle-ends : (l : List A) → endsAfter (length l) (joined (λ x. length (bytes x) ∷ bytes x) l) ≡ true
+  pub batch-ends : (l : List A) → endsAfter (length l) (joined (λ x. length (bytes x) ∷ bytes x) l) ≡ true
   unfolding endsAfter joined
-  bundle-ends [] = refl
-  bundle-ends (x ∷ l) =
+  batch-ends [] = refl
+  batch-ends (x ∷ l) =
       and-intro
       (le-leb (length (bytes x)) (length (bytes x ++ joined (λ y. length (bytes y) ∷ bytes y) l))
       (omega (arith, length-append (bytes x) (joined (λ y. length (bytes y) ∷ bytes y) l))))
-      (rw (drop-append-seam (bytes x) (joined (λ y. length (bytes y) ∷ bytes y) l)) (bundle-ends l))
+      (rw (drop-append-seam (bytes x) (joined (λ y. length (bytes y) ∷ bytes y) l)) (batch-ends l))
 
-  pub bundle-entries : (l : List A) → entriesOf (length l) (joined (λ x. length (bytes x) ∷ bytes x) l) ≡ map bytes l
+  pub batch-entries : (l : List A) → entriesOf (length l) (joined (λ x. length (bytes x) ∷ bytes x) l) ≡ map bytes l
   unfolding entriesOf joined
-  bundle-entries [] = refl
-  bundle-entries (x ∷ l) =
+  batch-entries [] = refl
+  batch-entries (x ∷ l) =
       ap₂ _∷_ (take-append-seam (bytes x) (joined (λ y. length (bytes y) ∷ bytes y) l))
-      (ap (entriesOf (length l)) (drop-append-seam (bytes x) (joined (λ y. length (bytes y) ∷ bytes y) l)) ∙ bundle-entries l)
+      (ap (entriesOf (length l)) (drop-append-seam (bytes x) (joined (λ y. length (bytes y) ∷ bytes y) l)) ∙ batch-entries l)

@@ -24,7 +24,7 @@ use Rattle.model.specs.Codec.{askPayload}
 use Rattle.model.specs.Holdback.{sameOrigin}
 use Rattle.model.specs.Judge.{Heard, askRepeat}
 use Rattle.model.specs.Tick.{Input}
-use Rattle.model.specs.Long.{longBound, plainly, longLimits, askLongSetup, longEncode, longDecode, longestLong, longBefore, longDue, longMost, longHoldbackSize, longHeldBytes, longHeld, longPasses, longNotEarly, longNotOverdue, longSoundHoldback, longEncodeHoldback, askLongEarly, askHeld, longPlaceQuestions, longQuestions, longJudge, longHearOne, longHear, longAbsorbBy, longAbsorbAll, longCallQuestions, longClockSound, longTablesSound, longShelfSound, longOpeningStamp, longOpened, longHeard, longNewStamp, longDueBy, longDelivered, longKept, longFrameEnd}
+use Rattle.model.specs.Long.{longBound, plainly, longLimits, askLongSetup, longEncode, longDecode, longestLong, longBefore, longDue, longMost, longHoldbackSize, longHeldBytes, longHeld, longPasses, longNotEarly, longNotExpired, longSoundHoldback, longEncodeHoldback, askLongEarly, askHeld, longPlaceQuestions, longQuestions, longJudge, longHearOne, longHear, longAbsorbBy, longAbsorbAll, longCallQuestions, longClockSound, longTablesSound, longHoldbackSound, longOpeningStamp, longOpened, longHeard, longNewStamp, longDueBy, longDelivered, longKept, longFrameEnd}
 use Rattle.lemmas.proofs.Bounds.{LongLimits, FrameOk}
 use Rattle.lemmas.proofs.Questions.{first-yes, other-yes, long-limits-from}
 use Rattle.lemmas.proofs.Counts.{Left, opened-absorb, own-left, left-beside, trimmed-widened}
@@ -39,7 +39,7 @@ pub record LongPassed (i : Input) : Type 0 where
   pub limits : LongLimits (i .setup)
   pub own-below : i .own < i .setup .n
   pub clock-below : i .clock < longBound
-  pub shelf-size : length (i .holdback) ≡ longHoldbackSize (i .setup)
+  pub holdback-sized : length (i .holdback) ≡ longHoldbackSize (i .setup)
   pub payload-short : length (i .payload) ≤ 32
   pub exact : exactBatch (i .batch) ≡ true
   pub outgoing-room : longestLong (i .setup .epsilon) ≤ length (i .outgoing)
@@ -64,7 +64,7 @@ long-passed i e =
       limits = long-limits-from s (and-left (longLimits s) _ q1);
       own-below = ltb-true (i .own) (s .n) (and-right (longLimits s) _ q1);
       clock-below = ltb-true (i .clock) longBound (first-yes (ltb (i .clock) longBound) 1 _ e₁);
-      shelf-size = eqb-true (length (i .holdback)) (longHoldbackSize s) (first-yes (eqb (length (i .holdback)) (longHoldbackSize s)) 2 _ e₂);
+      holdback-sized = eqb-true (length (i .holdback)) (longHoldbackSize s) (first-yes (eqb (length (i .holdback)) (longHoldbackSize s)) 2 _ e₂);
       payload-short = leb-true (length (i .payload)) longestPayload (first-yes (leb (length (i .payload)) longestPayload) 3 _ e₃);
       exact = first-yes (exactBatch (i .batch)) 4 _ e₄;
       outgoing-room = leb-true (longestLong (s .epsilon)) (length (i .outgoing)) (and-left room _ q6);
@@ -119,10 +119,10 @@ sound-holds s v least bytes pos h =
     one f t p = rw (← t .2) (long-passes-decode s (t .0) pos (every-mem (longPasses s) p (t .1)))
 
 pub opened-holds : (i : Input) → 1 ≤ i .setup .epsilon → Holds (i .setup) (i .clock) (longOpened i)
-unfolding longOpened longShelfSound
-opened-holds i pos = go (longShelfSound i) refl
+unfolding longOpened longHoldbackSound
+opened-holds i pos = go (longHoldbackSound i) refl
   where
-    go : (b : Bool) → longShelfSound i ≡ b → Holds (i .setup) (i .clock) (cond b (longHeld (i .setup .epsilon) (i .holdback)) [])
+    go : (b : Bool) → longHoldbackSound i ≡ b → Holds (i .setup) (i .clock) (cond b (longHeld (i .setup .epsilon) (i .holdback)) [])
     go true e = sound-holds (i .setup) (i .clock) _ (i .holdback) pos e
     go false e = holds-none (i .setup) (i .clock)
 
@@ -322,8 +322,8 @@ module _ (i : Input) (pos : 1 ≤ i .setup .epsilon) where
         few = omega (arith, h .few, select-length-le notDue (longHeard i .queue));
       }
 
-  kept-later : (f : Frame) → List·Memᴰ f (longKept i) → longNotOverdue (i .setup) (i .clock + 1) f ≡ true
-  unfolding longKept longDueBy longNotOverdue
+  kept-later : (f : Frame) → List·Memᴰ f (longKept i) → longNotExpired (i .setup) (i .clock + 1) f ≡ true
+  unfolding longKept longDueBy longNotExpired
   kept-later f m =
       let past = leb-false (longDue (i .setup) f) (i .clock) (false-of-not (longDueBy (i .setup) (i .clock) f) (mem-of-select notDue (longHeard i .queue) m .1)) in
       le-leb (i .clock + 1) (longDue (i .setup) f) (omega (arith, past))
@@ -356,4 +356,4 @@ module _ (i : Input) (pos : 1 ≤ i .setup .epsilon) where
       (λ f m.
       long-early-to (i .setup) (i .clock + k) f
       (omega (arith, long-early-from (i .setup) (i .clock) f (every-mem (longNotEarly (i .setup) (i .clock)) (h .early) m)))))
-      (every-of-mem (longNotOverdue (i .setup) (i .clock + 1)) (longKept i) kept-later)))))
+      (every-of-mem (longNotExpired (i .setup) (i .clock + 1)) (longKept i) kept-later)))))

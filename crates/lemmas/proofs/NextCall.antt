@@ -17,7 +17,7 @@ use Rattle.model.specs.Judge.{Asking, Heard, verdictBy, judge, hearBy, hear, he
 use Rattle.model.specs.Tick.{Input, holdbackSize, stepOf, leastAfter, leastDue, openingQueue, openingIn, dueBefore, takenCount, dueNow, tick}
 use Rattle.model.specs.Observer.{Listening, listen}
 use Rattle.lemmas.proofs.Hearing.{numbersBy}
-use Rattle.lemmas.proofs.Board.{step-later, numbersOf, hear-verdicts, Board, boardOpened, boardHeard, boardDelivered, boardKept, board-held, board-sound}
+use Rattle.lemmas.proofs.Receiving.{step-later, numbersOf, hear-verdicts, Receiving, receiveOpened, receiveHeard, receiveDelivered, receiveKept, receive-held, receive-sound}
 use Rattle.lemmas.proofs.OneTick.{Accepted, new-r, tables-are, tables-next}
 use Rattle.lemmas.proofs.OneListening.{Heeded, last-is, last-next}
 
@@ -80,24 +80,24 @@ hear-none s v asking h (bytes ∷ rest) e =
 -- a call's shelf and bundle
 module _ (s : Setup) (v least : ℕ) (asking : Asking) (holdback : List ℕ) (entries : List (List ℕ)) where
   abbrev given : Heard
-  given = openingIn s v (boardOpened s v least asking holdback entries)
+  given = openingIn s v (receiveOpened s v least asking holdback entries)
 
   -- the next call opens the queue as it was left
-  pub board-next :
-      Board s v least asking → (k : ℕ) → k ≤ s .epsilon
-      → openingQueue s ((v + k) % s .modulus) (s .modulus + 1 - k) (encodeHoldback (holdbackSize s) (boardKept s v least asking holdback entries))
-      ≡ boardKept s v least asking holdback entries
+  pub receive-next :
+      Receiving s v least asking → (k : ℕ) → k ≤ s .epsilon
+      → openingQueue s ((v + k) % s .modulus) (s .modulus + 1 - k) (encodeHoldback (holdbackSize s) (receiveKept s v least asking holdback entries))
+      ≡ receiveKept s v least asking holdback entries
   unfolding openingQueue
-  board-next board k few =
-      rw (board-sound s v least asking holdback entries board k few) (board-held s v least asking holdback entries board)
+  receive-next receiving k few =
+      rw (receive-sound s v least asking holdback entries receiving k few) (receive-held s v least asking holdback entries receiving)
 
   -- one that takes no frame hands out, of the queue that it opens, what is due before v, and at v
-  pub board-quiet :
-      takenCount (boardHeard s v least asking holdback entries .verdicts) ≡ 0
-      → length (boardDelivered s v least asking holdback entries)
-      ≡ length (select (dueBefore s v) (boardOpened s v least asking holdback entries))
-      + length (select (dueNow s v) (select (λ f. not (dueBefore s v f)) (boardOpened s v least asking holdback entries)))
-  board-quiet e =
-      length-append (select (dueBefore s v) (boardOpened s v least asking holdback entries)) (select (dueNow s v) (boardHeard s v least asking holdback entries .queue))
-      ∙ ap (λ (queue : List Frame). length (select (dueBefore s v) (boardOpened s v least asking holdback entries)) + length (select (dueNow s v) queue))
+  pub receive-quiet :
+      takenCount (receiveHeard s v least asking holdback entries .verdicts) ≡ 0
+      → length (receiveDelivered s v least asking holdback entries)
+      ≡ length (select (dueBefore s v) (receiveOpened s v least asking holdback entries))
+      + length (select (dueNow s v) (select (λ f. not (dueBefore s v f)) (receiveOpened s v least asking holdback entries)))
+  receive-quiet e =
+      length-append (select (dueBefore s v) (receiveOpened s v least asking holdback entries)) (select (dueNow s v) (receiveHeard s v least asking holdback entries .queue))
+      ∙ ap (λ (queue : List Frame). length (select (dueBefore s v) (receiveOpened s v least asking holdback entries)) + length (select (dueNow s v) queue))
       (hear-none s v asking given entries (ap takenCount (sym (hear-verdicts s v asking given entries)) ∙ e))

@@ -23,7 +23,7 @@ use Rattle.model.specs.Observer.{Listening, Listened, listenQuestions, notListe
 use Rattle.lemmas.proofs.Bounds.{Limits}
 use Rattle.lemmas.proofs.Questions.{first-yes, other-yes, limits-from}
 use Rattle.lemmas.proofs.Queue.{observed-passed}
-use Rattle.lemmas.proofs.Board.{step-later, Board, board-sound, board-bytes, board-verdict, board-front}
+use Rattle.lemmas.proofs.Receiving.{step-later, Receiving, receive-sound, receive-bytes, receive-verdict, receive-front}
 
 -- the call by the number of the first question that gets a no
 pub listen-by : (i : Listening) (k : ℕ) → firstNo (listenQuestions i) ≡ k → listen i ≡ listenBy k i
@@ -74,8 +74,8 @@ least-near i limits = go (lastSound i) refl
     go false e = omega (arith, limits .epsilon-pos)
 
 -- what it shares with a tick
-pub listen-board : (i : Listening) → Heeded i → Board (i .setup) (i .clock) (observerLeast i) (observerQuestions (i .setup) (i .clock))
-listen-board i a =
+pub listen-receiving : (i : Listening) → Heeded i → Receiving (i .setup) (i .clock) (observerLeast i) (observerQuestions (i .setup) (i .clock))
+listen-receiving i a =
     record {
       limits = a .limits;
       below = a .clock-below;
@@ -108,18 +108,18 @@ last-next i k a pos few =
     (and-intro (lt-ltb (i .clock) (i .setup .modulus) (a .clock-below)) (and-intro (le-leb 1 k pos) (le-leb k (i .setup .epsilon) few)))
 
 -- and so is the shelf
-pub listen-shelf : (i : Listening) (k : ℕ) → Heeded i → k ≤ i .setup .epsilon → soundHoldback (i .setup) ((i .clock + k) % i .setup .modulus) (i .setup .modulus + 1 - k) (listen i .holdback) ≡ true
+pub listen-stays : (i : Listening) (k : ℕ) → Heeded i → k ≤ i .setup .epsilon → soundHoldback (i .setup) ((i .clock + k) % i .setup .modulus) (i .setup .modulus + 1 - k) (listen i .holdback) ≡ true
 unfolding observerKept observerHeard observerOpened
-listen-shelf i k a few =
+listen-stays i k a few =
     ap (λ (x : List ℕ). soundHoldback (i .setup) ((i .clock + k) % i .setup .modulus) (i .setup .modulus + 1 - k) x) (listen-holdback i a)
-    ∙ board-sound (i .setup) (i .clock) (observerLeast i) (observerQuestions (i .setup) (i .clock)) (i .holdback) (batchEntries (i .batch)) (listen-board i a) k few
+    ∙ receive-sound (i .setup) (i .clock) (observerLeast i) (observerQuestions (i .setup) (i .clock)) (i .holdback) (batchEntries (i .batch)) (listen-receiving i a) k few
 
 -- what it wrote
 pub listen-bytes : (i : Listening) → Heeded i → heldBytes (i .setup .epsilon) (listen i .delivery) ≡ map encode (observerDelivered i)
 unfolding observerDelivered observerHeard observerOpened
 listen-bytes i a =
     ap (heldBytes (i .setup .epsilon)) (listen-delivery i a)
-    ∙ board-bytes (i .setup) (i .clock) (observerLeast i) (observerQuestions (i .setup) (i .clock)) (i .holdback) (batchEntries (i .batch)) (listen-board i a) (i .delivery)
+    ∙ receive-bytes (i .setup) (i .clock) (observerLeast i) (observerQuestions (i .setup) (i .clock)) (i .holdback) (batchEntries (i .batch)) (listen-receiving i a) (i .delivery)
 
 pub listen-verdict :
     (i : Listening) → Heeded i → (k : ℕ) (entry : List ℕ) → getElem? (batchEntries (i .batch)) k ≡ some entry
@@ -129,10 +129,10 @@ pub listen-verdict :
 unfolding observerHeard observerOpened
 listen-verdict i a k entry e =
     ap (λ (l : List ℕ). getD l k 0) (listen-verdicts i a)
-    ∙ board-verdict (i .setup) (i .clock) (observerLeast i) (observerQuestions (i .setup) (i .clock)) (i .holdback) (batchEntries (i .batch)) (i .verdicts) k entry e
+    ∙ receive-verdict (i .setup) (i .clock) (observerLeast i) (observerQuestions (i .setup) (i .clock)) (i .holdback) (batchEntries (i .batch)) (i .verdicts) k entry e
 
 pub listen-front : (i : Listening) → Heeded i → take (length (batchEntries (i .batch))) (listen i .verdicts) ≡ observerHeard i .verdicts
 unfolding observerHeard observerOpened
 listen-front i a =
     ap (take (length (batchEntries (i .batch)))) (listen-verdicts i a)
-    ∙ board-front (i .setup) (i .clock) (observerLeast i) (observerQuestions (i .setup) (i .clock)) (i .holdback) (batchEntries (i .batch)) (i .verdicts)
+    ∙ receive-front (i .setup) (i .clock) (observerLeast i) (observerQuestions (i .setup) (i .clock)) (i .holdback) (batchEntries (i .batch)) (i .verdicts)

@@ -22,14 +22,14 @@ use Rattle.model.specs.Holdback.{heldBytes, held, notEarly, soundHoldback, enco
 use Rattle.model.specs.Question.{askSetup, firstNo}
 use Rattle.model.specs.Codec.{askPayload}
 use Rattle.model.specs.Judge.{Heard, hear, hearOne, judgeQuestions, absorbBy, absorbAll}
-use Rattle.model.specs.Tick.{Input, Output, holdbackSize, roomy, callQuestions, tablesSound, stepOf, leastDue, openingStamp, openedQueue, earlyOf, opening, heardOf, heardStamp, newStamp, sentBytes, takenCount, deliveredOf, keptOf, acceptance, refusal, tickBy, tick}
+use Rattle.model.specs.Tick.{Input, Output, holdbackSize, roomy, callQuestions, tablesSound, stepOf, leastDue, openingStamp, openedQueue, overdueOf, opening, heardOf, heardStamp, newStamp, sentBytes, takenCount, deliveredOf, keptOf, acceptance, refusal, tickBy, tick}
 use Rattle.lemmas.proofs.Bounds.{Limits, Sound, Opened, FrameOk, QueueOk}
 use Rattle.lemmas.proofs.Questions.{first-yes, other-yes, setup-from}
 use Rattle.lemmas.proofs.Counts.{Left, clock-steps, tables-step, beside-clock, beside-left, left-tables, opened-step, opened-replaced, opened-absorb, own-left, trimmed-wide, trimmed-widened}
 use Rattle.lemmas.proofs.Reading.{near-high}
 use Rattle.lemmas.proofs.Queue.{Passed, judged-passed, judged-counts, QueueLeft}
 use Rattle.lemmas.proofs.Hearing.{fold-stamp}
-use Rattle.lemmas.proofs.Board.{numbersOf, hear-verdicts, step-later, Board, board-opened, board-heard, board-kept, board-held, board-size, board-sound, board-frames, board-sorted, board-fewest, board-few, board-small, board-bytes, board-verdict, board-front}
+use Rattle.lemmas.proofs.Receiving.{numbersOf, hear-verdicts, step-later, Receiving, receive-opened, receive-heard, receive-kept, receive-held, receive-size, receive-sound, receive-frames, receive-sorted, receive-fewest, receive-few, receive-small, receive-bytes, receive-verdict, receive-front}
 
 -- the tick by the number of the first question that gets a no
 pub tick-by : (i : Input) (k : ℕ) → firstNo (callQuestions i) ≡ k → tick i ≡ tickBy k i
@@ -161,8 +161,8 @@ absorbing-all s v h t entries lim hg =
     (λ queue bytes u p. absorbing-one s v queue u bytes lim p) h t entries hg
 
 -- the half that goes on the queue: what the call shares with an observer's
-pub tick-board : (i : Input) → Accepted i → Board (i .setup) (i .clock) (leastDue (i .setup) (i .clock) (i .tables)) (judgeQuestions (i .setup) (i .clock))
-tick-board i a =
+pub tick-receiving : (i : Input) → Accepted i → Receiving (i .setup) (i .clock) (leastDue (i .setup) (i .clock) (i .tables)) (judgeQuestions (i .setup) (i .clock))
+tick-receiving i a =
     record {
       limits = a .limits;
       below = a .clock-below;
@@ -174,12 +174,12 @@ tick-board i a =
 pub opened-ok : (i : Input) → Accepted i → QueueOk (i .setup) (i .clock) (leastDue (i .setup) (i .clock) (i .tables)) (openedQueue i)
 unfolding openedQueue
 opened-ok i a =
-    board-opened (i .setup) (i .clock) (leastDue (i .setup) (i .clock) (i .tables)) (judgeQuestions (i .setup) (i .clock)) (i .holdback) (batchEntries (i .batch)) (tick-board i a)
+    receive-opened (i .setup) (i .clock) (leastDue (i .setup) (i .clock) (i .tables)) (judgeQuestions (i .setup) (i .clock)) (i .holdback) (batchEntries (i .batch)) (tick-receiving i a)
 
 pub hearing-end : (i : Input) → Accepted i → QueueOk (i .setup) (i .clock) (i .setup .modulus) (heardOf i .queue)
 unfolding heardOf openedQueue
 hearing-end i a =
-    board-heard (i .setup) (i .clock) (leastDue (i .setup) (i .clock) (i .tables)) (judgeQuestions (i .setup) (i .clock)) (i .holdback) (batchEntries (i .batch)) (tick-board i a)
+    receive-heard (i .setup) (i .clock) (leastDue (i .setup) (i .clock) (i .tables)) (judgeQuestions (i .setup) (i .clock)) (i .holdback) (batchEntries (i .batch)) (tick-receiving i a)
 
 pub heard-verdicts : (i : Input) → heardOf i .verdicts ≡ numbersOf (i .setup) (i .clock) (judgeQuestions (i .setup) (i .clock)) (opening i) (batchEntries (i .batch))
 unfolding heardOf
@@ -214,7 +214,7 @@ new-tables i k a pos few =
 pub kept-left : (i : Input) → Accepted i → QueueLeft (i .setup) (i .clock) 0 (keptOf i)
 unfolding keptOf heardOf openedQueue
 kept-left i a =
-    board-kept (i .setup) (i .clock) (leastDue (i .setup) (i .clock) (i .tables)) (judgeQuestions (i .setup) (i .clock)) (i .holdback) (batchEntries (i .batch)) (tick-board i a)
+    receive-kept (i .setup) (i .clock) (leastDue (i .setup) (i .clock) (i .tables)) (judgeQuestions (i .setup) (i .clock)) (i .holdback) (batchEntries (i .batch)) (tick-receiving i a)
 
 -- the answer's tables and buffers, of an accepted call
 pub tables-are : (i : Input) → Accepted i → tick i .answer .tables ≡ widened (newStamp i)
@@ -257,56 +257,56 @@ pub kept-held : (i : Input) → Accepted i → held (i .setup .epsilon) (tick i 
 unfolding keptOf heardOf openedQueue
 kept-held i a =
     ap (held (i .setup .epsilon)) (holdback-is i a)
-    ∙ board-held (i .setup) (i .clock) (leastDue (i .setup) (i .clock) (i .tables)) (judgeQuestions (i .setup) (i .clock)) (i .holdback) (batchEntries (i .batch)) (tick-board i a)
+    ∙ receive-held (i .setup) (i .clock) (leastDue (i .setup) (i .clock) (i .tables)) (judgeQuestions (i .setup) (i .clock)) (i .holdback) (batchEntries (i .batch)) (tick-receiving i a)
 
 -- and its length
-pub shelf-size : (i : Input) → Accepted i → length (tick i .holdback) ≡ holdbackSize (i .setup)
+pub holdback-sized : (i : Input) → Accepted i → length (tick i .holdback) ≡ holdbackSize (i .setup)
 unfolding keptOf heardOf openedQueue
-shelf-size i a =
+holdback-sized i a =
     ap length (holdback-is i a)
-    ∙ board-size (i .setup) (i .clock) (leastDue (i .setup) (i .clock) (i .tables)) (judgeQuestions (i .setup) (i .clock)) (i .holdback) (batchEntries (i .batch)) (tick-board i a)
+    ∙ receive-size (i .setup) (i .clock) (leastDue (i .setup) (i .clock) (i .tables)) (judgeQuestions (i .setup) (i .clock)) (i .holdback) (batchEntries (i .batch)) (tick-receiving i a)
 
 -- the shelf that a tick leaves is sound for every next clock 1 to ε ahead, each frame due after the tick's own
-pub shelf-sound : (i : Input) (k : ℕ) → Accepted i → k ≤ i .setup .epsilon → soundHoldback (i .setup) ((i .clock + k) % i .setup .modulus) (i .setup .modulus + 1 - k) (tick i .holdback) ≡ true
+pub holdback-stays : (i : Input) (k : ℕ) → Accepted i → k ≤ i .setup .epsilon → soundHoldback (i .setup) ((i .clock + k) % i .setup .modulus) (i .setup .modulus + 1 - k) (tick i .holdback) ≡ true
 unfolding keptOf heardOf openedQueue
-shelf-sound i k a few =
+holdback-stays i k a few =
     ap (λ (x : List ℕ). soundHoldback (i .setup) ((i .clock + k) % i .setup .modulus) (i .setup .modulus + 1 - k) x) (holdback-is i a)
-    ∙ board-sound (i .setup) (i .clock) (leastDue (i .setup) (i .clock) (i .tables)) (judgeQuestions (i .setup) (i .clock)) (i .holdback) (batchEntries (i .batch)) (tick-board i a) k few
+    ∙ receive-sound (i .setup) (i .clock) (leastDue (i .setup) (i .clock) (i .tables)) (judgeQuestions (i .setup) (i .clock)) (i .holdback) (batchEntries (i .batch)) (tick-receiving i a) k few
 
 -- what it wrote
 pub delivered-frames : (i : Input) → Accepted i → (f : Frame) → List·Memᴰ f (deliveredOf i) → FrameOk (i .setup) f
-unfolding deliveredOf earlyOf heardOf openedQueue
+unfolding deliveredOf overdueOf heardOf openedQueue
 delivered-frames i a =
-    board-frames (i .setup) (i .clock) (leastDue (i .setup) (i .clock) (i .tables)) (judgeQuestions (i .setup) (i .clock)) (i .holdback) (batchEntries (i .batch)) (tick-board i a)
+    receive-frames (i .setup) (i .clock) (leastDue (i .setup) (i .clock) (i .tables)) (judgeQuestions (i .setup) (i .clock)) (i .holdback) (batchEntries (i .batch)) (tick-receiving i a)
 
 -- it is in order
 pub delivered-sorted : (i : Input) → Accepted i → Sorted (keyNear (i .setup) (i .clock)) (deliveredOf i)
-unfolding deliveredOf earlyOf heardOf openedQueue
+unfolding deliveredOf overdueOf heardOf openedQueue
 delivered-sorted i a =
-    board-sorted (i .setup) (i .clock) (leastDue (i .setup) (i .clock) (i .tables)) (judgeQuestions (i .setup) (i .clock)) (i .holdback) (batchEntries (i .batch)) (tick-board i a)
+    receive-sorted (i .setup) (i .clock) (leastDue (i .setup) (i .clock) (i .tables)) (judgeQuestions (i .setup) (i .clock)) (i .holdback) (batchEntries (i .batch)) (tick-receiving i a)
 
 -- n(3ε − 2) frames at most
 pub delivered-fewest : (i : Input) → Accepted i → length (deliveredOf i) ≤ i .setup .n * (2 * i .setup .epsilon - 2) + i .setup .n * i .setup .epsilon
-unfolding deliveredOf earlyOf heardOf openedQueue
+unfolding deliveredOf overdueOf heardOf openedQueue
 delivered-fewest i a =
-    board-fewest (i .setup) (i .clock) (leastDue (i .setup) (i .clock) (i .tables)) (judgeQuestions (i .setup) (i .clock)) (i .holdback) (batchEntries (i .batch)) (tick-board i a)
+    receive-fewest (i .setup) (i .clock) (leastDue (i .setup) (i .clock) (i .tables)) (judgeQuestions (i .setup) (i .clock)) (i .holdback) (batchEntries (i .batch)) (tick-receiving i a)
 
 -- so a hand-out always has room
 pub delivered-few : (i : Input) → Accepted i → length (deliveredOf i) ≤ depth (i .setup .n) (i .setup .epsilon) (i .setup .delta)
-unfolding deliveredOf earlyOf heardOf openedQueue
+unfolding deliveredOf overdueOf heardOf openedQueue
 delivered-few i a =
-    board-few (i .setup) (i .clock) (leastDue (i .setup) (i .clock) (i .tables)) (judgeQuestions (i .setup) (i .clock)) (i .holdback) (batchEntries (i .batch)) (tick-board i a)
+    receive-few (i .setup) (i .clock) (leastDue (i .setup) (i .clock) (i .tables)) (judgeQuestions (i .setup) (i .clock)) (i .holdback) (batchEntries (i .batch)) (tick-receiving i a)
 
 pub delivered-most : (i : Input) → Accepted i → length (deliveredOf i) < 65536
-unfolding deliveredOf earlyOf heardOf openedQueue
+unfolding deliveredOf overdueOf heardOf openedQueue
 delivered-most i a =
-    board-small (i .setup) (i .clock) (leastDue (i .setup) (i .clock) (i .tables)) (judgeQuestions (i .setup) (i .clock)) (i .holdback) (batchEntries (i .batch)) (tick-board i a)
+    receive-small (i .setup) (i .clock) (leastDue (i .setup) (i .clock) (i .tables)) (judgeQuestions (i .setup) (i .clock)) (i .holdback) (batchEntries (i .batch)) (tick-receiving i a)
 
 pub delivered-bytes : (i : Input) → Accepted i → heldBytes (i .setup .epsilon) (tick i .delivery) ≡ map encode (deliveredOf i)
-unfolding deliveredOf earlyOf heardOf openedQueue
+unfolding deliveredOf overdueOf heardOf openedQueue
 delivered-bytes i a =
     ap (heldBytes (i .setup .epsilon)) (delivery-is i a)
-    ∙ board-bytes (i .setup) (i .clock) (leastDue (i .setup) (i .clock) (i .tables)) (judgeQuestions (i .setup) (i .clock)) (i .holdback) (batchEntries (i .batch)) (tick-board i a) (i .delivery)
+    ∙ receive-bytes (i .setup) (i .clock) (leastDue (i .setup) (i .clock) (i .tables)) (judgeQuestions (i .setup) (i .clock)) (i .holdback) (batchEntries (i .batch)) (tick-receiving i a) (i .delivery)
 
 pub sent-bytes : (i : Input) → Accepted i → take (tick i .answer .sent) (tick i .outgoing) ≡ sentBytes i
 sent-bytes i a = rw (sent-is i a, outgoing-is i a) (take-overlay (sentBytes i) (i .outgoing))
@@ -320,11 +320,11 @@ pub verdict-byte : (i : Input) → Accepted i → (k : ℕ) (entry : List ℕ) �
 unfolding heardOf openedQueue
 verdict-byte i a k entry e =
     ap (λ (l : List ℕ). getD l k 0) (verdicts-are i a)
-    ∙ board-verdict (i .setup) (i .clock) (leastDue (i .setup) (i .clock) (i .tables)) (judgeQuestions (i .setup) (i .clock)) (i .holdback) (batchEntries (i .batch)) (i .verdicts) k entry e
+    ∙ receive-verdict (i .setup) (i .clock) (leastDue (i .setup) (i .clock) (i .tables)) (judgeQuestions (i .setup) (i .clock)) (i .holdback) (batchEntries (i .batch)) (i .verdicts) k entry e
 
 -- the verdicts stand at the front of their buffer
 pub verdicts-front : (i : Input) → Accepted i → take (length (batchEntries (i .batch))) (tick i .verdicts) ≡ heardOf i .verdicts
 unfolding heardOf openedQueue
 verdicts-front i a =
     ap (take (length (batchEntries (i .batch)))) (verdicts-are i a)
-    ∙ board-front (i .setup) (i .clock) (leastDue (i .setup) (i .clock) (i .tables)) (judgeQuestions (i .setup) (i .clock)) (i .holdback) (batchEntries (i .batch)) (i .verdicts)
+    ∙ receive-front (i .setup) (i .clock) (leastDue (i .setup) (i .clock) (i .tables)) (judgeQuestions (i .setup) (i .clock)) (i .holdback) (batchEntries (i .batch)) (i .verdicts)

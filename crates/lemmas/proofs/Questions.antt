@@ -69,8 +69,8 @@ front-append (q ∷ qs) rs e = go (q .holds) (λ f. front-append qs rs f) e
     go false rest f = f
 
 -- questions 2 and 3
-pub shelf-passed : (s : Setup) (v : ℕ) (holdback : List ℕ) → firstNo (holdbackQuestions s v holdback) ≡ 0 → (v < s .modulus) × (length holdback ≡ holdbackSize s)
-shelf-passed s v holdback e =
+pub holdback-passed : (s : Setup) (v : ℕ) (holdback : List ℕ) → firstNo (holdbackQuestions s v holdback) ≡ 0 → (v < s .modulus) × (length holdback ≡ holdbackSize s)
+holdback-passed s v holdback e =
     let e₂ = other-yes (ltb v (s .modulus)) 1 _ e in (
       ltb-true v (s .modulus) (first-yes (ltb v (s .modulus)) 1 _ e),
       eqb-true (length holdback) (holdbackSize s) (first-yes (eqb (length holdback) (holdbackSize s)) 2 _ e₂),

@@ -21,14 +21,14 @@ use Rattle.model.specs.Setup.{Setup, width, depth}
 use Rattle.model.specs.Timestamp.{sum, countsFrom, atMost}
 use Rattle.model.specs.Frame.{Frame, encode, decode, twoAt}
 use Rattle.model.specs.Order.{readingOf, countsDown, keyBy, key, keyNear, compareFrames, before, due, dueNear}
-use Rattle.model.specs.Holdback.{sameOrigin, passes, notEarlyAt, notEarly, notOverdue, heldBytes, held, soundHoldback, encodeFrames, encodeHoldback}
+use Rattle.model.specs.Holdback.{sameOrigin, passes, notEarlyAt, notEarly, notExpired, heldBytes, held, soundHoldback, encodeFrames, encodeHoldback}
 use Rattle.model.specs.Question.{Question, ask, firstNo}
 use Rattle.model.specs.Judge.{Asking, askLateAt, askLate, askEarly, askCounts, askRepeat, placeQuestions, judgeQuestions, observerPlaceQuestions, observerQuestions, placeFor}
 use Rattle.model.specs.Tick.{openingQueue, dueBefore, dueNow, holdbackSize}
 use Rattle.lemmas.proofs.Bounds.{Limits, FrameOk, QueueOk}
 use Rattle.lemmas.proofs.Reading.{near-true, near-high, near-later, near-injective}
 use Rattle.lemmas.proofs.Counts.{length-down}
-use Rattle.lemmas.proofs.RoundTrip.{decode-encode, none-no, frame-passes, frame-passed, passes-encode, passes-decode, length-held, held-encode, held-frames}
+use Rattle.lemmas.proofs.RoundTrip.{none-no, frame-passed, passes-encode, passes-decode, length-held, held-encode, held-frames}
 
 -- the tests of a frame's time, as facts
 pub early-from : (s : Setup) (v : ℕ) (f : Frame) → notEarly s v f ≡ true → readingOf s v f + f .stamp .c ≤ s .modulus + (s .epsilon - 1)
@@ -39,13 +39,13 @@ pub early-to : (s : Setup) (v : ℕ) (f : Frame) → readingOf s v f + f .stamp 
 unfolding notEarly sum
 early-to s v f h = le-leb (readingOf s v f + f .stamp .c) (s .modulus + (s .epsilon - 1)) h
 
-pub overdue-from : (s : Setup) (v least : ℕ) (f : Frame) → notOverdue s v least f ≡ true → least ≤ readingOf s v f + f .stamp .c + s .delta + s .epsilon
-unfolding notOverdue dueNear due sum
-overdue-from s v least f h = leb-true least (readingOf s v f + f .stamp .c + s .delta + s .epsilon) h
+pub expired-from : (s : Setup) (v least : ℕ) (f : Frame) → notExpired s v least f ≡ true → least ≤ readingOf s v f + f .stamp .c + s .delta + s .epsilon
+unfolding notExpired dueNear due sum
+expired-from s v least f h = leb-true least (readingOf s v f + f .stamp .c + s .delta + s .epsilon) h
 
-pub overdue-to : (s : Setup) (v least : ℕ) (f : Frame) → least ≤ readingOf s v f + f .stamp .c + s .delta + s .epsilon → notOverdue s v least f ≡ true
-unfolding notOverdue dueNear due sum
-overdue-to s v least f h = le-leb least (readingOf s v f + f .stamp .c + s .delta + s .epsilon) h
+pub expired-to : (s : Setup) (v least : ℕ) (f : Frame) → least ≤ readingOf s v f + f .stamp .c + s .delta + s .epsilon → notExpired s v least f ≡ true
+unfolding notExpired dueNear due sum
+expired-to s v least f h = le-leb least (readingOf s v f + f .stamp .c + s .delta + s .epsilon) h
 
 -- a frame that is due at no moment but later
 pub not-due : (s : Setup) (v : ℕ) (f : Frame) → not (dueNow s v f) ≡ true → readingOf s v f + f .stamp .c + s .delta + s .epsilon ≡ s .modulus → ⊥
@@ -84,9 +84,9 @@ pub record InWindow (s : Setup) (v least : ℕ) (f : Frame) : Type 0 where
   pub low : least < readingOf s v f + (s .delta + 2 * s .epsilon)
   pub high : readingOf s v f < s .modulus + s .epsilon
 
-pub in-window : (s : Setup) (v least : ℕ) (f : Frame) → Limits s → FrameOk s f → notOverdue s v least f ≡ true → InWindow s v least f
+pub in-window : (s : Setup) (v least : ℕ) (f : Frame) → Limits s → FrameOk s f → notExpired s v least f ≡ true → InWindow s v least f
 in-window s v least f limits ok h =
-    let o = overdue-from s v least f h in
+    let o = expired-from s v least f h in
     let c = ok .sound .close in
     record { low = omega arith; high = reading-high s v f limits }
 
@@ -149,61 +149,6 @@ observed-passed s v queue bytes limits e =
     let t = passed-times s v f (askRepeat queue f ∷ []) (q .1) in
     record { frame = q .0; late = t .0; early = t .1; new = passed-new queue f [] (t .2) }
 
--- and the other way round
-pub passed-judged :
-    (s : Setup) (v : ℕ) (queue : List Frame) (f : Frame) → Passed s v queue f
-    → atMost (s .n - 1) (countsFrom (s .epsilon) (readingOf s v f) (f .stamp .kn) (s .modulus)) ≡ true
-    → firstNo (judgeQuestions s v queue (encode f)) ≡ 0
-unfolding judgeQuestions placeQuestions askLate askEarly askCounts askRepeat firstNo
-passed-judged s v queue f p counts =
-    let d = decode-encode (s .epsilon) f (p .frame .sound .wide) in
-    rw (
-      frame-passes s f (placeQuestions s v queue (decode (s .epsilon) (encode f))) (p .frame),
-      d,
-      le-leb (s .modulus) (readingOf s v f + (s .delta + s .epsilon)) (p .late),
-      p .early,
-      counts,
-      p .new,
-    )
-
-pub passed-observed : (s : Setup) (v : ℕ) (queue : List Frame) (f : Frame) → Passed s v queue f → firstNo (observerQuestions s v queue (encode f)) ≡ 0
-unfolding observerQuestions observerPlaceQuestions askLate askEarly askRepeat firstNo
-passed-observed s v queue f p =
-    let d = decode-encode (s .epsilon) f (p .frame .sound .wide) in
-    rw (
-      frame-passes s f (observerPlaceQuestions s v queue (decode (s .epsilon) (encode f))) (p .frame),
-      d,
-      le-leb (s .modulus) (readingOf s v f + (s .delta + s .epsilon)) (p .late),
-      p .early,
-      p .new,
-    )
-
--- a frame that passes all but 16
-pub repeat-judged : (s : Setup) (v : ℕ) (queue : List Frame) (f : Frame) → FrameOk s f → s .modulus ≤ readingOf s v f + (s .delta + s .epsilon) → notEarly s v f ≡ true → atMost (s .n - 1) (countsFrom (s .epsilon) (readingOf s v f) (f .stamp .kn) (s .modulus)) ≡ true → any (sameOrigin f) queue ≡ true → firstNo (judgeQuestions s v queue (encode f)) ≡ 16
-unfolding judgeQuestions placeQuestions askLate askEarly askCounts askRepeat firstNo
-repeat-judged s v queue f ok late early counts old =
-    let d = decode-encode (s .epsilon) f (ok .sound .wide) in
-    rw (
-      frame-passes s f (placeQuestions s v queue (decode (s .epsilon) (encode f))) ok,
-      d,
-      le-leb (s .modulus) (readingOf s v f + (s .delta + s .epsilon)) late,
-      early,
-      counts,
-      old,
-    )
-
-pub repeat-observed : (s : Setup) (v : ℕ) (queue : List Frame) (f : Frame) → FrameOk s f → s .modulus ≤ readingOf s v f + (s .delta + s .epsilon) → notEarly s v f ≡ true → any (sameOrigin f) queue ≡ true → firstNo (observerQuestions s v queue (encode f)) ≡ 16
-unfolding observerQuestions observerPlaceQuestions askLate askEarly askRepeat firstNo
-repeat-observed s v queue f ok late early old =
-    let d = decode-encode (s .epsilon) f (ok .sound .wide) in
-    rw (
-      frame-passes s f (observerPlaceQuestions s v queue (decode (s .epsilon) (encode f))) ok,
-      d,
-      le-leb (s .modulus) (readingOf s v f + (s .delta + s .epsilon)) late,
-      early,
-      old,
-    )
-
 -- the order of a queue is that of its keys
 ordered-sorted : (s : Setup) (v : ℕ) (queue : List Frame) → chained (before s v) queue ≡ true → Sorted (keyNear s v) queue
 unfolding before compareFrames
@@ -247,7 +192,7 @@ key-near-origin s v f g limits below okf okg e =
 pub queue-none : (s : Setup) (v least : ℕ) → QueueOk s v least []
 unfolding chained apart every
 queue-none s v least =
-    record { frames = λ f m. absurd (List·Memᴰ·not-nil m); ordered = refl; single = refl; early = refl; overdue = refl }
+    record { frames = λ f m. absurd (List·Memᴰ·not-nil m); ordered = refl; single = refl; early = refl; expired = refl }
 
 -- the test of a queue's bytes, as facts
 pub sound-queue : (s : Setup) (v least : ℕ) (bytes : List ℕ) → Limits s → soundHoldback s v least bytes ≡ true → QueueOk s v least (held (s .epsilon) bytes)
@@ -263,7 +208,7 @@ sound-queue s v least bytes limits h =
       ordered = and-left _ _ h₂;
       single = and-left _ _ h₃;
       early = and-left _ _ h₄;
-      overdue = and-right (every (notEarly s v) queue) _ h₄;
+      expired = and-right (every (notEarly s v) queue) _ h₄;
     }
   where
     one : (f : Frame) → (a : List ℕ) × List·Memᴰ a (heldBytes (s .epsilon) bytes) × (decode (s .epsilon) a ≡ f) → every (passes s) (heldBytes (s .epsilon) bytes) ≡ true → FrameOk s f
@@ -287,9 +232,9 @@ queue-part s v least least′ p queue ok h =
       ordered = sorted-ordered s v (select p queue) (sorted-select (keyNear s v) p queue (ordered-sorted s v queue (ok .ordered)));
       single = apart-select sameOrigin p queue (ok .single);
       early = every-of-mem (notEarly s v) (select p queue) (λ f m. every-mem (notEarly s v) (ok .early) (mem-of-select p queue m .0));
-      overdue =
-          every-of-mem (notOverdue s v least′) (select p queue)
-          (λ f m. overdue-to s v least′ f (h f (mem-of-select p queue m .0) (mem-of-select p queue m .1)));
+      expired =
+          every-of-mem (notExpired s v least′) (select p queue)
+          (λ f m. expired-to s v least′ f (h f (mem-of-select p queue m .0) (mem-of-select p queue m .1)));
     }
 
 -- 02, 2.2: without what is due before v no due clock is before v
@@ -308,7 +253,7 @@ queue-take s v queue f limits below ok p =
           (sorted-insert (keyNear s v) f queue (ordered-sorted s v queue (ok .ordered)) other);
       single = apart-insertAt sameOrigin origin-sym at f queue (p .new) (ok .single);
       early = every-insertAt (notEarly s v) at f queue ∙ and-intro (p .early) (ok .early);
-      overdue = every-insertAt (notOverdue s v (s .modulus)) at f queue ∙ and-intro (overdue-to s v (s .modulus) f (omega arith)) (ok .overdue);
+      expired = every-insertAt (notExpired s v (s .modulus)) at f queue ∙ and-intro (expired-to s v (s .modulus) f (omega arith)) (ok .expired);
     }
   where
     one : (g : Frame) → (g ≡ f) ⊎ List·Memᴰ g queue → FrameOk s g
@@ -320,7 +265,7 @@ queue-take s v queue f limits below ok p =
 
 -- where the readings of a sound queue's frames lie
 pub queue-window : (s : Setup) (v least : ℕ) (queue : List Frame) → Limits s → QueueOk s v least queue → (f : Frame) → List·Memᴰ f queue → InWindow s v least f
-queue-window s v least queue limits ok f m = in-window s v least f limits (ok .frames f m) (every-mem (notOverdue s v least) (ok .overdue) m)
+queue-window s v least queue limits ok f m = in-window s v least f limits (ok .frames f m) (every-mem (notExpired s v least) (ok .expired) m)
 
 -- frames of a sound queue whose readings are among m from lo on: n m at most
 pub part-few :
@@ -346,12 +291,12 @@ queue-room s v least queue limits below late ok =
     pred-suc d e h = omega arith
 
 -- 02, 2.2: few are due before v, after a last clock at most ε before it, and few at v
-pub early-few :
+pub overdue-few :
     (s : Setup) (v least : ℕ) (queue : List Frame) → Limits s → v < s .modulus → s .modulus + 1 ≤ least + s .epsilon → QueueOk s v least queue
     → length (select (dueBefore s v) queue) ≤ s .n * (2 * s .epsilon - 2)
-early-few s v least queue limits below few ok =
+overdue-few s v least queue limits below few ok =
     part-few s v least (select (dueBefore s v) queue) (s .modulus + 2 - (s .delta + 3 * s .epsilon)) (2 * s .epsilon - 2) limits below
-    (queue-part s v least least (dueBefore s v) queue ok (λ f m e. overdue-from s v least f (every-mem (notOverdue s v least) (ok .overdue) m)))
+    (queue-part s v least least (dueBefore s v) queue ok (λ f m e. expired-from s v least f (every-mem (notExpired s v least) (ok .expired) m)))
     (λ f m. omega (arith, queue-window s v least queue limits ok f (mem-of-select (dueBefore s v) queue m .0) .low))
     (λ f m.
     omega (
@@ -366,7 +311,7 @@ pub due-few :
     → length (select (dueNow s v) queue) ≤ s .n * s .epsilon
 due-few s v queue limits below ok =
     part-few s v (s .modulus) (select (dueNow s v) queue) (s .modulus + 1 - (s .delta + 2 * s .epsilon)) (s .epsilon) limits below
-    (queue-part s v (s .modulus) (s .modulus) (dueNow s v) queue ok (λ f m e. overdue-from s v (s .modulus) f (every-mem (notOverdue s v (s .modulus)) (ok .overdue) m)))
+    (queue-part s v (s .modulus) (s .modulus) (dueNow s v) queue ok (λ f m e. expired-from s v (s .modulus) f (every-mem (notExpired s v (s .modulus)) (ok .expired) m)))
     (λ f m. omega (arith, queue-window s v (s .modulus) queue limits ok f (mem-of-select (dueNow s v) queue m .0) .low))
     (λ f m. omega (arith, due-now s v f (mem-of-select (dueNow s v) queue m .1), limits .modulus-least))
 
@@ -417,21 +362,6 @@ pub record QueueLeft (s : Setup) (v k : ℕ) (queue : List Frame) : Type 0 where
   pub early : (f : Frame) → List·Memᴰ f queue → readingOf s v f + f .stamp .c + k ≤ s .modulus + (s .epsilon - 1)
   pub later : (f : Frame) → List·Memᴰ f queue → s .modulus < readingOf s v f + f .stamp .c + s .delta + s .epsilon + k
 
-pub left-none : (s : Setup) (v k : ℕ) → QueueLeft s v k []
-unfolding chained apart
-left-none s v k =
-    record {
-      frames = λ f m. absurd (List·Memᴰ·not-nil m);
-      ordered = refl;
-      single = refl;
-      early = λ f m. absurd (List·Memᴰ·not-nil m);
-      later = λ f m. absurd (List·Memᴰ·not-nil m);
-    }
-
-pub left-due : (s : Setup) (v k : ℕ) (queue : List Frame) → QueueLeft s v k queue → (f : Frame) → List·Memᴰ f queue → s .modulus < dueNear s v f + k
-unfolding dueNear due sum
-left-due s v k queue left f m = left .later f m
-
 -- what a tick leaves: the queue without what is due
 pub queue-left : (s : Setup) (v : ℕ) (queue : List Frame) → QueueOk s v (s .modulus) queue → QueueLeft s v 0 (select (λ f. not (dueNow s v f)) queue)
 queue-left s v queue ok =
@@ -441,7 +371,7 @@ queue-left s v queue ok =
       single = apart-select sameOrigin kept queue (ok .single);
       early = λ f m. let o = early-from s v f (every-mem (notEarly s v) (ok .early) (mem-of-select kept queue m .0)) in omega arith;
       later = λ f m.
-          let o = overdue-from s v (s .modulus) f (every-mem (notOverdue s v (s .modulus)) (ok .overdue) (mem-of-select kept queue m .0)) in
+          let o = expired-from s v (s .modulus) f (every-mem (notExpired s v (s .modulus)) (ok .expired) (mem-of-select kept queue m .0)) in
           omega (arith, not-due s v f (mem-of-select kept queue m .1));
     }
   where
@@ -486,7 +416,7 @@ left-ok s v k queue left =
       ordered = left .ordered;
       single = left .single;
       early = every-of-mem (notEarly s v) queue (λ f m. early-to s v f (omega (arith, left .early f m)));
-      overdue = every-of-mem (notOverdue s v (s .modulus + 1 - k)) queue (λ f m. overdue-to s v (s .modulus + 1 - k) f (omega (arith, left .later f m)));
+      expired = every-of-mem (notExpired s v (s .modulus + 1 - k)) queue (λ f m. expired-to s v (s .modulus + 1 - k) f (omega (arith, left .later f m)));
     }
 
 -- what a tick leaves is never full
@@ -505,12 +435,7 @@ pub bytes-sound : (s : Setup) (v least : ℕ) (bytes : List ℕ) → length (hel
 unfolding soundHoldback
 bytes-sound s v least bytes few passed ok =
     and-intro (le-leb (twoAt bytes 0) (depth (s .n) (s .epsilon) (s .delta)) (omega (arith, length-held (s .epsilon) bytes, few)))
-    (and-intro passed (and-intro (ok .ordered) (and-intro (ok .single) (and-intro (ok .early) (ok .overdue)))))
-
-pub bytes-passed : (s : Setup) (v least : ℕ) (bytes : List ℕ) → soundHoldback s v least bytes ≡ true → every (passes s) (heldBytes (s .epsilon) bytes) ≡ true
-unfolding soundHoldback
-bytes-passed s v least bytes h =
-    and-left (every (passes s) (heldBytes (s .epsilon) bytes)) _ (and-right (leb (twoAt bytes 0) (depth (s .n) (s .epsilon) (s .delta))) _ h)
+    (and-intro passed (and-intro (ok .ordered) (and-intro (ok .single) (and-intro (ok .early) (ok .expired)))))
 
 -- the frames of a queue in a buffer, with anything behind them
 pub frames-sound : (s : Setup) (v least : ℕ) (queue : List Frame) (rest : List ℕ) → Limits s → length queue ≤ depth (s .n) (s .epsilon) (s .delta) → QueueOk s v least queue → soundHoldback s v least (encodeFrames queue ++ rest) ≡ true

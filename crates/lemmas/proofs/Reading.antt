@@ -34,14 +34,14 @@ near-behind epsilon B v r e b h =
 
 -- a clock u ahead is read at B + u, one further ahead at u
 data Reads (epsilon B u reading : ℕ) : Type 0 where
-  early : u < epsilon → reading ≡ B + u → Reads epsilon B u reading
-  late : epsilon ≤ u → reading ≡ u → Reads epsilon B u reading
+  read-ahead : u < epsilon → reading ≡ B + u → Reads epsilon B u reading
+  read-behind : epsilon ≤ u → reading ≡ u → Reads epsilon B u reading
 
 near-reads : (epsilon B v r : ℕ) → 1 ≤ epsilon → 0 < B → Reads epsilon B (ahead B v r) (near epsilon B v r)
 near-reads epsilon B v r e b =
     elim (lt-or-ge (ahead B v r) epsilon) [
-      | inl h ↦ early h (near-ahead epsilon B v r e h)
-      | inr h ↦ late h (near-behind epsilon B v r e b h)
+      | inl h ↦ read-ahead h (near-ahead epsilon B v r e h)
+      | inr h ↦ read-behind h (near-behind epsilon B v r e b h)
     ]
 
 -- every reading lies below B + epsilon
@@ -49,16 +49,16 @@ pub near-high : (epsilon B v r : ℕ) → 1 ≤ epsilon → epsilon < B → near
 near-high epsilon B v r e b = go (near-reads epsilon B v r e (omega arith)) (ahead-below B v r (omega arith))
   where
     go : Reads epsilon B (ahead B v r) (near epsilon B v r) → ahead B v r < B → near epsilon B v r < B + epsilon
-    go (early h q) m = omega arith
-    go (late h q) m = omega arith
+    go (read-ahead h q) m = omega arith
+    go (read-behind h q) m = omega arith
 
 -- and none below epsilon
 pub near-low : (epsilon B v r : ℕ) → 1 ≤ epsilon → epsilon < B → epsilon ≤ near epsilon B v r
 near-low epsilon B v r e b = go (near-reads epsilon B v r e (omega arith))
   where
     go : Reads epsilon B (ahead B v r) (near epsilon B v r) → epsilon ≤ near epsilon B v r
-    go (early h q) = omega arith
-    go (late h q) = omega arith
+    go (read-ahead h q) = omega arith
+    go (read-behind h q) = omega arith
 
 -- the reading of a true clock R near a true clock v, where R is less than ε ahead and at most B − ε behind
 pub near-true : (epsilon B v R : ℕ) → 1 ≤ epsilon → epsilon < B → R < v + epsilon → v + epsilon ≤ R + B → near epsilon B (v % B) (R % B) + v ≡ B + R
@@ -68,10 +68,10 @@ near-true epsilon B v R e b hi lo = go (near-reads epsilon B (v % B) (R % B) e (
     go :
         Reads epsilon B (ahead B (v % B) (R % B)) (near epsilon B (v % B) (R % B)) → (R < v) ⊎ (v ≤ R)
         → near epsilon B (v % B) (R % B) + v ≡ B + R
-    go (early h q) (inl k) = omega (arith, ahead-lt B v R k (omega arith))
-    go (early h q) (inr k) = omega (arith, ahead-ge B v R k (omega arith))
-    go (late h q) (inl k) = omega (arith, ahead-lt B v R k (omega arith))
-    go (late h q) (inr k) = omega (arith, ahead-ge B v R k (omega arith))
+    go (read-ahead h q) (inl k) = omega (arith, ahead-lt B v R k (omega arith))
+    go (read-ahead h q) (inr k) = omega (arith, ahead-ge B v R k (omega arith))
+    go (read-behind h q) (inl k) = omega (arith, ahead-lt B v R k (omega arith))
+    go (read-behind h q) (inr k) = omega (arith, ahead-ge B v R k (omega arith))
 
 -- one clock later the distance is one less, modulo B
 ahead-next : (B v r : ℕ) → 0 < B → (ahead B ((v + 1) % B) r + 1) % B ≡ ahead B (v % B) r
@@ -112,14 +112,14 @@ near-next epsilon B v r e b h l =
         → Reads epsilon B (ahead B ((v + 1) % B) r) (near epsilon B ((v + 1) % B) r)
         → (ahead B (v % B) r ≡ ahead B ((v + 1) % B) r + 1) ⊎ ((ahead B (v % B) r ≡ 0) × (ahead B ((v + 1) % B) r + 1 ≡ B))
         → near epsilon B ((v + 1) % B) r + 1 ≡ near epsilon B (v % B) r
-    go (early h q) (early h′ q′) (inl s) = omega arith
-    go (early h q) (early h′ q′) (inr s) = omega arith
-    go (early h q) (late h′ q′) (inl s) = omega arith
-    go (early h q) (late h′ q′) (inr s) = omega arith
-    go (late h q) (early h′ q′) (inl s) = omega arith
-    go (late h q) (early h′ q′) (inr s) = omega arith
-    go (late h q) (late h′ q′) (inl s) = omega arith
-    go (late h q) (late h′ q′) (inr s) = omega arith
+    go (read-ahead h q) (read-ahead h′ q′) (inl s) = omega arith
+    go (read-ahead h q) (read-ahead h′ q′) (inr s) = omega arith
+    go (read-ahead h q) (read-behind h′ q′) (inl s) = omega arith
+    go (read-ahead h q) (read-behind h′ q′) (inr s) = omega arith
+    go (read-behind h q) (read-ahead h′ q′) (inl s) = omega arith
+    go (read-behind h q) (read-ahead h′ q′) (inr s) = omega arith
+    go (read-behind h q) (read-behind h′ q′) (inl s) = omega arith
+    go (read-behind h q) (read-behind h′ q′) (inr s) = omega arith
 
 -- k clocks later every reading that is high enough is k less
 pub near-later : (epsilon B v k r : ℕ) → 1 ≤ epsilon → epsilon < B → r < B → epsilon + k ≤ near epsilon B (v % B) r → near epsilon B ((v + k) % B) r + k ≡ near epsilon B (v % B) r
@@ -149,7 +149,7 @@ near-injective epsilon B v r r′ e b hv hr hr′ equal =
     go :
         Reads epsilon B (ahead B v r) (near epsilon B v r) → Reads epsilon B (ahead B v r′) (near epsilon B v r′)
         → ahead B v r < B → ahead B v r′ < B → ahead B v r ≡ ahead B v r′
-    go (early h q) (early h′ q′) m m′ = omega arith
-    go (early h q) (late h′ q′) m m′ = omega arith
-    go (late h q) (early h′ q′) m m′ = omega arith
-    go (late h q) (late h′ q′) m m′ = omega arith
+    go (read-ahead h q) (read-ahead h′ q′) m m′ = omega arith
+    go (read-ahead h q) (read-behind h′ q′) m m′ = omega arith
+    go (read-behind h q) (read-ahead h′ q′) m m′ = omega arith
+    go (read-behind h q) (read-behind h′ q′) m m′ = omega arith

@@ -15,7 +15,7 @@ use Rattle.model.specs.Batch.{exactBatch, batchEntries}
 use Rattle.model.specs.Question.{firstNo}
 use Rattle.model.specs.Codec.{askPayload}
 use Rattle.model.specs.Holdback.{encodeHoldback}
-use Rattle.model.specs.Tick.{Input, Output, holdbackSize, stepOf, leastAt, boardRoomy}
+use Rattle.model.specs.Tick.{Input, Output, holdbackSize, stepOf, leastAt, deliveryRoomy}
 use Rattle.model.specs.Observer.{Listening, Listened}
 use Rattle.model.specs.Schedule.{Schedule, steady, widening, modulusOf, widestOf, Wider, widerSetup, bothInLimits, askBoth, askWider, changeNear, samePairs, along, ownLimits, tablesHalf}
 use Rattle.model.specs.Wider.{widerHeld, widerQuestions, widerObserverQuestions, widerStepOf, widerTables, widerTablesSound, widerLeast, widerOpened, widerHeard, widerNewStamp, widerKeptOf, sizedQuestions, widerCallQuestions, widerAcceptance, widerTickBy, tickIn}
@@ -26,7 +26,7 @@ use Rattle.lemmas.proofs.OneTick.{refusal-number}
 use Rattle.lemmas.proofs.OneListening.{not-listened-number}
 use Rattle.lemmas.proofs.Schedules.{Widens, Good, limits-good, limits-modulus}
 use Rattle.lemmas.proofs.WiderQueue.{LeftAlong, judged-along, observed-along}
-use Rattle.lemmas.proofs.WiderBoard.{BoardAlong, queue-kept, kept-held, kept-size}
+use Rattle.lemmas.proofs.WiderReceiving.{ReceivingAlong, queue-kept, kept-held, kept-size}
 
 -- ---- the setup
 
@@ -124,7 +124,7 @@ passes-both w i e =
       payload-short = leb-true (length (i .payload)) 32 (first-yes (leb (length (i .payload)) 32) 3 _ e₄);
       outgoing-room =
           leb-true (39 + 2 * size .epsilon) (length (i .outgoing))
-          (and-left _ _ (first-yes (leb (39 + 2 * size .epsilon) (length (i .outgoing)) && boardRoomy size (i .verdicts) (i .delivery)) 5 _ e₆));
+          (and-left _ _ (first-yes (leb (39 + 2 * size .epsilon) (length (i .outgoing)) && deliveryRoomy size (i .verdicts) (i .delivery)) 5 _ e₆));
       accepted = tick-in-by w i 0 e;
     }
 
@@ -132,11 +132,11 @@ pub accepted-in : (w : Wider) (i : Input) → tickIn w i .answer .number ≡ 0 �
 accepted-in w i h = passes-both w i (tick-in-passes w i h)
 
 -- the least due clock that a last clock at most ε before v allows lies less than ε before v
-least-any : (B most k : ℕ) (sound : Bool) → 1 ≤ most → most ≤ B → (sound ≡ true → k ≤ most) → B + 1 ≤ leastAt B sound k + most
+pub least-any : (B most k : ℕ) (sound : Bool) → 1 ≤ most → most ≤ B → (sound ≡ true → k ≤ most) → B + 1 ≤ leastAt B sound k + most
 least-any B most k true pos small few = omega (arith, few refl)
 least-any B most k false pos small few = omega arith
 
-own-small : (g : Schedule) → Good g → ownLimits g .epsilon ≤ modulusOf g
+pub own-small : (g : Schedule) → Good g → ownLimits g .epsilon ≤ modulusOf g
 own-small g good =
     let limits = limits-good g good (modulusOf g) in
     omega (arith, limits .modulus-least, limits-modulus g good (modulusOf g))
@@ -161,8 +161,8 @@ module _ (w : Wider) (i : Input) (a : AcceptedIn w i) where
   tick-along-good = along-good (i .setup) w (i .clock) (a .both)
 
   -- the half that goes on the queue
-  pub tick-board-along : BoardAlong tickAlong (i .clock) (widerLeast tickAlong (i .clock) (i .tables)) (widerQuestions tickAlong (i .clock))
-  tick-board-along =
+  pub tick-receiving-along : ReceivingAlong tickAlong (i .clock) (widerLeast tickAlong (i .clock) (i .tables)) (widerQuestions tickAlong (i .clock))
+  tick-receiving-along =
       record {
         good = tick-along-good;
         below = omega (arith, a .clock-below, along-modulus (i .setup) w (i .clock));
@@ -186,19 +186,19 @@ module _ (w : Wider) (i : Input) (a : AcceptedIn w i) where
   -- the frames of the shelf that it leaves, and its length
   pub kept-in : LeftAlong tickAlong (i .clock) (widerKeptOf tickAlong i)
   unfolding widerKeptOf widerHeard widerOpened
-  kept-in = queue-kept tickAlong (i .clock) (widerLeast tickAlong (i .clock) (i .tables)) (widerQuestions tickAlong (i .clock)) (i .holdback) (batchEntries (i .batch)) tick-board-along
+  kept-in = queue-kept tickAlong (i .clock) (widerLeast tickAlong (i .clock) (i .tables)) (widerQuestions tickAlong (i .clock)) (i .holdback) (batchEntries (i .batch)) tick-receiving-along
 
   pub held-in : widerHeld tickAlong (tickIn w i .holdback) ≡ widerKeptOf tickAlong i
   unfolding widerKeptOf widerHeard widerOpened
   held-in =
       ap (widerHeld tickAlong) holdback-in
-      ∙ kept-held tickAlong (i .clock) (widerLeast tickAlong (i .clock) (i .tables)) (widerQuestions tickAlong (i .clock)) (i .holdback) (batchEntries (i .batch)) tick-board-along
+      ∙ kept-held tickAlong (i .clock) (widerLeast tickAlong (i .clock) (i .tables)) (widerQuestions tickAlong (i .clock)) (i .holdback) (batchEntries (i .batch)) tick-receiving-along
 
   pub size-in : length (tickIn w i .holdback) ≡ holdbackSize (widestOf tickAlong)
   unfolding widerKeptOf widerHeard widerOpened
   size-in =
       ap length holdback-in
-      ∙ kept-size tickAlong (i .clock) (widerLeast tickAlong (i .clock) (i .tables)) (widerQuestions tickAlong (i .clock)) (i .holdback) (batchEntries (i .batch)) tick-board-along
+      ∙ kept-size tickAlong (i .clock) (widerLeast tickAlong (i .clock) (i .tables)) (widerQuestions tickAlong (i .clock)) (i .holdback) (batchEntries (i .batch)) tick-receiving-along
 
 -- ---- a listener's call
 
@@ -249,8 +249,8 @@ module _ (w : Wider) (i : Listening) (a : HeededIn w i) where
       (limits-good listenAlong listen-along-good (modulusOf listenAlong) .epsilon-pos) (own-small listenAlong listen-along-good)
       (λ sound. clock-steps (ownLimits listenAlong .epsilon) (modulusOf listenAlong) (i .clock) (i .last) sound .1)
 
-  pub listen-board-along : BoardAlong listenAlong (i .clock) (widerObserverLeast listenAlong i) (widerObserverQuestions listenAlong (i .clock))
-  listen-board-along =
+  pub listen-receiving-along : ReceivingAlong listenAlong (i .clock) (widerObserverLeast listenAlong i) (widerObserverQuestions listenAlong (i .clock))
+  listen-receiving-along =
       record {
         good = listen-along-good;
         below = omega (arith, a .clock-below, along-modulus (i .setup) w (i .clock));
@@ -274,16 +274,16 @@ module _ (w : Wider) (i : Listening) (a : HeededIn w i) where
   pub listened-kept-in : LeftAlong listenAlong (i .clock) (widerObserverKept listenAlong i)
   unfolding widerObserverKept widerObserverHeard widerObserverOpened
   listened-kept-in =
-      queue-kept listenAlong (i .clock) (widerObserverLeast listenAlong i) (widerObserverQuestions listenAlong (i .clock)) (i .holdback) (batchEntries (i .batch)) listen-board-along
+      queue-kept listenAlong (i .clock) (widerObserverLeast listenAlong i) (widerObserverQuestions listenAlong (i .clock)) (i .holdback) (batchEntries (i .batch)) listen-receiving-along
 
   pub listened-held-in : widerHeld listenAlong (listenIn w i .holdback) ≡ widerObserverKept listenAlong i
   unfolding widerObserverKept widerObserverHeard widerObserverOpened
   listened-held-in =
       ap (widerHeld listenAlong) listened-holdback-in
-      ∙ kept-held listenAlong (i .clock) (widerObserverLeast listenAlong i) (widerObserverQuestions listenAlong (i .clock)) (i .holdback) (batchEntries (i .batch)) listen-board-along
+      ∙ kept-held listenAlong (i .clock) (widerObserverLeast listenAlong i) (widerObserverQuestions listenAlong (i .clock)) (i .holdback) (batchEntries (i .batch)) listen-receiving-along
 
   pub listened-size-in : length (listenIn w i .holdback) ≡ holdbackSize (widestOf listenAlong)
   unfolding widerObserverKept widerObserverHeard widerObserverOpened
   listened-size-in =
       ap length listened-holdback-in
-      ∙ kept-size listenAlong (i .clock) (widerObserverLeast listenAlong i) (widerObserverQuestions listenAlong (i .clock)) (i .holdback) (batchEntries (i .batch)) listen-board-along
+      ∙ kept-size listenAlong (i .clock) (widerObserverLeast listenAlong i) (widerObserverQuestions listenAlong (i .clock)) (i .holdback) (batchEntries (i .batch)) listen-receiving-along

@@ -10,7 +10,7 @@ use mathlib.Core.List.{List, [], _∷_, _++_, List·Memᴰ, List·Memᴰ·not-ni
 use lib.Dec.{leb, ltb, eqb}
 use lib.ListN.{length, drop}
 use lib.Seq.{drop-at}
-use borrow.Author.Tests.{le-leb, leb-true, ltb-true, ltb-false, eqb-true, eqb-false}
+use borrow.Author.Tests.{le-leb, le-ltb, leb-true, ltb-true, ltb-false, eqb-true, eqb-false}
 use Rattle.laws.specs.Lists.{any, every, chained, apart, select, insertAt}
 use Rattle.laws.proofs.Numbers.{lt-or-ge, clash, and-intro, and-left, and-right, false-of-not}
 use Rattle.laws.proofs.Lists.{length-tab, every-mem, every-of-mem, every-map, every-insertAt, any-false, mem-of-insertAt, mem-of-select}
@@ -24,13 +24,13 @@ use Rattle.model.specs.Holdback.{sameOrigin, notEarly, encodeFrames}
 use Rattle.model.specs.Question.{Question, firstNo}
 use Rattle.model.specs.Judge.{Asking, askLate, askEarly, askRepeat}
 use Rattle.model.specs.Schedule.{Schedule, steady, widening, modulusOf, widestOf, ownLimits, dueAlong, comparedAlong}
-use Rattle.model.specs.Wider.{frameHalf, widerReading, widerDecode, countsDownBy, widerKey, widerKeyNear, widerBefore, widerDue, widerHeldBytes, widerHeld, widerPasses, widerNotOverdue, widerSoundHoldback, widerOpeningQueue, widerDueBefore, widerDueNow, notLateAlong, widerAskLate, widerAskCounts, widerFrameQuestions, widerPlaceQuestions, widerObserverPlaceQuestions, widerQuestions, widerObserverQuestions, widerPlace}
+use Rattle.model.specs.Wider.{frameHalf, widerReading, widerDecode, countsDownBy, widerKey, widerKeyNear, widerBefore, widerDue, widerHeldBytes, widerHeld, widerPasses, widerNotExpired, widerSoundHoldback, widerOpeningQueue, widerDueBefore, widerDueNow, notLateAlong, widerAskLate, widerAskCounts, widerFrameQuestions, widerPlaceQuestions, widerObserverPlaceQuestions, widerQuestions, widerObserverQuestions, widerPlace}
 use Rattle.lemmas.proofs.Bounds.{Limits}
 use Rattle.lemmas.proofs.Reading.{near-injective}
 use Rattle.lemmas.proofs.RoundTrip.{none-no}
 use Rattle.lemmas.proofs.Queue.{early-from, early-to, reading-high, origin-to, origin-sym, passed-new}
 use Rattle.lemmas.proofs.Schedules.{Good, limits-good, limits-modulus, limits-n, limits-widest, widest-good, widest-modulus, due-grows, due-window, Gap, due-gap}
-use Rattle.lemmas.proofs.WideFrames.{HasWidth, FrameWithin, within-passed, wide-passes, passes-wide, wide-held-bytes, wide-held, length-wide-held}
+use Rattle.lemmas.proofs.WideFrames.{HasWidth, FrameWithin, within-passes, within-passed, wide-decode, wide-passes, passes-wide, wide-held-bytes, wide-held, length-wide-held}
 
 -- a queue that is sound for the modular clock v, with the least due clock that is allowed
 pub record QueueAlong (g : Schedule) (v least : ℕ) (queue : List Frame) : Type 0 where
@@ -38,7 +38,7 @@ pub record QueueAlong (g : Schedule) (v least : ℕ) (queue : List Frame) : Type
   pub ordered : chained (widerBefore g v) queue ≡ true
   pub single : apart sameOrigin queue ≡ true
   pub early : every (notEarly (ownLimits g) v) queue ≡ true
-  pub overdue : every (widerNotOverdue g v least) queue ≡ true
+  pub expired : every (widerNotExpired g v least) queue ≡ true
 
 -- one that a call for v leaves: each frame is due after v
 pub record LeftAlong (g : Schedule) (v : ℕ) (queue : List Frame) : Type 0 where
@@ -57,13 +57,13 @@ pub along-ordered : (g : Schedule) (v : ℕ) (queue : List Frame) → Sorted (wi
 unfolding widerBefore
 along-ordered g v queue h = chained-of-sorted (widerKeyNear g v) queue h
 
-pub overdue-along : (g : Schedule) (v least : ℕ) (f : Frame) → least ≤ dueAlong g (widerReading g v f + f .stamp .c) → widerNotOverdue g v least f ≡ true
-unfolding widerNotOverdue widerDue sum
-overdue-along g v least f h = le-leb least (dueAlong g (widerReading g v f + f .stamp .c)) h
+pub expired-along : (g : Schedule) (v least : ℕ) (f : Frame) → least ≤ dueAlong g (widerReading g v f + f .stamp .c) → widerNotExpired g v least f ≡ true
+unfolding widerNotExpired widerDue sum
+expired-along g v least f h = le-leb least (dueAlong g (widerReading g v f + f .stamp .c)) h
 
-pub along-overdue : (g : Schedule) (v least : ℕ) (f : Frame) → widerNotOverdue g v least f ≡ true → least ≤ dueAlong g (widerReading g v f + f .stamp .c)
-unfolding widerNotOverdue widerDue sum
-along-overdue g v least f h = leb-true least (dueAlong g (widerReading g v f + f .stamp .c)) h
+pub along-expired : (g : Schedule) (v least : ℕ) (f : Frame) → widerNotExpired g v least f ≡ true → least ≤ dueAlong g (widerReading g v f + f .stamp .c)
+unfolding widerNotExpired widerDue sum
+along-expired g v least f h = leb-true least (dueAlong g (widerReading g v f + f .stamp .c)) h
 
 pub length-down-by : (most half : ℕ) (t : Timestamp) → length (countsDownBy most half t) ≡ most
 unfolding countsDownBy
@@ -174,6 +174,47 @@ module _ (g : Schedule) (good : Good g) (v : ℕ) (queue : List Frame) (bytes : 
       let t = passed-front (askRepeat queue heardFrame ∷ []) e in
       t .0 (passed-new queue heardFrame [] (t .1))
 
+-- and the other way round
+late-passes :
+    (g : Schedule) (v : ℕ) (f : Frame) (qs : List Question) → modulusOf g ≤ widerReading g v f + (ownLimits g .delta + ownLimits g .epsilon)
+    → modulusOf g ≤ dueAlong g (widerReading g v f + f .stamp .c) → firstNo (widerAskLate g v f ∷ qs) ≡ firstNo qs
+unfolding askLate notLateAlong widerDueBefore widerDue sum firstNo
+late-passes (steady s) v f qs late due = rw (le-leb (s .modulus) (readingOf s v f + (s .delta + s .epsilon)) late)
+late-passes (widening before after change) v f qs late due =
+    let g : Schedule = widening before after change in
+    rw (
+      le-leb (modulusOf g) (widerReading g v f + (ownLimits g .delta + ownLimits g .epsilon)) late,
+      le-ltb (dueAlong g (widerReading g v f + f .stamp .c)) (modulusOf g) due,
+    )
+
+-- 16 alone is left
+repeat-left : (shelved : Bool) → _≡_ {A = ℕ} (cond (not shelved) 0 16) (cond shelved 16 0)
+repeat-left true = refl
+repeat-left false = refl
+
+-- a frame that passes 10 to 14: its verdict, where it passes 15 too; and an observer's
+module _ (g : Schedule) (v : ℕ) (queue : List Frame) (f : Frame) (ok : FrameWithin g (ownLimits g) f)
+    (late : modulusOf g ≤ widerReading g v f + (ownLimits g .delta + ownLimits g .epsilon))
+    (due : modulusOf g ≤ dueAlong g (widerReading g v f + f .stamp .c)) (early : notEarly (ownLimits g) v f ≡ true)
+  where
+    pub along-judged :
+        atMost (ownLimits g .n - 1) (countsFrom (frameHalf g f) (widerReading g v f) (f .stamp .kn) (modulusOf g)) ≡ true
+        → firstNo (widerQuestions g v queue (encode f)) ≡ cond (any (sameOrigin f) queue) 16 0
+    unfolding widerQuestions widerFrameQuestions widerPlaceQuestions widerAskCounts askEarly askRepeat firstNo
+    along-judged counts =
+        within-passes g (ownLimits g) f (widerPlaceQuestions g v queue (widerDecode g (encode f))) ok
+        ∙ (ap (λ (x : Frame). firstNo (widerPlaceQuestions g v queue x)) (wide-decode g f (ok .wide))
+        ∙ (late-passes g v f (askEarly (ownLimits g) v f ∷ widerAskCounts g v f ∷ askRepeat queue f ∷ []) late due
+        ∙ rw (early, counts) (repeat-left (any (sameOrigin f) queue))))
+
+    pub along-observed : firstNo (widerObserverQuestions g v queue (encode f)) ≡ cond (any (sameOrigin f) queue) 16 0
+    unfolding widerObserverQuestions widerFrameQuestions widerObserverPlaceQuestions askEarly askRepeat firstNo
+    along-observed =
+        within-passes g (ownLimits g) f (widerObserverPlaceQuestions g v queue (widerDecode g (encode f))) ok
+        ∙ (ap (λ (x : Frame). firstNo (widerObserverPlaceQuestions g v queue x)) (wide-decode g f (ok .wide))
+        ∙ (late-passes g v f (askEarly (ownLimits g) v f ∷ askRepeat queue f ∷ []) late due
+        ∙ rw early (repeat-left (any (sameOrigin f) queue))))
+
 -- ---- how many frames a shelf is for
 
 -- wider limits leave as much room or more
@@ -219,7 +260,7 @@ module _ (g : Schedule) (good : Good g) where
   pub queue-none-along : (v least : ℕ) → QueueAlong g v least []
   unfolding chained apart every
   queue-none-along v least =
-      record { frames = λ f m. absurd (List·Memᴰ·not-nil m); ordered = refl; single = refl; early = refl; overdue = refl }
+      record { frames = λ f m. absurd (List·Memᴰ·not-nil m); ordered = refl; single = refl; early = refl; expired = refl }
 
   -- the test of a queue's bytes, as facts
   pub sound-along : (v least : ℕ) (bytes : List ℕ) → widerSoundHoldback g v least bytes ≡ true → QueueAlong g v least (widerHeld g bytes)
@@ -235,7 +276,7 @@ module _ (g : Schedule) (good : Good g) where
         ordered = and-left _ _ h₂;
         single = and-left _ _ h₃;
         early = and-left _ _ h₄;
-        overdue = and-right (every (notEarly s v) queue) _ h₄;
+        expired = and-right (every (notEarly s v) queue) _ h₄;
       }
     where
       one : (f : Frame) → (a : List ℕ) × List·Memᴰ a (widerHeldBytes g bytes) × (widerDecode g a ≡ f) → every (widerPasses g) (widerHeldBytes g bytes) ≡ true → FrameWithin g s f
@@ -259,13 +300,13 @@ module _ (g : Schedule) (good : Good g) where
         ordered = along-ordered g v (select p queue) (sorted-select (widerKeyNear g v) p queue (ordered-along g v queue (ok .ordered)));
         single = apart-select sameOrigin p queue (ok .single);
         early = every-of-mem (notEarly s v) (select p queue) (λ f m. every-mem (notEarly s v) (ok .early) (mem-of-select p queue m .0));
-        overdue =
-            every-of-mem (widerNotOverdue g v least′) (select p queue)
-            (λ f m. overdue-along g v least′ f (h f (mem-of-select p queue m .0) (mem-of-select p queue m .1)));
+        expired =
+            every-of-mem (widerNotExpired g v least′) (select p queue)
+            (λ f m. expired-along g v least′ f (h f (mem-of-select p queue m .0) (mem-of-select p queue m .1)));
       }
 
   due-of : (v least : ℕ) (queue : List Frame) → QueueAlong g v least queue → (f : Frame) → List·Memᴰ f queue → least ≤ dueAlong g (widerReading g v f + f .stamp .c)
-  due-of v least queue ok f m = along-overdue g v least f (every-mem (widerNotOverdue g v least) (ok .overdue) m)
+  due-of v least queue ok f m = along-expired g v least f (every-mem (widerNotExpired g v least) (ok .expired) m)
 
   key-near-origin : (v : ℕ) (a b : Frame) → widerKeyNear g v a ≡ widerKeyNear g v b → (a .station ≡ b .station) × (widerReading g v a ≡ widerReading g v b)
   unfolding widerKeyNear
@@ -284,7 +325,7 @@ module _ (g : Schedule) (good : Good g) where
         ordered = along-ordered g v (insertAt at f queue) (sorted-insert (widerKeyNear g v) f queue (ordered-along g v queue (ok .ordered)) other);
         single = apart-insertAt sameOrigin origin-sym at f queue (p .new) (ok .single);
         early = every-insertAt (notEarly s v) at f queue ∙ and-intro (p .early) (ok .early);
-        overdue = every-insertAt (widerNotOverdue g v B) at f queue ∙ and-intro (overdue-along g v B f (p .due)) (ok .overdue);
+        expired = every-insertAt (widerNotExpired g v B) at f queue ∙ and-intro (expired-along g v B f (p .due)) (ok .expired);
       }
     where
       one : (a : Frame) → (a ≡ f) ⊎ List·Memᴰ a queue → FrameWithin g s a
@@ -306,7 +347,7 @@ module _ (g : Schedule) (good : Good g) where
       omega (arith, due-window g good B least (widerReading g v f + f .stamp .c) h (due-of v least queue ok f m), ok .frames f m .close)
 
   -- frames of a sound queue whose readings are among m from lo on: n m at most
-  few-along :
+  pub few-along :
       (v least : ℕ) (queue : List Frame) (lo m : ℕ) → v < B → QueueAlong g v least queue
       → ((f : Frame) → List·Memᴰ f queue → lo ≤ widerReading g v f) → ((f : Frame) → List·Memᴰ f queue → widerReading g v f < lo + m) → length queue ≤ s .n * m
   few-along v least queue lo m below ok low high =
@@ -339,10 +380,10 @@ module _ (g : Schedule) (good : Good g) where
   gap-small least gap d =
       omega (arith, d .most, limits-widest g good B .0, widest-good g good .modulus-least, widest-modulus g good)
 
-  pub early-few-along :
+  pub overdue-few-along :
       (v least : ℕ) (queue : List Frame) → v < B → B + 1 ≤ least + s .epsilon → QueueAlong g v least queue
       → length (select (widerDueBefore g v) queue) ≤ s .n * (2 * s .epsilon - 2)
-  early-few-along v least queue below few ok = go (due-gap g good least)
+  overdue-few-along v least queue below few ok = go (due-gap g good least)
     where
       go : (gap : ℕ) × Gap g least gap → length (select (widerDueBefore g v) queue) ≤ s .n * (2 * s .epsilon - 2)
       go (gap, d) =
@@ -429,7 +470,7 @@ module _ (g : Schedule) (good : Good g) where
         ordered = left .ordered;
         single = left .single;
         early = every-of-mem (notEarly s v) queue (λ f m. early-to s v f (omega (arith, left .early f m, modulus-own)));
-        overdue = every-of-mem (widerNotOverdue g v (B + 1)) queue (λ f m. overdue-along g v (B + 1) f (omega (arith, left .later f m)));
+        expired = every-of-mem (widerNotExpired g v (B + 1)) queue (λ f m. expired-along g v (B + 1) f (omega (arith, left .later f m)));
       }
 
   -- what a call leaves is never full
@@ -450,4 +491,4 @@ module _ (g : Schedule) (good : Good g) where
       ∙ (every-map (widerPasses g) encode queue ∙ every-of-mem (λ f. widerPasses g (encode f)) queue (λ f m. wide-passes g f (ok .frames f m))) in
       and-intro (le-leb (twoAt (encodeFrames queue ++ rest) 0) (depthOf s) (omega (arith, count, few)))
       (and-intro passed
-      (rw back (and-intro (ok .ordered) (and-intro (ok .single) (and-intro (ok .early) (ok .overdue))))))
+      (rw back (and-intro (ok .ordered) (and-intro (ok .single) (and-intro (ok .early) (ok .expired))))))

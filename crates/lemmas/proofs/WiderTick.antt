@@ -6,7 +6,6 @@ use native.Mathlib.Nat.{mod-eq-of-lt}
 use mathlib.Core.Path.{_≡_, refl, sym, ap, subst, _∙_}
 use mathlib.Core.Bool.{Bool, true, false, cond}
 use mathlib.Core.List.{List}
-use borrow.Author.Tests.{lt-ltb, le-ltb}
 use Rattle.model.specs.Setup.{Setup, width}
 use Rattle.model.specs.Timestamp.{Timestamp, countsFrom, sum, atMost, clockStep, soundClock, soundBeside, trimmed, widened, replaced, absorb, countOwn}
 use Rattle.model.specs.Frame.{Frame}
@@ -23,7 +22,7 @@ use Rattle.lemmas.proofs.Hearing.{numbersBy, fold-stamp, fold-verdicts}
 use Rattle.lemmas.proofs.Queue.{early-from}
 use Rattle.lemmas.proofs.Schedules.{Good, wide, limits-good, limits-modulus, limits-grow, Aligned, limits-aligned, modulus-aligned}
 use Rattle.lemmas.proofs.WiderQueue.{PassedAlong, judged-along}
-use Rattle.lemmas.proofs.WiderBoard.{heard-verdict-along}
+use Rattle.lemmas.proofs.WiderReceiving.{heard-verdict-along}
 use Rattle.lemmas.proofs.Carried.{Follows}
 
 -- ---- opened
@@ -77,14 +76,14 @@ module _ (g : Schedule) (good : Good g) where
 -- ---- with what is heard
 
 -- a taken frame goes into the stamp by its own half width; with one pair that is `absorb`
-absorb-taken :
+pub absorb-taken :
     (g : Schedule) (v : ℕ) (f : Frame) (t : Timestamp)
     → widerAbsorbBy g 0 v f t ≡ absorbWide (ownLimits g .epsilon) (frameHalf g f) (modulusOf g) t (widerReading g v f) (f .stamp)
 unfolding absorb absorbWide
 absorb-taken (steady s) v f t = refl
 absorb-taken (widening before after change) v f t = refl
 
-absorb-skipped : (g : Schedule) (k v : ℕ) (f : Frame) (t : Timestamp) → widerAbsorbBy g (suc k) v f t ≡ t
+pub absorb-skipped : (g : Schedule) (k v : ℕ) (f : Frame) (t : Timestamp) → widerAbsorbBy g (suc k) v f t ≡ t
 absorb-skipped (steady s) k v f t = refl
 absorb-skipped (widening before after change) k v f t = refl
 
@@ -174,11 +173,3 @@ pub half-moved-on : (l l′ : Schedule) (k : ℕ) → Aligned k 0 l′ l → k �
 half-moved-on l l′ k aligned few =
     ap (λ (s : Setup). s .epsilon)
     (limits-aligned k 0 l′ l aligned (modulusOf l′ - k) (modulusOf l) (omega (arith, modulus-aligned k 0 l′ l aligned, few)))
-
--- in the first with both pairs, where the last clock is before V: v reads B − k there
-pub half-up : (before after : Setup) (change k : ℕ) → before .modulus < change + k → k ≤ before .modulus → tablesHalf (widening before after change) k ≡ before .epsilon
-half-up before after change k before-V few = ap (λ (b : Bool). (cond b before after) .epsilon) (lt-ltb (before .modulus - k) change (omega arith))
-
--- and in the first with the new pair alone, where the last clock is at V or past it
-pub half-down : (before after : Setup) (change k : ℕ) → change ≤ before .modulus → tablesHalf (steady after) k ≡ ownLimits (widening before after change) .epsilon
-half-down before after change k past-V = rw (le-ltb (before .modulus) change past-V)

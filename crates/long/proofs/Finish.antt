@@ -15,7 +15,7 @@ use Rattle.model.specs.Question.{firstNo}
 use Rattle.model.specs.Codec.{frameOf}
 use Rattle.model.specs.Judge.{Heard}
 use Rattle.model.specs.Tick.{Input, takenCount, refusal}
-use Rattle.model.specs.Long.{longEncode, longestLong, longHoldbackSize, longHeld, longSoundHoldback, longEncodeFrames, longEncodeHoldback, longAbsorbAll, longCallQuestions, longShelfSound, longRepair, longOpeningStamp, longOpened, longHeard, longNewStamp, longSent, longDelivered, longKept, longAcceptance, longTickBy, longTick}
+use Rattle.model.specs.Long.{longEncode, longestLong, longHoldbackSize, longHeld, longSoundHoldback, longEncodeFrames, longEncodeHoldback, longAbsorbAll, longCallQuestions, longHoldbackSound, longRepair, longOpeningStamp, longOpened, longHeard, longNewStamp, longSent, longDelivered, longKept, longAcceptance, longTickBy, longTick}
 use Rattle.lemmas.proofs.Questions.{long-limits-to}
 use Rattle.lemmas.proofs.Counts.{count-zero, trimmed-same, trimmed-widened}
 use Rattle.lemmas.proofs.LongTick.{LongPassed, long-passed, long-opening, longHeardStamp, long-absorbed, long-left}
@@ -70,13 +70,13 @@ module _ (i : Input) {t₁ : Timestamp} {least repair : ℕ} (p : LongPassed i) 
   pub call-attending : Attending (i .setup) t₁ (i .batch) (i .holdback) (i .verdicts) (i .delivery)
   call-attending =
       record {
-        size = p .shelf-size;
+        size = p .holdback-sized;
         hearing = record { narrow = opening-is ∙ ap widened (sym stamp-trimmed); exact = p .exact; room = p .verdicts-room };
         delivery-room = p .delivery-room;
       }
 
   heard-same : attendedAll (i .setup) (i .clock) least (i .batch) (i .holdback) ≡ longHeard i
-  unfolding longHeard longOpened longShelfSound
+  unfolding longHeard longOpened longHoldbackSound
   heard-same = ap (λ (l : ℕ). attendedAll (i .setup) (i .clock) l (i .batch) (i .holdback)) (o .least-is)
 
   pub call-stamp : {t₂ : Timestamp} → AttendedStamp (i .setup) (i .clock) least t₁ (i .batch) (i .holdback) t₂ → t₂ ≡ widened (longHeardStamp i)
@@ -85,7 +85,7 @@ module _ (i : Input) {t₁ : Timestamp} {least repair : ℕ} (p : LongPassed i) 
       ∙ ap₂ (λ (t : Timestamp) (h : Heard). widened (longAbsorbAll (i .setup) (i .clock) t (batchEntries (i .batch)) (h .verdicts))) stamp-trimmed heard-same
 
   pub call-repair : {emptied : ℕ} → emptied ≡ cond (longSoundHoldback (i .setup) (i .clock) least (i .holdback)) 0 2 → repair + emptied ≡ longRepair i
-  unfolding longRepair longShelfSound
+  unfolding longRepair longHoldbackSound
   call-repair e = rw (o .repaired, e, o .least-is)
 
 -- the own event fits

@@ -4,6 +4,9 @@ use longframe::holdback_length;
 use longframe::longest_frame;
 use longframe::valid_for;
 use node::check_buffers;
+use setup::BAD_CLOCK;
+use setup::BAD_HOLDBACK;
+use setup::BAD_SETUP;
 use setup::Setup;
 ghost use mathlib.Core.Path.{_≡_};
 ghost use mathlib.Core.Bool.{Bool};
@@ -29,14 +32,14 @@ pub fn check_call(
         (now (verdicts .entry)) (now (delivery .entry))))) ⌝ }
 {
     if !valid_for(setup, own) {
-        return 1;
+        return BAD_SETUP;
     }
     if BOUND <= clock {
-        return 2;
+        return BAD_CLOCK;
     }
     let epsilon = setup.epsilon as usize;
     if holdback.len() != holdback_length(epsilon) {
-        return 3;
+        return BAD_HOLDBACK;
     }
     let longest = longest_frame(epsilon);
     check_buffers(

@@ -1,7 +1,7 @@
 // 01, tick 3: "Each frame of the bundle is judged in turn". 02, 2.9: a taken frame goes behind the last, and its stamp into the own one.
 use crate::questions::judge;
 use batch::count_of;
-use batch::walker::walk_step;
+use batch::walker::walk_entry;
 use longframe::r_of;
 use longframe::six_on;
 use longqueue::append;
@@ -17,14 +17,14 @@ ghost use Rattle.node.specs.States.{Hearing};
 ghost use Rattle.long.specs.States.{Timed, Readable, Holding, HeardQueue, HeardStamp};
 
 // "c and each count become the larger of own and frame's, both placed relative to v", as plain numbers.
-fn absorb_frame(setup: Setup, clock: usize, stamp: Timestamp, s: &[u8]) -> Timestamp
-    requires { ⌜ Readable (setupOf setup) clock (now s) ⌝ }
+fn absorb_frame(setup: Setup, clock: usize, stamp: Timestamp, frame: &[u8]) -> Timestamp
+    requires { ⌜ Readable (setupOf setup) clock (now frame) ⌝ }
     requires { ⌜ stampOf stamp ≡ widened (trimmed (setup .epsilon) (stampOf stamp)) ⌝ }
     ensures { λ r. ⌜ stampOf r
-        ≡ widened (longAbsorbBy 0 (setupOf setup) clock (longDecode (setup .epsilon) (now (s .entry))) (trimmed (setup .epsilon) (stampOf stamp))) ⌝ }
+        ≡ widened (longAbsorbBy 0 (setupOf setup) clock (longDecode (setup .epsilon) (now (frame .entry))) (trimmed (setup .epsilon) (stampOf stamp))) ⌝ }
 {
-    let later = six_on(s);
-    let r = r_of(s);
+    let later = six_on(frame);
+    let r = r_of(frame);
     absorb_counts(setup, clock, stamp, later, r)
 }
 
@@ -66,9 +66,9 @@ pub fn hear(
     let mut at = 1;
     let mut i = 0;
     while i < entries {
-        let step = walk_step(batch, at);
-        let start = step.start;
-        at = step.end;
+        let span = walk_entry(batch, at);
+        let start = span.start;
+        at = span.end;
         let s = &batch[start..at];
         let number = judge(setup, clock, holdback, held, s);
         verdicts[i] = number;

@@ -5,7 +5,9 @@ use longframe::r_of;
 use longframe::six_on;
 use longqueue::repeats;
 use node::check_time;
+use setup::REPEAT;
 use setup::Setup;
+use setup::TOO_MANY;
 ghost use mathlib.Core.Path.{_≡_};
 ghost use Rattle.model.specs.Frame.{twoAt};
 ghost use Rattle.model.specs.Question.{firstNo};
@@ -16,25 +18,25 @@ ghost use Rattle.long.specs.States.{Timed};
 
 // One frame judged: the number of the first no, or 0. Its r is the number that it is, and so is v. The queue has `count` frames.
 // 02, 2.9: "Number 18 when a 65th message would be held, after 16".
-pub fn judge(setup: Setup, clock: usize, holdback: &[u8], count: usize, s: &[u8]) -> u8
+pub fn judge(setup: Setup, clock: usize, holdback: &[u8], count: usize, frame: &[u8]) -> u8
     requires { ⌜ Timed (setupOf setup) clock ⌝ }
     requires { ⌜ (count ≡ twoAt (now holdback) 0) × Standing (setup .epsilon) (longFormed (setup .epsilon)) (now holdback) 2 count ⌝ }
-    ensures { λ r. ⌜ r ≡ firstNo (longQuestions (setupOf setup) clock (longHeld (setup .epsilon) (now (holdback .entry))) (now (s .entry))) ⌝ }
+    ensures { λ r. ⌜ r ≡ firstNo (longQuestions (setupOf setup) clock (longHeld (setup .epsilon) (now (holdback .entry))) (now (frame .entry))) ⌝ }
 {
-    let form = check(setup, s);
+    let form = check(setup, frame);
     if form != 0 {
         return form;
     }
-    let time = check_time(setup, clock, false, six_on(s), r_of(s));
+    let time = check_time(setup, clock, false, six_on(frame), r_of(frame));
     if time != 0 {
         return time;
     }
-    let repeated = repeats(setup.epsilon as usize, holdback, count, s);
+    let repeated = repeats(setup.epsilon as usize, holdback, count, frame);
     if repeated {
-        return 16;
+        return REPEAT;
     }
     if MOST <= count {
-        return 18;
+        return TOO_MANY;
     }
     0
 }

@@ -23,7 +23,7 @@ use Rattle.lemmas.proofs.RoundTrip.{LaterFormed, later-wide, none-no}
 use Rattle.lemmas.proofs.LongFrames.{LongFormed, long-formed-from}
 use Rattle.splice.specs.Bytes.{pasted}
 use Rattle.timestamp.specs.Views.{ofCounts}
-use Rattle.frame.specs.Answers.{refusedReading}
+use Rattle.frame.specs.Answers.{refusedRead}
 use Rattle.frame.proofs.Asking.{by-accepted, by-refused, allAsked, all-right, contents-fit, written-accepted, written-refused}
 use Rattle.frame.proofs.Laying.{front, two-then, lent-laid, behind-laid, length-later}
 use Rattle.longframe.specs.Lay.{LongRoom}
@@ -106,7 +106,7 @@ module _ (s : Setup) (own : ℕ) (bytes : List ℕ) where
     unfolding longRead
     read-accepted z = rw (← e) (by-accepted number (longDecode (s .epsilon) bytes) z)
 
-    pub read-refused : (number ≡ 0 → ⊥) → longRead s own bytes ≡ refusedReading number
+    pub read-refused : (number ≡ 0 → ⊥) → longRead s own bytes ≡ refusedRead number
     unfolding longRead
     read-refused z = rw (← e) (by-refused number (longDecode (s .epsilon) bytes) z)
 

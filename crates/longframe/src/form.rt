@@ -3,6 +3,9 @@
 use crate::limits::BOUND;
 use frame::c_of;
 use frame::counts_part;
+use setup::BAD_FORM;
+use setup::BAD_RANGE;
+use setup::BAD_STAMP;
 use setup::Setup;
 use splice::byte_at;
 use splice::eight_at;
@@ -85,25 +88,25 @@ pub fn stamp_of(epsilon: usize, s: &[u8]) -> Timestamp
 }
 
 // 10 to 12: the number of the first no, or 0.
-pub fn check(setup: Setup, s: &[u8]) -> u8
+pub fn check(setup: Setup, frame: &[u8]) -> u8
     requires { ⌜ longLimits (setupOf setup) ≡ true ⌝ }
-    ensures { λ r. ⌜ r ≡ firstNo (longFrameQuestions (setupOf setup) (now (s .entry))) ⌝ }
+    ensures { λ r. ⌜ r ≡ firstNo (longFrameQuestions (setupOf setup) (now (frame .entry))) ⌝ }
 {
     let n = setup.n as usize;
     let epsilon = setup.epsilon as usize;
-    if !well_formed(epsilon, s) {
-        return 10;
+    if !well_formed(epsilon, frame) {
+        return BAD_FORM;
     }
-    if n <= station_of(s) {
-        return 11;
+    if n <= station_of(frame) {
+        return BAD_RANGE;
     }
-    if BOUND <= r_of(s) {
-        return 11;
+    if BOUND <= r_of(frame) {
+        return BAD_RANGE;
     }
-    let later = six_on(s);
+    let later = six_on(frame);
     let c = c_of(later);
     if !sound_counts(counts_part(epsilon, later), c, n, epsilon) {
-        return 12;
+        return BAD_STAMP;
     }
     0
 }

@@ -15,13 +15,13 @@ pub const BOUND: usize = 9223372036854775808;
 pub const MOST: usize = 64;
 
 // Check 1, with the own number: it is "below n". What stands in the place of B is not looked at.
-pub fn valid_for(s: Setup, own: u32) -> bool
-    ensures { λ r. ⌜ r ≡ (longLimits (setupOf s) && isMember (setupOf s) own) ⌝ }
+pub fn valid_for(setup: Setup, own: u32) -> bool
+    ensures { λ r. ⌜ r ≡ (longLimits (setupOf setup) && isMember (setupOf setup) own) ⌝ }
 {
-    if !in_limits_but_modulus(s) {
+    if !in_limits_but_modulus(setup) {
         return false;
     }
-    own < s.n
+    own < setup.n
 }
 
 // 02: "lengths follow": the longest frame has six bytes more than a station's.

@@ -4,9 +4,10 @@ use crate::form::six_on;
 use crate::form::stamp_of;
 use crate::form::station_of;
 use crate::limits::valid_for;
-use frame::Reading;
+use frame::ReadFrame;
 use frame::payload_part;
 use frame::refused;
+use setup::BAD_SETUP;
 use setup::Setup;
 ghost use mathlib.Core.Path.{_≡_};
 ghost use mathlib.Core.List.{_∷_};
@@ -20,13 +21,13 @@ fn check_read(setup: Setup, own: u32, frame: &[u8]) -> u8
     ensures { λ r. ⌜ r ≡ firstNo (askLongSetup (setupOf setup) own ∷ longFrameQuestions (setupOf setup) (now (frame .entry))) ⌝ }
 {
     if !valid_for(setup, own) {
-        return 1;
+        return BAD_SETUP;
     }
     check(setup, frame)
 }
 
 // The answer of the reader.
-pub fn read(setup: Setup, own: u32, frame: &[u8]) -> Reading
+pub fn read(setup: Setup, own: u32, frame: &[u8]) -> ReadFrame
     ensures { λ r. ⌜ readAnswer r (longRead (setupOf setup) own (now (frame .entry)) .payload)
         ≡ longRead (setupOf setup) own (now (frame .entry)) ⌝ }
 {
@@ -35,7 +36,7 @@ pub fn read(setup: Setup, own: u32, frame: &[u8]) -> Reading
         return refused(number);
     }
     let stamp = stamp_of(setup.epsilon as usize, frame);
-    Reading {
+    ReadFrame {
         number: 0,
         station: station_of(frame),
         stamp,

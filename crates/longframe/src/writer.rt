@@ -9,6 +9,8 @@ use crate::limits::valid_for;
 use frame::Written;
 use frame::check_contents;
 use frame::lay_later;
+use setup::BAD_BUFFERS;
+use setup::BAD_SETUP;
 use setup::Setup;
 use timestamp::Timestamp;
 ghost use mathlib.Core.Path.{_≡_};
@@ -77,7 +79,7 @@ fn check_write(
     ensures { λ r. ⌜ r ≡ firstNo (longWriteQuestions (setupOf setup) own (frameOf (setup .epsilon) station (stampOf stamp) (now (payload .entry))) (now (out .entry))) ⌝ }
 {
     if !valid_for(setup, own) {
-        return 1;
+        return BAD_SETUP;
     }
     let n = setup.n as usize;
     let epsilon = setup.epsilon as usize;
@@ -86,7 +88,7 @@ fn check_write(
         return contents;
     }
     if out.len() < OVERHEAD + 2 * epsilon + payload.len() {
-        return 6;
+        return BAD_BUFFERS;
     }
     0
 }

@@ -16,6 +16,7 @@ use Rattle.model.specs.Setup.{Setup}
 use Rattle.model.specs.Frame.{Frame, twoAt, twoBytes}
 use Rattle.model.specs.Holdback.{cutBy}
 use Rattle.model.specs.Long.{plainly, longMost, longFrameEnd, longDecode, longEncode, longHeldBytes, longHeld, longPasses, longEncodeFrames, longHoldbackSize}
+use Rattle.lemmas.specs.Standing.{endBy}
 use Rattle.lemmas.proofs.Bounds.{FrameOk}
 use Rattle.lemmas.proofs.RoundTrip.{length-cut-by}
 use Rattle.lemmas.proofs.LongFrames.{long-held-bytes, long-held-frames, long-count, long-passes-encode, long-passes-formed, long-passes-decode, long-encode-decode}
@@ -134,7 +135,7 @@ bytes-test l bytes = every-of-index (λ x. ltb x 256) l 0 (λ i _. lt-ltb (getD 
 
 written-back : (s : Setup) (b : List ℕ) → Bytes b → (at k : ℕ) → every (longPasses s) (cutBy (longFrameEnd (s .epsilon)) k (drop at b)) ≡ true
     → drop at b ≡ joined longEncode (framesFrom (s .epsilon) b at k) ++ drop (endFrom (s .epsilon) b at k) b
-unfolding joined endFrom every cutBy
+unfolding joined endBy every cutBy
 written-back s b bytes at zero each = refl
 written-back s b bytes at (suc k) each =
     let epsilon : ℕ = s .epsilon in

@@ -17,15 +17,17 @@ use Rattle.model.specs.Frame.{Frame, twoAt, decode}
 use Rattle.model.specs.Holdback.{cutBy, sameOrigin, encodeHoldback}
 use Rattle.model.specs.Timestamp.{sum}
 use Rattle.model.specs.Question.{firstNo}
-use Rattle.model.specs.Order.{due}
-use Rattle.model.specs.Long.{longBound, longMost, longFrameEnd, longFormed, longDecode, longFrameQuestions, longDue, sixOn, longestLong, longHeldBytes, longHeld, longPasses, longNotEarly, longNotOverdue, longSoundHoldback, longEncodeHoldback, longHoldbackSize}
+use Rattle.model.specs.Order.{sumDue, due}
+use Rattle.model.specs.Long.{longBound, longMost, longFrameEnd, longFormed, longDecode, longFrameQuestions, longDue, sixOn, longestLong, longHeldBytes, longHeld, longPasses, longNotEarly, longNotExpired, longSoundHoldback, longEncodeHoldback, longHoldbackSize}
 use Rattle.lemmas.proofs.LongFrames.{long-passes-formed, long-passes-decode}
 use Rattle.lemmas.proofs.LongPassing.{long-size, long-end-inside}
 use Rattle.holdback.proofs.RoundTrip.{Bytes}
-use Rattle.holdback.proofs.Frames.{lent, lent-is, bytes-take, bytes-drop, end-small}
+use Rattle.lemmas.specs.Standing.{endBy}
+use Rattle.lemmas.proofs.FrameWalk.{lent, lent-is, cut-more, end-more, end-low, stand-weaker}
+use Rattle.holdback.proofs.Frames.{bytes-take, bytes-drop, end-small}
 use Rattle.longqueue.specs.Queue.{framesFrom, endFrom, Standing}
 use Rattle.longqueue.specs.Sound.{timely, fits, fittingEnd, fittingEnds, Walked, Opening}
-use Rattle.longqueue.proofs.Standing.{bytesAt, nextAt, stand, cut-more, end-more, end-low, stand-weaker}
+use Rattle.longqueue.proofs.Standing.{bytesAt, nextAt, stand}
 use Rattle.longqueue.proofs.Extents.{held-from, passing-extent, size-two}
 use Rattle.longqueue.proofs.Changed.{empty-extent, empty-held, empty-same}
 
@@ -53,19 +55,19 @@ module _ (s : Setup) (v least : ℕ) (b : List ℕ) where
   abbrev early : List ℕ → Bool
   early l = longNotEarly s v (longDecode (s .epsilon) l)
 
-  abbrev overdue : List ℕ → Bool
-  overdue l = longNotOverdue s least (longDecode (s .epsilon) l)
+  abbrev expired : List ℕ → Bool
+  expired l = longNotExpired s least (longDecode (s .epsilon) l)
 
   early-is : every (longNotEarly s v) queue ≡ every early bytes
   unfolding longHeld
   early-is = every-map (longNotEarly s v) (longDecode (s .epsilon)) bytes
 
-  overdue-is : every (longNotOverdue s least) queue ≡ every overdue bytes
+  expired-is : every (longNotExpired s least) queue ≡ every expired bytes
   unfolding longHeld
-  overdue-is = every-map (longNotOverdue s least) (longDecode (s .epsilon)) bytes
+  expired-is = every-map (longNotExpired s least) (longDecode (s .epsilon)) bytes
 
   abbrev timed : Bool
-  timed = every (longNotEarly s v) queue && every (longNotOverdue s least) queue
+  timed = every (longNotEarly s v) queue && every (longNotExpired s least) queue
 
   -- a sound queue: few frames, each fits, and they are apart
   pub sound-few : longSoundHoldback s v least b ≡ true → twoAt b 0 ≤ longMost
@@ -88,9 +90,9 @@ module _ (s : Setup) (v least : ℕ) (b : List ℕ) where
   sound-fitting h =
       let t : timed ≡ true = and-right (apart sameOrigin queue) timed (sound-rest h) in
       let e : every early bytes ≡ true = sym early-is ∙ and-left (every (longNotEarly s v) queue) _ t in
-      let o : every overdue bytes ≡ true = sym overdue-is ∙ and-right (every (longNotEarly s v) queue) _ t in
+      let o : every expired bytes ≡ true = sym expired-is ∙ and-right (every (longNotEarly s v) queue) _ t in
       every-of-mem (fits s v least) bytes
-      (λ l m. and-intro (every-mem (longPasses s) (sound-passing h) m) (and-intro (every-mem early e m) (every-mem overdue o m)))
+      (λ l m. and-intro (every-mem (longPasses s) (sound-passing h) m) (and-intro (every-mem early e m) (every-mem expired o m)))
 
   -- and the other way round
   pub sound-by : twoAt b 0 ≤ longMost → every (fits s v least) bytes ≡ true → apart sameOrigin queue ≡ true → longSoundHoldback s v least b ≡ true
@@ -100,8 +102,8 @@ module _ (s : Setup) (v least : ℕ) (b : List ℕ) where
       and-intro (le-leb (twoAt b 0) longMost few)
       (and-intro (only (longPasses s) (λ l h. and-left (longPasses s l) _ h))
       (and-intro single
-      (and-intro (early-is ∙ only early (λ l h. and-left (early l) (overdue l) (and-right (longPasses s l) _ h)))
-      (overdue-is ∙ only overdue (λ l h. and-right (early l) (overdue l) (and-right (longPasses s l) _ h))))))
+      (and-intro (early-is ∙ only early (λ l h. and-left (early l) (expired l) (and-right (longPasses s l) _ h)))
+      (expired-is ∙ only expired (λ l h. and-right (early l) (expired l) (and-right (longPasses s l) _ h))))))
 
 -- ---- one frame, as the code goes
 
@@ -132,19 +134,19 @@ module _ (s : Setup) (v least : ℕ) (bytes : List ℕ) where
     unfolding longNotEarly sum
     early-is-not = ap (λ (n : ℕ). leb n (v + (s .epsilon - 1))) (sym (ap₂ _+_ er ec))
 
-    overdue-is-not : longNotOverdue s least own ≡ leb least (r + c + s .delta + s .epsilon)
-    unfolding longNotOverdue longDue due sum
-    overdue-is-not = ap (λ (n : ℕ). leb least (n + s .delta + s .epsilon)) (sym (ap₂ _+_ er ec))
+    expired-is-not : longNotExpired s least own ≡ leb least (sumDue s (r + c))
+    unfolding longNotExpired longDue due sum
+    expired-is-not = ap (λ (n : ℕ). leb least (sumDue s n)) (sym (ap₂ _+_ er ec))
 
     pub untimely : v + (s .epsilon - 1) < r + c → false ≡ timely s v least bytes
     unfolding timely
     untimely h =
-        sym (ap (λ (t : Bool). t && longNotOverdue s least own) (early-is-not ∙ lt-leb (r + c) (v + (s .epsilon - 1)) h))
+        sym (ap (λ (t : Bool). t && longNotExpired s least own) (early-is-not ∙ lt-leb (r + c) (v + (s .epsilon - 1)) h))
 
-    pub timely-rest : r + c ≤ v + (s .epsilon - 1) → leb least (r + c + s .delta + s .epsilon) ≡ timely s v least bytes
+    pub timely-rest : {after : ℕ} → r + c ≤ v + (s .epsilon - 1) → after ≡ sumDue s (r + c) → leb least after ≡ timely s v least bytes
     unfolding timely
-    timely-rest h =
-        sym (ap₂ _&&_ (early-is-not ∙ le-leb (r + c) (v + (s .epsilon - 1)) h) overdue-is-not)
+    timely-rest h e =
+        ap (leb least) e ∙ sym (ap₂ _&&_ (early-is-not ∙ le-leb (r + c) (v + (s .epsilon - 1)) h) expired-is-not)
 
 module _ (s : Setup) (v least : ℕ) (b : List ℕ) (at size : ℕ) (inside : at ≤ length b) (ends : size ≡ longFrameEnd (s .epsilon) (lent b at)) where
   abbrev given : List ℕ
@@ -179,7 +181,7 @@ module _ (s : Setup) (v least : ℕ) (b : List ℕ) (at size : ℕ) (inside : at
   unfolding longPasses
   given-passes number e h = eq-eqb (firstNo (longFrameQuestions s given)) 0 (sym e ∙ h)
 
-  -- it is early or overdue
+  -- it is early or expired
   pub fitting-untimely : timely s v least given ≡ false → 0 ≡ fittingEnd s v least b at
   fitting-untimely h = fitting-no (false-of-no (fits s v least given) (λ t. clash (fits-timely s v least given t) h))
 
@@ -204,7 +206,7 @@ fitting-more : (s : Setup) (v least : ℕ) (b : List ℕ) (at k : ℕ)
     → fittingEnds s v least b at (suc k) ≡ cond (fits s v least (bytesAt (s .epsilon) b at)) (fittingEnds s v least b (nextAt (s .epsilon) b at) k) 0
 unfolding fittingEnds every
 fitting-more s v least b at k =
-    ap₂ (λ (l : List (List ℕ)) (n : ℕ). cond (every (fits s v least) l) n 0) (cut-more (s .epsilon) b at k) (end-more (s .epsilon) b at k)
+    ap₂ (λ (l : List (List ℕ)) (n : ℕ). cond (every (fits s v least) l) n 0) (cut-more (longFrameEnd (s .epsilon)) b at k) (end-more (longFrameEnd (s .epsilon)) b at k)
     ∙ go (fits s v least (bytesAt (s .epsilon) b at)) (every (fits s v least) (cutBy (longFrameEnd (s .epsilon)) k (drop (nextAt (s .epsilon) b at) b)))
   where
     go : (x y : Bool) → cond (x && y) (endFrom (s .epsilon) b (nextAt (s .epsilon) b at) k) 0 ≡ cond x (cond y (endFrom (s .epsilon) b (nextAt (s .epsilon) b at) k) 0) 0
@@ -249,7 +251,7 @@ module _ {s : Setup} {v least : ℕ} {b : List ℕ} {count at left : ℕ} (led :
         go (inr h) = absurd (z (next-no h))
 
   pub fitting-ends : left ≤ 0 → at ≡ fittingEnds s v least b 2 count
-  unfolding fittingEnds every cutBy endFrom
+  unfolding fittingEnds every cutBy endBy
   fitting-ends none = let e : left ≡ 0 = omega arith in sym (led .same ∙ ap (fittingEnds s v least b at) e)
 
 -- ---- the whole
@@ -284,7 +286,7 @@ module _ (s : Setup) (v least : ℕ) (b : List ℕ) where
       walked-unfit z =
           unsound-walked
           (false-of-no (longSoundHoldback s v least b)
-          (λ t. omega (arith, ended-is ∙ cond-true (endFrom (s .epsilon) b 2 (twoAt b 0)) 0 (sound-fitting s v least b t), end-low (s .epsilon) b 2 (twoAt b 0))))
+          (λ t. omega (arith, ended-is ∙ cond-true (endFrom (s .epsilon) b 2 (twoAt b 0)) 0 (sound-fitting s v least b t), end-low (longFrameEnd (s .epsilon)) b 2 (twoAt b 0))))
 
       all-fit : (end ≡ 0 → ⊥) → (all ≡ true) × (end ≡ endFrom (s .epsilon) b 2 (twoAt b 0))
       all-fit z = go (true-or-false all)

@@ -3,8 +3,8 @@
 use Prim.Native.Nat.{ℕ, _+_, _-_, _≤_, _<_}
 use native.Mathlib.Omega.{arith}
 use mathlib.Core.Path.{_≡_, refl, sym, ap, _∙_}
-use mathlib.Core.Bool.{Bool, true, false, _&&_, _||_, not}
-use mathlib.Core.List.{List}
+use mathlib.Core.Bool.{Bool, true, false, _&&_}
+use mathlib.Core.List.{List, [], _∷_}
 use lib.Dec.{eqb}
 use lib.ListN.{length, take, drop}
 use borrow.Author.Tests.{eqb-true, eq-eqb}
@@ -14,9 +14,8 @@ use Rattle.model.specs.Frame.{Frame}
 use Rattle.model.specs.Holdback.{sameOrigin}
 use Rattle.model.specs.Long.{longFrameEnd, longFormed, longDecode}
 use Rattle.lemmas.proofs.LongPassing.{long-size}
-use Rattle.holdback.proofs.Frames.{lent}
+use Rattle.lemmas.proofs.FrameWalk.{lent, Walk, walk-ends, walk-meets, walk-rest}
 use Rattle.longqueue.specs.Queue.{framesFrom, Standing}
-use Rattle.longqueue.proofs.Standing.{rest-stands, frames-split, frames-end}
 
 -- ---- two frames
 
@@ -33,65 +32,45 @@ origin-by-r f g e = sym (ap (λ (x : Bool). x && eqb (f .stamp .r) (g .stamp .r)
 pub origin-there : (epsilon : ℕ) (l : List ℕ) → longFormed epsilon l ≡ true → 10 ≤ length l
 origin-there epsilon l h = omega (arith, long-size epsilon l h .shortest)
 
--- ---- a search: one of all frames is what one of those left is
+-- ---- a walk to an answer: of all frames it is what it is of those left
 
-pub record Sought (epsilon : ℕ) (p : Frame → Bool) (b : List ℕ) (at left from rest : ℕ) : Type 0 where
-  pub stands : Standing epsilon (longFormed epsilon) b from rest
-  pub same : any p (framesFrom epsilon b at left) ≡ any p (framesFrom epsilon b from rest)
+pub record Asked (epsilon : ℕ) (answer : List Frame → Bool) (b : List ℕ) (at left from rest : ℕ) : Type 0 where
+  pub walk : Walk (longFrameEnd epsilon) (longDecode epsilon) (longFormed epsilon) (λ l. answer (framesFrom epsilon b at left) ≡ answer l) b from rest
 
-pub sought-starts : {epsilon : ℕ} {b : List ℕ} {at left : ℕ} (p : Frame → Bool) → Standing epsilon (longFormed epsilon) b at left → Sought epsilon p b at left at left
-sought-starts p walk = record { stands = walk; same = refl }
+pub asked-starts : {epsilon : ℕ} {b : List ℕ} {at left : ℕ} (answer : List Frame → Bool) → Standing epsilon (longFormed epsilon) b at left → Asked epsilon answer b at left at left
+asked-starts answer stands = record { walk = record { stands = stands; holds = refl } }
 
-module _ {epsilon : ℕ} {p : Frame → Bool} {b : List ℕ} {at left from rest : ℕ} (led : Sought epsilon p b at left from rest) where
-  module _ (more : 0 < rest) {size : ℕ} (ends : size ≡ longFrameEnd epsilon (lent b from)) (t : Bool) (tested : t ≡ p (longDecode epsilon (take (from + size - from) (drop from b)))) where
-    split : any p (framesFrom epsilon b at left) ≡ (t || any p (framesFrom epsilon b (from + size) (rest - 1)))
-    unfolding any
-    split =
-        led .same ∙ ap (any p) (frames-split (led .stands) more ends)
-        ∙ ap (λ (x : Bool). x || any p (framesFrom epsilon b (from + size) (rest - 1))) (sym tested)
+module _ {epsilon : ℕ} {answer : List Frame → Bool} {b : List ℕ} {at left from rest : ℕ} (asked : Asked epsilon answer b at left from rest) where
+  pub asked-ends : rest ≤ 0 → answer [] ≡ answer (framesFrom epsilon b at left)
+  asked-ends none = sym (walk-ends (asked .walk) none)
 
-    pub sought-found : t ≡ true → true ≡ any p (framesFrom epsilon b at left)
-    sought-found h = sym (split ∙ ap (λ (x : Bool). x || any p (framesFrom epsilon b (from + size) (rest - 1))) h)
+  module _ (more : 0 < rest) {size : ℕ} (ends : size ≡ longFrameEnd epsilon (lent b from)) where
+    abbrev met : List Frame
+    met = longDecode epsilon (take (from + size - from) (drop from b)) ∷ framesFrom epsilon b (from + size) (rest - 1)
 
-    pub sought-turns : t ≡ false → Sought epsilon p b at left (from + size) (rest - 1)
-    sought-turns h =
-        record {
-          stands = rest-stands (led .stands) more ends;
-          same = split ∙ ap (λ (x : Bool). x || any p (framesFrom epsilon b (from + size) (rest - 1))) h;
-        }
+    -- this frame decides, or those behind it
+    pub asked-found : {value : Bool} → answer met ≡ value → value ≡ answer (framesFrom epsilon b at left)
+    asked-found h = sym (walk-meets (asked .walk) more ends ∙ h)
 
-  pub sought-ends : rest ≤ 0 → false ≡ any p (framesFrom epsilon b at left)
+    pub asked-turns : answer met ≡ answer (framesFrom epsilon b (from + size) (rest - 1)) → Asked epsilon answer b at left (from + size) (rest - 1)
+    asked-turns h = record { walk = record { stands = walk-rest (asked .walk) more ends; holds = walk-meets (asked .walk) more ends ∙ h } }
+
+-- whether one is what is sought, by a test t of the first
+module _ (p : Frame → Bool) (f : Frame) (l : List Frame) {t : Bool} (tested : t ≡ p f) where
+  pub any-found : t ≡ true → any p (f ∷ l) ≡ true
   unfolding any
-  sought-ends none = sym (led .same ∙ ap (any p) (frames-end epsilon b from rest none))
+  any-found h = rw (sym tested ∙ h)
 
--- ---- all frames are apart if those left are
+  pub any-passed : t ≡ false → any p (f ∷ l) ≡ any p l
+  unfolding any
+  any-passed h = rw (sym tested ∙ h)
 
-pub record Parted (epsilon : ℕ) (b : List ℕ) (count at left : ℕ) : Type 0 where
-  pub stands : Standing epsilon (longFormed epsilon) b at left
-  pub same : apart sameOrigin (framesFrom epsilon b 2 count) ≡ apart sameOrigin (framesFrom epsilon b at left)
-
-pub parted-starts : {epsilon : ℕ} {b : List ℕ} {count : ℕ} → Standing epsilon (longFormed epsilon) b 2 count → Parted epsilon b count 2 count
-parted-starts walk = record { stands = walk; same = refl }
-
-module _ {epsilon : ℕ} {b : List ℕ} {count at left : ℕ} (led : Parted epsilon b count at left) where
-  module _ (more : 0 < left) {size : ℕ} (ends : size ≡ longFrameEnd epsilon (lent b at)) (t : Bool)
-      (tested : t ≡ any (sameOrigin (longDecode epsilon (take (at + size - at) (drop at b)))) (framesFrom epsilon b (at + size) (left - 1))) where
-    parts : apart sameOrigin (framesFrom epsilon b 2 count) ≡ (not t && apart sameOrigin (framesFrom epsilon b (at + size) (left - 1)))
-    unfolding apart
-    parts =
-        led .same ∙ ap (apart sameOrigin) (frames-split (led .stands) more ends)
-        ∙ ap (λ (x : Bool). not x && apart sameOrigin (framesFrom epsilon b (at + size) (left - 1))) (sym tested)
-
-    pub parted-found : t ≡ true → false ≡ apart sameOrigin (framesFrom epsilon b 2 count)
-    parted-found h = sym (parts ∙ ap (λ (x : Bool). not x && apart sameOrigin (framesFrom epsilon b (at + size) (left - 1))) h)
-
-    pub parted-turns : t ≡ false → Parted epsilon b count (at + size) (left - 1)
-    parted-turns h =
-        record {
-          stands = rest-stands (led .stands) more ends;
-          same = parts ∙ ap (λ (x : Bool). not x && apart sameOrigin (framesFrom epsilon b (at + size) (left - 1))) h;
-        }
-
-  pub parted-ends : left ≤ 0 → true ≡ apart sameOrigin (framesFrom epsilon b 2 count)
+-- whether all are apart, by a test t of the first against the others
+module _ (f : Frame) (l : List Frame) {t : Bool} (tested : t ≡ any (sameOrigin f) l) where
+  pub apart-found : t ≡ true → apart sameOrigin (f ∷ l) ≡ false
   unfolding apart
-  parted-ends none = sym (led .same ∙ ap (apart sameOrigin) (frames-end epsilon b at left none))
+  apart-found h = rw (sym tested ∙ h)
+
+  pub apart-passed : t ≡ false → apart sameOrigin (f ∷ l) ≡ apart sameOrigin l
+  unfolding apart
+  apart-passed h = rw (sym tested ∙ h)

@@ -1,29 +1,27 @@
 -- How the frames of an engine's hold-back queue (02, 2.9: its shelf) stand in its bytes.
 -- Assumes nothing.
-use Prim.Native.Nat.{ℕ, zero, suc, _+_, _≤_}
+use Prim.Native.Nat.{ℕ, _≤_}
 use mathlib.Core.Path.{_≡_}
 use mathlib.Core.Bool.{Bool, true}
-use mathlib.Core.List.{List, map}
-use lib.ListN.{length, drop}
+use mathlib.Core.List.{List}
+use lib.ListN.{length}
 use Rattle.laws.specs.Lists.{every, overlay}
 use Rattle.model.specs.Setup.{Setup}
 use Rattle.model.specs.Frame.{Frame, twoAt}
-use Rattle.model.specs.Holdback.{cutBy}
 use Rattle.model.specs.Long.{longMost, longFrameEnd, longDecode, longHeldBytes, longHeld, longPasses, longEncodeFrames, longHoldbackSize}
+use Rattle.lemmas.specs.Standing.{leftBy, endBy, StandingBy}
 
 -- the frames that stand from a position on, so many of them
 abbrev pub framesFrom : ℕ → List ℕ → ℕ → ℕ → List Frame
-framesFrom epsilon buffer at left = map (longDecode epsilon) (cutBy (longFrameEnd epsilon) left (drop at buffer))
+framesFrom epsilon buffer at left = leftBy (longFrameEnd epsilon) (longDecode epsilon) buffer at left
 
 -- and where they end
-unfoldable pub endFrom : ℕ → List ℕ → ℕ → ℕ → ℕ
-endFrom epsilon buffer at zero = at
-endFrom epsilon buffer at (suc left) = endFrom epsilon buffer (at + longFrameEnd epsilon (drop at buffer)) left
+abbrev pub endFrom : ℕ → List ℕ → ℕ → ℕ → ℕ
+endFrom epsilon buffer at left = endBy (longFrameEnd epsilon) buffer at left
 
 -- so many frames stand from a position on: the test holds of the bytes of each, and they end within the buffer
-pub record Standing (epsilon : ℕ) (test : List ℕ → Bool) (buffer : List ℕ) (at left : ℕ) : Type 0 where
-  pub each : every test (cutBy (longFrameEnd epsilon) left (drop at buffer)) ≡ true
-  pub inside : endFrom epsilon buffer at left ≤ length buffer
+abbrev pub Standing : ℕ → (List ℕ → Bool) → List ℕ → ℕ → ℕ → Type 0
+Standing epsilon test buffer at left = StandingBy (longFrameEnd epsilon) test buffer at left
 
 -- what the functions are told of a queue in its buffer: each frame passes 10 to 12, they stand at the front as they are written, so many
 -- frames, and where they end

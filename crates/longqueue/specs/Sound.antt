@@ -8,13 +8,13 @@ use lib.ListN.{length, take, drop}
 use Rattle.laws.specs.Lists.{every, apart}
 use Rattle.model.specs.Setup.{Setup}
 use Rattle.model.specs.Holdback.{cutBy, sameOrigin}
-use Rattle.model.specs.Long.{longFrameEnd, longDecode, longHeld, longPasses, longNotEarly, longNotOverdue, longSoundHoldback, longEncodeHoldback}
+use Rattle.model.specs.Long.{longFrameEnd, longDecode, longHeld, longPasses, longNotEarly, longNotExpired, longSoundHoldback, longEncodeHoldback}
 use Rattle.longqueue.specs.Queue.{endFrom, Extent}
 
 -- what is asked of a frame's time
 unfoldable pub timely : Setup → ℕ → ℕ → List ℕ → Bool
 timely s v least bytes =
-    longNotEarly s v (longDecode (s .epsilon) bytes) && longNotOverdue s least (longDecode (s .epsilon) bytes)
+    longNotEarly s v (longDecode (s .epsilon) bytes) && longNotExpired s least (longDecode (s .epsilon) bytes)
 
 -- what is asked of a frame alone
 unfoldable pub fits : Setup → ℕ → ℕ → List ℕ → Bool

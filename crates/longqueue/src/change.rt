@@ -20,12 +20,12 @@ pub struct Opened {
 }
 
 // 01, tick 1: "An unsound shelf is emptied".
-pub fn open(s: Setup, v: usize, least: usize, buf: &mut [u8]) -> Opened
-    requires { ⌜ (longLimits (setupOf s) ≡ true) × (v < longBound) ⌝ }
-    requires { ⌜ length (now buf) ≡ longHoldbackSize (setupOf s) ⌝ }
-    ensures { λ r. ⌜ Opening (setupOf s) v least (now (buf .entry)) (now (buf .exit)) (r .repair) (r .count) (r .end) ⌝ }
+pub fn open(setup: Setup, clock: usize, least: usize, buf: &mut [u8]) -> Opened
+    requires { ⌜ (longLimits (setupOf setup) ≡ true) × (clock < longBound) ⌝ }
+    requires { ⌜ length (now buf) ≡ longHoldbackSize (setupOf setup) ⌝ }
+    ensures { λ r. ⌜ Opening (setupOf setup) clock least (now (buf .entry)) (now (buf .exit)) (r .repair) (r .count) (r .end) ⌝ }
 {
-    let walk = sound(s, v, least, buf);
+    let walk = sound(setup, clock, least, buf);
     if walk.sound {
         return Opened {
             repair: 0,
@@ -43,13 +43,13 @@ pub fn open(s: Setup, v: usize, least: usize, buf: &mut [u8]) -> Opened
 
 // 01, tick 3: "A taken frame goes on the shelf"; 02, 2.9: "in the order heard", so behind the last. Of the bytes behind the frames those
 // that are not needed stay as they were.
-pub fn append(s: Setup, buf: &mut [u8], count: usize, end: usize, frame: &[u8])
-    requires { ⌜ (longLimits (setupOf s) ≡ true) × Extent (setupOf s) (now buf) count end ⌝ }
-    requires { ⌜ (longPasses (setupOf s) (now frame) ≡ true) × (count < longMost) ⌝ }
+pub fn append(setup: Setup, buf: &mut [u8], count: usize, end: usize, frame: &[u8])
+    requires { ⌜ (longLimits (setupOf setup) ≡ true) × Extent (setupOf setup) (now buf) count end ⌝ }
+    requires { ⌜ (longPasses (setupOf setup) (now frame) ≡ true) × (count < longMost) ⌝ }
     ensures buffer { λ _. ⌜ now (buf .exit)
-        ≡ overlay (longEncodeFrames (longHeld (s .epsilon) (now (buf .entry)) ++ (longDecode (s .epsilon) (now (frame .entry)) ∷ []))) (now (buf .entry)) ⌝ }
-    ensures held { λ _. ⌜ longHeld (s .epsilon) (now (buf .exit)) ≡ longHeld (s .epsilon) (now (buf .entry)) ++ (longDecode (s .epsilon) (now (frame .entry)) ∷ []) ⌝ }
-    ensures known { λ _. ⌜ Extent (setupOf s) (now (buf .exit)) (count + 1) (end + length (now (frame .entry))) ⌝ }
+        ≡ overlay (longEncodeFrames (longHeld (setup .epsilon) (now (buf .entry)) ++ (longDecode (setup .epsilon) (now (frame .entry)) ∷ []))) (now (buf .entry)) ⌝ }
+    ensures held { λ _. ⌜ longHeld (setup .epsilon) (now (buf .exit)) ≡ longHeld (setup .epsilon) (now (buf .entry)) ++ (longDecode (setup .epsilon) (now (frame .entry)) ∷ []) ⌝ }
+    ensures known { λ _. ⌜ Extent (setupOf setup) (now (buf .exit)) (count + 1) (end + length (now (frame .entry))) ⌝ }
 {
     splice::copy_into(buf, end, frame);
     splice::put_u16(buf, 0, count + 1);

@@ -16,7 +16,7 @@ use Rattle.model.specs.Comparison.{compareQuestions, compareBy, compareC
 use Rattle.model.specs.Batch.{exactBatch}
 use Rattle.model.specs.Question.{Question, ask, firstNo, askSetup, askForm, askRange, askStamp, frameQuestions}
 use Rattle.model.specs.Codec.{askPayload, readQuestions, ReadAnswer, readBy, read, frameOf, writeFrameQuestions, writeBy, writeFrame, write}
-use Rattle.model.specs.Tick.{Input, boardRoomy, holdbackQuestions, callQuestions, roomy, tickBy, tick}
+use Rattle.model.specs.Tick.{Input, deliveryRoomy, holdbackQuestions, callQuestions, roomy, tickBy, tick}
 use Rattle.model.specs.Observer.{Listening, listenQuestions, listenBy, listen}
 use Rattle.model.specs.Poll.{pollQuestions, pollBy, polledQueue, poll}
 use Rattle.model.specs.Schedule.{Schedule, steady, widening, widestOf, Wider, widerSetup, bothInLimits, askBoth, askWider, samePairs, along, ownLimits, halfOf}
@@ -165,8 +165,8 @@ listen-equal w i equal =
     (λ j.
     let g : Schedule = along-equal (i .setup) w equal (i .clock) j in
     widerListenBy (firstNo (ask (bothInLimits (i .setup) w) 1 ∷ askWider (i .setup) w
-    ∷ (holdbackQuestions (widestOf g) (i .clock) (i .holdback) ++ (ask (exactBatch (i .batch)) 5 ∷ ask (boardRoomy (widestOf g) (i .verdicts) (i .delivery)) 6 ∷ [])))) g i)
+    ∷ (holdbackQuestions (widestOf g) (i .clock) (i .holdback) ++ (ask (exactBatch (i .batch)) 5 ∷ ask (deliveryRoomy (widestOf g) (i .verdicts) (i .delivery)) 6 ∷ [])))) g i)
     ∙ (ap (λ (k : ℕ). widerListenBy k (steady (i .setup)) i)
     (first-listen-equal (i .setup) w equal
-    (holdbackQuestions (i .setup) (i .clock) (i .holdback) ++ (ask (exactBatch (i .batch)) 5 ∷ ask (boardRoomy (i .setup) (i .verdicts) (i .delivery)) 6 ∷ [])))
+    (holdbackQuestions (i .setup) (i .clock) (i .holdback) ++ (ask (exactBatch (i .batch)) 5 ∷ ask (deliveryRoomy (i .setup) (i .verdicts) (i .delivery)) 6 ∷ [])))
     ∙ listen-by (firstNo (listenQuestions i)) i)

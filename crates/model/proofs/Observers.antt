@@ -25,8 +25,8 @@ abbrev A : Frame
 A = frame 1 2 0 (1 ∷ 1 ∷ 1 ∷ 0 ∷ [])
 
 -- one that is due at 4
-abbrev early : Frame
-early = frame 0 1 0 (1 ∷ 1 ∷ 1 ∷ 0 ∷ [])
+abbrev overdue : Frame
+overdue = frame 0 1 0 (1 ∷ 1 ∷ 1 ∷ 0 ∷ [])
 
 -- a call for a clock, with this last clock, this shelf and this bundle; buffers of ones
 abbrev call : ℕ → ℕ → List Frame → List (List ℕ) → Listening
@@ -58,21 +58,21 @@ unfolding computing
 last-clocks = refl
 
 -- the shelf: due at 4 and 5, at clock 5
-pub shelves :
+pub queues :
     map (λ (i : Listening). figures 0 (listen i))
     -- after 3 both go out; after 4 what is due at 4 makes the shelf unsound; so it does where the last clock is mended
-    (call 5 3 (early ∷ A ∷ []) [] ∷ call 5 4 (early ∷ A ∷ []) [] ∷ call 5 14 (early ∷ A ∷ []) []
+    (call 5 3 (overdue ∷ A ∷ []) [] ∷ call 5 4 (overdue ∷ A ∷ []) [] ∷ call 5 14 (overdue ∷ A ∷ []) []
     -- where it is mended what is due at v is kept, and goes out
     ∷ call 5 4 (A ∷ []) [] ∷ call 5 14 (A ∷ []) [] ∷ [])
     ≡ (0 ∷ 0 ∷ 0 ∷ 2 ∷ 5 ∷ []) ∷ (0 ∷ 2 ∷ 0 ∷ 0 ∷ 5 ∷ []) ∷ (0 ∷ 3 ∷ 0 ∷ 0 ∷ 5 ∷ [])
     ∷ (0 ∷ 0 ∷ 0 ∷ 1 ∷ 5 ∷ []) ∷ (0 ∷ 1 ∷ 0 ∷ 1 ∷ 5 ∷ []) ∷ []
 unfolding computing
-shelves = refl
+queues = refl
 
 -- what is handed out, byte for byte, in order
-pub handed-out : heldBytes 2 (listen (call 5 3 (early ∷ A ∷ []) []) .delivery) ≡ encode early ∷ encode A ∷ []
+pub given-frames : heldBytes 2 (listen (call 5 3 (overdue ∷ A ∷ []) []) .delivery) ≡ encode overdue ∷ encode A ∷ []
 unfolding computing
-handed-out = refl
+given-frames = refl
 
 -- frames at clock 1: "all n stations may be ahead of it": 2 at clock 1, which is v (★h), and 2 at clock 2
 abbrev ahead : List Frame
@@ -88,9 +88,9 @@ unfolding computing
 all-ahead = refl
 
 -- both lie on the shelf, in order
-pub all-shelved : held 2 (listen (call 1 0 [] (map encode ahead)) .holdback) ≡ ahead
+pub all-kept : held 2 (listen (call 1 0 [] (map encode ahead)) .holdback) ≡ ahead
 unfolding computing
-all-shelved = refl
+all-kept = refl
 
 -- its other questions: a scrap, a station that is not below n, an unsound stamp (★i), 12 behind (★g), too early (★f), and A, twice
 pub questions :

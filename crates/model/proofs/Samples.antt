@@ -12,7 +12,7 @@ use Rattle.model.specs.Setup.{Setup, depth}
 use Rattle.model.specs.Timestamp.{Timestamp, sum, widened, near, fresh}
 use Rattle.model.specs.Frame.{Frame, twoAt, encode, decode}
 use Rattle.model.specs.Order.{readingOf, before, decidedAt, dueNear}
-use Rattle.model.specs.Holdback.{heldBytes, held, sameOrigin, passes, notEarly, notOverdue, encodeHoldback}
+use Rattle.model.specs.Holdback.{heldBytes, held, sameOrigin, passes, notEarly, notExpired, encodeHoldback}
 use Rattle.model.specs.Judge.{verdictNumber, verdictPlace, judgeQuestions, judge}
 use Rattle.model.specs.Tick.{Input, Output, holdbackSize, leastDue, opening, tick}
 
@@ -242,12 +242,12 @@ judged before-it v queue =
     ∷ one-if (chained (before usual v) (held 2 (stored queue)))
     ∷ one-if (apart sameOrigin (held 2 (stored queue)))
     ∷ one-if (every (notEarly usual v) (held 2 (stored queue)))
-    ∷ one-if (every (notOverdue usual v (leastDue usual v (widened (fresh 2 before-it)))) (held 2 (stored queue)))
+    ∷ one-if (every (notExpired usual v (leastDue usual v (widened (fresh 2 before-it)))) (held 2 (stored queue)))
     ∷ []
 
 -- the mend of a tick, its c and counts, and how many frames it leaves on the shelf
-abbrev mended : Output → List ℕ
-mended o = outcome 4 o ++ (twoAt (o .holdback) 0 ∷ [])
+abbrev repaired : Output → List ℕ
+repaired o = outcome 4 o ++ (twoAt (o .holdback) 0 ∷ [])
 
 -- what a shelf must be: each shelf with mend 2 fails the clause that it is for, and no other, but for the one that holds the same
 -- frame twice; what each mend leaves; and when a frame is handed out.
@@ -276,7 +276,7 @@ queues =
     -- "both make one hand-out": first what was due at 5, then what is due at 6
     ∷ says (holding 4 6 (A ∷ L ∷ []) .answer .delivered ∷ map (λ f. f .stamp .r) (held 2 (holding 4 6 (A ∷ L ∷ []) .delivery))) (2 ∷ 2 ∷ 3 ∷ [])
     -- "When the tables themselves are replaced, no due clock before v is accepted"
-    ∷ says (mended (holding 3 6 (A ∷ [])) ++ mended (holding 3 6 (L ∷ []))) (3 ∷ 0 ∷ 0 ∷ 0 ∷ 1 ∷ 0 ∷ 0 ∷ 1 ∷ 0 ∷ 0 ∷ 0 ∷ 1 ∷ 0 ∷ 0 ∷ [])
+    ∷ says (repaired (holding 3 6 (A ∷ [])) ++ repaired (holding 3 6 (L ∷ []))) (3 ∷ 0 ∷ 0 ∷ 0 ∷ 1 ∷ 0 ∷ 0 ∷ 1 ∷ 0 ∷ 0 ∷ 0 ∷ 1 ∷ 0 ∷ 0 ∷ [])
     -- "at most n(δ + 3ε) frames": nine, and one that is heard
     ∷ says (crowded (lower-six ++ upper-three) (one (encode (alone 8 0)))) (0 ∷ 1 ∷ 5 ∷ [])
     -- one more, in a shelf that meets every other clause
@@ -292,11 +292,11 @@ queues =
     -- "The shelf keeps its length": 2 + (39 + 2 × 2) × 2 × (1 + 3 × 2)
     ∷ says (holdbackSize usual ∷ []) (604 ∷ [])
     -- mend 1: tables of another clock are replaced, and a sound shelf stays: A is still there. Mend, c, counts, the shelf's count
-    ∷ says (mended (holding 3 1 (A ∷ []))) (1 ∷ 0 ∷ 0 ∷ 0 ∷ 1 ∷ 0 ∷ 1 ∷ [])
+    ∷ says (repaired (holding 3 1 (A ∷ []))) (1 ∷ 0 ∷ 0 ∷ 0 ∷ 1 ∷ 0 ∷ 1 ∷ [])
     -- mend 2: an unsound shelf is emptied, and sound tables keep their counts, one offset further down
-    ∷ says (mended (holding 0 1 (S ∷ A ∷ []))) (2 ∷ 0 ∷ 0 ∷ 1 ∷ 1 ∷ 0 ∷ 0 ∷ [])
+    ∷ says (repaired (holding 0 1 (S ∷ A ∷ []))) (2 ∷ 0 ∷ 0 ∷ 1 ∷ 1 ∷ 0 ∷ 0 ∷ [])
     -- "both, mend 3"
-    ∷ says (mended (holding 3 1 (S ∷ A ∷ []))) (3 ∷ 0 ∷ 0 ∷ 0 ∷ 1 ∷ 0 ∷ 0 ∷ [])
+    ∷ says (repaired (holding 3 1 (S ∷ A ∷ []))) (3 ∷ 0 ∷ 0 ∷ 0 ∷ 1 ∷ 0 ∷ 0 ∷ [])
     -- "Handing out before the bundle of that tick is judged" goes wrong: A is heard and handed out at 5
     ∷ says
     (tick (call usual 5 (widened (fresh 2 4)) (stored []) false [] (one (encode A))) .answer .delivered ∷ []) (1 ∷ [])

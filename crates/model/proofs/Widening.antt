@@ -215,14 +215,14 @@ line o = o .answer .repair ∷ o .answer .taken ∷ o .answer .delivered ∷ two
 abbrev given : Frame → List ℕ
 given f = f .station ∷ f .stamp .r ∷ length (f .stamp .kn) ∷ []
 
-abbrev handed : ℕ → ℕ → Output → List (List ℕ)
-handed marked v o = map given (widerHeld (along narrow (mark marked) v) (o .delivery))
+abbrev givenTo : ℕ → ℕ → Output → List (List ℕ)
+givenTo marked v o = map given (widerHeld (along narrow (mark marked) v) (o .delivery))
 
 pub passage-holds :
     _≡_ {A = List (List ℕ)}
-    ((line ninth ∷ outcome 6 ninth ∷ take 3 (ninth .verdicts) ∷ handed 0 9 ninth)
-    ++ ((line twelfth ∷ outcome 6 twelfth ∷ take 3 (twelfth .verdicts) ∷ handed 1 12 twelfth)
-    ++ (line fifteenth ∷ outcome 6 fifteenth ∷ handed 1 15 fifteenth)))
+    ((line ninth ∷ outcome 6 ninth ∷ take 3 (ninth .verdicts) ∷ givenTo 0 9 ninth)
+    ++ ((line twelfth ∷ outcome 6 twelfth ∷ take 3 (twelfth .verdicts) ∷ givenTo 1 12 twelfth)
+    ++ (line fifteenth ∷ outcome 6 fifteenth ∷ givenTo 1 15 fifteenth)))
     (((0 ∷ 3 ∷ 1 ∷ 2 ∷ 12 ∷ []) ∷ (0 ∷ 1 ∷ 1 ∷ 1 ∷ 1 ∷ 1 ∷ 0 ∷ 0 ∷ []) ∷ (0 ∷ 0 ∷ 0 ∷ []) ∷ (1 ∷ 6 ∷ 4 ∷ []) ∷ [])
     ++ (((0 ∷ 1 ∷ 1 ∷ 2 ∷ 14 ∷ []) ∷ (0 ∷ 0 ∷ 1 ∷ 1 ∷ 0 ∷ 1 ∷ 0 ∷ 0 ∷ []) ∷ (0 ∷ 13 ∷ 16 ∷ []) ∷ (1 ∷ 7 ∷ 4 ∷ []) ∷ [])
     ++ ((0 ∷ 0 ∷ 2 ∷ 0 ∷ 0 ∷ []) ∷ (0 ∷ 0 ∷ 1 ∷ 0 ∷ 0 ∷ 1 ∷ 0 ∷ 0 ∷ []) ∷ (1 ∷ 10 ∷ 6 ∷ []) ∷ (0 ∷ 9 ∷ 4 ∷ []) ∷ [])))
@@ -233,14 +233,14 @@ passage-holds = refl
 
 -- a silent call at 9 with these pairs, V, mark, own number, clock and lengths
 abbrev asked : Setup → Wider → ℕ → ℕ → ℕ → ℕ → ℕ → ℕ
-asked s w own clock shelf outgoing delivery =
+asked s w own clock size outgoing delivery =
     tickIn w
     (record {
       setup = s;
       own = own;
       clock = clock;
       tables = widened (fresh 2 8);
-      holdback = replicate shelf 0;
+      holdback = replicate size 0;
       batch = 0 ∷ [];
       send = false;
       payload = [];
@@ -274,14 +274,14 @@ questions-hold = refl
 
 -- a listener's call: its number, mend, taken, handed out, last clock
 abbrev listened : ℕ → ℕ → ℕ → ℕ → List Frame → List Frame → List ℕ
-listened marked clock last shelf queue heard =
+listened marked clock last size queue heard =
     let o : Listened =
     listenIn (mark marked)
     (record {
       setup = narrow;
       clock = clock;
       last = last;
-      holdback = encodeHoldback shelf queue;
+      holdback = encodeHoldback size queue;
       batch = batch heard;
       verdicts = replicate 255 1;
       delivery = replicate 992 1;

@@ -8,7 +8,7 @@ use Rattle.laws.specs.Lex.{firstDifference}
 use Rattle.model.specs.Setup.{Setup}
 use Rattle.model.specs.Timestamp.{sum}
 use Rattle.model.specs.Frame.{Frame, decode}
-use Rattle.model.specs.Order.{readingOf, keyNear, clockAt}
+use Rattle.model.specs.Order.{readingOf, keyNear, readingClock}
 use Rattle.model.specs.Question.{Question, ask, firstNo, askSetup, frameQuestions}
 
 -- 02: "sum, the count at a given clock, station, r, or nothing where all agree"
@@ -44,7 +44,7 @@ compareKeys epsilon a b =
 
 -- 02: a count's "clock modulo B": k before the sum, where v reads B
 unfoldable pub countClock : Setup → ℕ → ℕ → ℕ → ℕ
-countClock s v total k = clockAt s v (total - k)
+countClock s v total k = readingClock s v (total - k)
 
 -- a reason with the count named by its clock
 abbrev pub clocked : (ℕ → ℕ) → Reason → Reason

@@ -46,8 +46,8 @@ notEarly s v f = notEarlyAt s (s .modulus) (readingOf s v f) f
 
 -- 01: "sum + δ + ε not before v". 02, 2.2: "each frame is due after the last clock": not before the least due clock that is allowed, as a
 -- reading, in which v stands at B
-unfoldable pub notOverdue : Setup → ℕ → ℕ → Frame → Bool
-notOverdue s v least f = leb least (dueNear s v f)
+unfoldable pub notExpired : Setup → ℕ → ℕ → Frame → Bool
+notExpired s v least f = leb least (dueNear s v f)
 
 -- 01: "It is sound if it holds at most n(δ + 3ε) frames that pass 10 to 12, strictly in order, no station and r twice,
 -- each sum at most ε − 1 past v and each sum + δ + ε not before v", here not before the least due clock that is allowed
@@ -55,7 +55,7 @@ unfoldable pub soundHoldback : Setup → ℕ → ℕ → List ℕ → Bool
 soundHoldback s v least bytes =
     leb (twoAt bytes 0) (depthOf s) && (every (passes s) (heldBytes (s .epsilon) bytes)
     && (chained (before s v) (held (s .epsilon) bytes) && (apart sameOrigin (held (s .epsilon) bytes)
-    && (every (notEarly s v) (held (s .epsilon) bytes) && every (notOverdue s v least) (held (s .epsilon) bytes)))))
+    && (every (notEarly s v) (held (s .epsilon) bytes) && every (notExpired s v least) (held (s .epsilon) bytes)))))
 
 -- 01: "A hand-out has the shelf's form without the zeros": "a two-byte count, then frames", each written so
 abbrev pub framesBy : (Frame → List ℕ) → List Frame → List ℕ

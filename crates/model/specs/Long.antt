@@ -136,15 +136,15 @@ unfoldable pub longNotEarly : Setup → ℕ → Frame → Bool
 longNotEarly s v f = notEarlyAt s v (f .stamp .r) f
 
 -- 02, 2.2: not before the least due clock that is allowed
-unfoldable pub longNotOverdue : Setup → ℕ → Frame → Bool
-longNotOverdue s least f = leb least (longDue s f)
+unfoldable pub longNotExpired : Setup → ℕ → Frame → Bool
+longNotExpired s least f = leb least (longDue s f)
 
 -- 01: "It is sound if …"; 02: "not judged for order"
 unfoldable pub longSoundHoldback : Setup → ℕ → ℕ → List ℕ → Bool
 longSoundHoldback s v least bytes =
     leb (twoAt bytes 0) longMost && (every (longPasses s) (longHeldBytes (s .epsilon) bytes)
     && (apart sameOrigin (longHeld (s .epsilon) bytes)
-    && (every (longNotEarly s v) (longHeld (s .epsilon) bytes) && every (longNotOverdue s least) (longHeld (s .epsilon) bytes))))
+    && (every (longNotEarly s v) (longHeld (s .epsilon) bytes) && every (longNotExpired s least) (longHeld (s .epsilon) bytes))))
 
 unfoldable pub longEncodeFrames : List Frame → List ℕ
 longEncodeFrames queue = framesBy longEncode queue
@@ -215,12 +215,12 @@ longTablesSound s v tables =
 unfoldable pub longLeastDue : Setup → ℕ → Timestamp → ℕ
 longLeastDue s v tables = leastAt v (longTablesSound s v tables) (v - tables .r)
 
-unfoldable pub longShelfSound : Input → Bool
-longShelfSound i =
+unfoldable pub longHoldbackSound : Input → Bool
+longHoldbackSound i =
     longSoundHoldback (i .setup) (i .clock) (longLeastDue (i .setup) (i .clock) (i .tables)) (i .holdback)
 
 unfoldable pub longRepair : Input → ℕ
-longRepair i = cond (longTablesSound (i .setup) (i .clock) (i .tables)) 0 1 + cond (longShelfSound i) 0 2
+longRepair i = cond (longTablesSound (i .setup) (i .clock) (i .tables)) 0 1 + cond (longHoldbackSound i) 0 2
 
 -- tick 1 and 2
 unfoldable pub longOpeningStamp : Input → Timestamp
@@ -230,7 +230,7 @@ longOpeningStamp i =
     (replaced (i .setup .epsilon) (i .clock))
 
 unfoldable pub longOpened : Input → List Frame
-longOpened i = cond (longShelfSound i) (longHeld (i .setup .epsilon) (i .holdback)) []
+longOpened i = cond (longHoldbackSound i) (longHeld (i .setup .epsilon) (i .holdback)) []
 
 -- tick 3. What is due before v is held until the hand-out too: so no more than 64 are ever handed out, and 13 refuses what has the origin of one
 unfoldable pub longHeard : Input → Heard

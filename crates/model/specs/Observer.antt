@@ -11,7 +11,7 @@ use Rattle.model.specs.Batch.{exactBatch, batchEntries}
 use Rattle.model.specs.Question.{Question, ask, firstNo}
 use Rattle.model.specs.Holdback.{soundHoldback, encodeFrames, encodeHoldback}
 use Rattle.model.specs.Judge.{Heard, hear, observerQuestions}
-use Rattle.model.specs.Tick.{holdbackSize, boardRoomy, holdbackQuestions, leastAfter, openingQueue, earlyIn, openingIn, deliveredIn, keptIn, takenCount}
+use Rattle.model.specs.Tick.{holdbackSize, deliveryRoomy, holdbackQuestions, leastAfter, openingQueue, overdueIn, openingIn, deliveredIn, keptIn, takenCount}
 
 -- the arguments of an observer's call
 pub record Listening : Type 0 where
@@ -51,7 +51,7 @@ unfoldable pub listenQuestions : Listening → List Question
 listenQuestions i =
     ask (inLimits (i .setup)) 1
     ∷ (holdbackQuestions (i .setup) (i .clock) (i .holdback)
-    ++ (ask (exactBatch (i .batch)) 5 ∷ ask (boardRoomy (i .setup) (i .verdicts) (i .delivery)) 6 ∷ []))
+    ++ (ask (exactBatch (i .batch)) 5 ∷ ask (deliveryRoomy (i .setup) (i .verdicts) (i .delivery)) 6 ∷ []))
 
 -- a refused call changes nothing
 unfoldable pub notListened : Listening → ℕ → Listened
@@ -90,7 +90,7 @@ observerHeard i =
 
 -- the hand-out, and what stays
 unfoldable pub observerDelivered : Listening → List Frame
-observerDelivered i = deliveredIn (i .setup) (i .clock) (earlyIn (i .setup) (i .clock) (observerOpened i)) (observerHeard i .queue)
+observerDelivered i = deliveredIn (i .setup) (i .clock) (overdueIn (i .setup) (i .clock) (observerOpened i)) (observerHeard i .queue)
 
 unfoldable pub observerKept : Listening → List Frame
 observerKept i = keptIn (i .setup) (i .clock) (observerHeard i .queue)

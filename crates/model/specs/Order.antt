@@ -40,14 +40,18 @@ before s v f g = isLess (compareFrames s v f g)
 unfoldable pub decidedAt : Setup → ℕ → Frame → Frame → ℕ
 decidedAt s v f g = firstDifference (keyNear s v f) (keyNear s v g)
 
--- 01: "sum + δ + ε (its due clock)", at a reading
-unfoldable pub due : Setup → ℕ → ℕ → ℕ
-due s reading c = sum reading c + s .delta + s .epsilon
+-- 01: "sum + δ + ε (its due clock)", of a sum
+abbrev pub sumDue : Setup → ℕ → ℕ
+sumDue s total = total + s .delta + s .epsilon
 
--- the same with r read near v
+-- the same at a reading
+unfoldable pub due : Setup → ℕ → ℕ → ℕ
+due s reading c = sumDue s (sum reading c)
+
+-- with r read near v
 unfoldable pub dueNear : Setup → ℕ → Frame → ℕ
 dueNear s v f = due s (readingOf s v f) (f .stamp .c)
 
 -- the clock, modulo B, of a reading near v, which reads B
-unfoldable pub clockAt : Setup → ℕ → ℕ → ℕ
-clockAt s v reading = (v + reading) % s .modulus
+unfoldable pub readingClock : Setup → ℕ → ℕ → ℕ
+readingClock s v reading = (v + reading) % s .modulus

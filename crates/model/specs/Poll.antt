@@ -8,7 +8,7 @@ use lib.ListN.{length}
 use Rattle.laws.specs.Lists.{select, smallest}
 use Rattle.model.specs.Setup.{Setup}
 use Rattle.model.specs.Frame.{Frame}
-use Rattle.model.specs.Order.{dueNear, clockAt}
+use Rattle.model.specs.Order.{dueNear, readingClock}
 use Rattle.model.specs.Question.{Question, firstNo, askSetup}
 use Rattle.model.specs.Tick.{openingQueue, holdbackQuestions}
 
@@ -26,7 +26,7 @@ soonestDue s v queue = smallest (map (dueNear s v) queue)
 
 -- 02: "the next due clock, or none", modulo B
 unfoldable pub nextDue : Setup → ℕ → List Frame → Option ℕ
-nextDue s v queue = Option·map (clockAt s v) (soonestDue s v queue)
+nextDue s v queue = Option·map (readingClock s v) (soonestDue s v queue)
 
 -- 02: "due at most d ticks after v"
 unfoldable pub dueWithin : Setup → ℕ → ℕ → Frame → Bool

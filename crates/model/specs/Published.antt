@@ -68,14 +68,18 @@ rank epsilon m =
 unfoldable pub less : ℕ → Message → Message → Bool
 less epsilon m m′ = isLess (lexCompare (rank epsilon m) (rank epsilon m′))
 
+-- "r.m + c.m + δ + ε", the due clock of a message
+abbrev pub messageDue : ℕ → ℕ → Message → ℕ
+messageDue epsilon delta m = m .event .r + m .event .c + delta + epsilon
+
 -- Equation 4.11: delcond(m, j) = (rt.j = r.m + c.m + δ + ε)
 unfoldable pub deliverable : ℕ → ℕ → ℕ → Message → Bool
-deliverable epsilon delta rt m = eqb rt (m .event .r + m .event .c + delta + epsilon)
+deliverable epsilon delta rt m = eqb rt (messageDue epsilon delta m)
 
 -- 02, 2.2: "A message is handed out at the first tick at or past its due clock": a clock that moves by more than one may pass r + c + δ + ε.
 -- (What is delivered leaves the buffer, so the first such event delivers it.)
 unfoldable pub deliverableBy : ℕ → ℕ → ℕ → Message → Bool
-deliverableBy epsilon delta rt m = leb (m .event .r + m .event .c + delta + epsilon) rt
+deliverableBy epsilon delta rt m = leb (messageDue epsilon delta m) rt
 
 -- such a condition: ε, δ, the clock of the event, the message
 abbrev pub Condition : Type 0

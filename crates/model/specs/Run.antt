@@ -7,9 +7,12 @@ use lib.Dec.{eqb}
 use lib.ListN.{take, set, getElem?}
 use Rattle.model.specs.Setup.{Setup}
 use Rattle.model.specs.Timestamp.{Timestamp}
-use Rattle.model.specs.Frame.{Frame, decode}
+use Rattle.model.specs.Frame.{Frame}
 use Rattle.model.specs.Tick.{Input, Output, tick}
 use Rattle.model.specs.Observer.{Listening, Listened, listen}
+use Rattle.model.specs.Schedule.{Schedule, steady, Wider, along}
+use Rattle.model.specs.Wider.{widerDecode, tickIn}
+use Rattle.model.specs.WiderCalls.{listenIn}
 
 -- 01: a station: its own number, its true clock, the tables and the shelf that its call before left. 02, 2.6: or a board that only
 -- listens, an observer, which has no own number, and of the tables r alone, its last clock
@@ -35,6 +38,10 @@ pub data Source : Type 0 where
 pub record Call : Type 0 where
   pub node : ℕ
   pub setup : Setup
+  -- 02, 2.10: the wider pair, where the setup carries both
+  pub wider : Option Wider
+  -- 02, 2.10: the bytes by which the shelf is longer than the call before left it, where it gets its new size: any bytes
+  pub spare : List ℕ
   -- 01: the own number
   pub own : ℕ
   -- 01: the clock modulo B
@@ -51,6 +58,17 @@ pub record Call : Type 0 where
   pub outgoing : List ℕ
   pub verdicts : List ℕ
   pub delivery : List ℕ
+
+-- 02, 2.10: "shelves and buffers have the new sizes from a station's first call with both pairs": a node as such a call finds it
+unfoldable pub lengthened : List ℕ → Node → Node
+lengthened spare node =
+    record {
+      listens = node .listens;
+      own = node .own;
+      clock = node .clock;
+      tables = node .tables;
+      holdback = node .holdback ++ spare;
+    }
 
 -- 01: "given its station's tables and shelf"
 unfoldable pub inputOf : Node → Call → Input
@@ -125,7 +143,7 @@ pub record World : Type 0 where
 unfoldable pub movedClock : Output → ℕ → ℕ → ℕ
 movedClock o step clock = cond (isAccepted o) (clock + step) clock
 
--- a node after its call; a refused call "leaves both" tables and shelf, as the tick's answer has them
+-- a node after its call; a refused call "leaves both" tables and shelf, the shelf as the call before left it
 unfoldable pub nodeAfter : Node → ℕ → Output → Node
 nodeAfter node step o =
     record {
@@ -133,12 +151,25 @@ nodeAfter node step o =
       own = node .own;
       clock = movedClock o step (node .clock);
       tables = o .answer .tables;
-      holdback = o .holdback;
+      holdback = cond (isAccepted o) (o .holdback) (node .holdback);
     }
 
--- what comes of a call to a node
+-- what comes of a call to a node, with one pair of limits or with both
+abbrev pub outputBy : Option Wider → Node → Call → Output
+outputBy none node call = cond (node .listens) (listenedOutput node call (listen (listeningOf node call))) (tick (inputOf node call))
+outputBy (some w) node call =
+    cond (node .listens) (listenedOutput node call (listenIn w (listeningOf node call))) (tickIn w (inputOf node call))
+
 unfoldable pub outputOf : Node → Call → Output
-outputOf node call = cond (node .listens) (listenedOutput node call (listen (listeningOf node call))) (tick (inputOf node call))
+outputOf node call = outputBy (call .wider) (lengthened (call .spare) node) call
+
+-- the limits of a call, as readings near its clock
+abbrev pub scheduleBy : Option Wider → Setup → ℕ → Schedule
+scheduleBy none s v = steady s
+scheduleBy (some w) s v = along s w v
+
+unfoldable pub scheduleOf : Call → Schedule
+scheduleOf call = scheduleBy (call .wider) (call .setup) (call .clock)
 
 -- the record of a call to a node
 unfoldable pub doneOf : Node → Call → Done
@@ -187,6 +218,6 @@ sends d = isEvent d && d .call .send
 unfoldable pub messageBytes : Done → List ℕ
 messageBytes d = take (d .output .answer .sent) (d .output .outgoing)
 
--- what that frame holds
+-- what that frame holds; 02, 2.10: "the width is part of a frame's contents"
 unfoldable pub messageFrame : Done → Frame
-messageFrame d = decode (d .call .setup .epsilon) (messageBytes d)
+messageFrame d = widerDecode (scheduleOf (d .call)) (messageBytes d)

@@ -4,6 +4,7 @@ use mathlib.Core.Bool.{Bool, _&&_, cond}
 use lib.Dec.{leb, ltb, eqb}
 use Rattle.model.specs.Setup.{Setup, inLimits, isMember, width}
 use Rattle.model.specs.Timestamp.{ahead}
+use Rattle.model.specs.Order.{sumDue}
 use Rattle.model.specs.Question.{Question, ask}
 
 -- 02: "At an agreed clock V the yard goes from ε, δ to limits ε′ ≥ ε, δ′ ≥ δ": which limits hold at which clock. The same at every clock, or
@@ -105,13 +106,12 @@ tablesHalf g step = limitsAt g (modulusOf g - step) .epsilon
 
 -- 02: a frame's "sum + δ + ε … lies before V"
 unfoldable pub oldDue : Setup → ℕ → ℕ → Bool
-oldDue before change total = ltb (total + before .delta + before .epsilon) change
+oldDue before change total = ltb (sumDue before total) change
 
 -- 02: "A frame is due at sum + δ + ε if that lies before V, else at sum + δ′ + ε′"
 abbrev pub dueAlong : Schedule → ℕ → ℕ
-dueAlong (steady s) total = total + s .delta + s .epsilon
-dueAlong (widening before after change) total =
-    cond (oldDue before change total) (total + before .delta + before .epsilon) (total + after .delta + after .epsilon)
+dueAlong (steady s) total = sumDue s total
+dueAlong (widening before after change) total = cond (oldDue before change total) (sumDue before total) (sumDue after total)
 
 -- 02: "Frames due before V compare ε counts, all others ε′ counts". (The new due clock of all others is not before the old one, so not before V.)
 abbrev pub comparedAlong : Schedule → ℕ → ℕ

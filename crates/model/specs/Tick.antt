@@ -64,12 +64,12 @@ abbrev pub holdbackSize : Setup → ℕ
 holdbackSize s = holdbackLength (s .n) (s .epsilon) (s .delta)
 
 -- 01, 6: "Has … the verdict buffer 255, the hand-out buffer a shelf's length?"
-abbrev pub boardRoomy : Setup → List ℕ → List ℕ → Bool
-boardRoomy s verdicts delivery = leb verdictLength (length verdicts) && leb (holdbackSize s) (length delivery)
+abbrev pub deliveryRoomy : Setup → List ℕ → List ℕ → Bool
+deliveryRoomy s verdicts delivery = leb verdictLength (length verdicts) && leb (holdbackSize s) (length delivery)
 
 -- 01, 6: "Has the outgoing buffer at least 39 + 2ε bytes", and these
 unfoldable pub roomy : Input → Bool
-roomy i = leb (longestFrame (i .setup .epsilon)) (length (i .outgoing)) && boardRoomy (i .setup) (i .verdicts) (i .delivery)
+roomy i = leb (longestFrame (i .setup .epsilon)) (length (i .outgoing)) && deliveryRoomy (i .setup) (i .verdicts) (i .delivery)
 
 -- 01, 2: "Is the clock below B?", and 3: "Has the shelf its exact length?"
 abbrev pub holdbackQuestions : Setup → ℕ → List ℕ → List Question
@@ -114,12 +114,12 @@ unfoldable pub leastDue : Setup → ℕ → Timestamp → ℕ
 leastDue s v tables = leastAfter s (tablesSound s v tables) (stepOf s v tables)
 
 -- the shelf is sound for v, after these tables
-unfoldable pub shelfSound : Setup → ℕ → Timestamp → List ℕ → Bool
-shelfSound s v tables holdback = soundHoldback s v (leastDue s v tables) holdback
+unfoldable pub holdbackSound : Setup → ℕ → Timestamp → List ℕ → Bool
+holdbackSound s v tables holdback = soundHoldback s v (leastDue s v tables) holdback
 
 -- 01, tick 1: "(mend 1)", "(mend 2; both, mend 3)"
 unfoldable pub repairOf : Setup → ℕ → Timestamp → List ℕ → ℕ
-repairOf s v tables holdback = cond (tablesSound s v tables) 0 1 + cond (shelfSound s v tables holdback) 0 2
+repairOf s v tables holdback = cond (tablesSound s v tables) 0 1 + cond (holdbackSound s v tables holdback) 0 2
 
 -- 01, tick 1 and 2: the stamp with which hearing starts
 unfoldable pub openingStamp : Setup → ℕ → Timestamp → Timestamp
@@ -139,16 +139,16 @@ unfoldable pub dueBefore : Setup → ℕ → Frame → Bool
 dueBefore s v f = ltb (dueNear s v f) (s .modulus)
 
 -- 02, 2.2: "Frames whose due clock lies before v go out before the bundle is judged"
-abbrev pub earlyIn : Setup → ℕ → List Frame → List Frame
-earlyIn s v queue = select (dueBefore s v) queue
+abbrev pub overdueIn : Setup → ℕ → List Frame → List Frame
+overdueIn s v queue = select (dueBefore s v) queue
 
 -- what hearing starts from, on the shelf: all others
 abbrev pub openingIn : Setup → ℕ → List Frame → Heard
 openingIn s v queue = record { queue = select (λ f. not (dueBefore s v f)) queue; verdicts = [] }
 
 -- the same in a call
-unfoldable pub earlyOf : Input → List Frame
-earlyOf i = earlyIn (i .setup) (i .clock) (openedQueue i)
+unfoldable pub overdueOf : Input → List Frame
+overdueOf i = overdueIn (i .setup) (i .clock) (openedQueue i)
 
 abbrev pub opening : Input → Heard
 opening i = openingIn (i .setup) (i .clock) (openedQueue i)
@@ -178,7 +178,7 @@ dueNow s v f = eqb (dueNear s v f) (s .modulus)
 
 -- 01, tick 6: "is handed out, in order". 02, 2.2: those due before v and those due at v: "both make one hand-out"
 abbrev pub deliveredIn : Setup → ℕ → List Frame → List Frame → List Frame
-deliveredIn s v early queue = early ++ select (dueNow s v) queue
+deliveredIn s v overdue queue = overdue ++ select (dueNow s v) queue
 
 -- 01, tick 6: "and leaves the shelf"
 abbrev pub keptIn : Setup → ℕ → List Frame → List Frame
@@ -186,7 +186,7 @@ keptIn s v queue = select (λ f. not (dueNow s v f)) queue
 
 -- the same in a call
 unfoldable pub deliveredOf : Input → List Frame
-deliveredOf i = deliveredIn (i .setup) (i .clock) (earlyOf i) (heardOf i .queue)
+deliveredOf i = deliveredIn (i .setup) (i .clock) (overdueOf i) (heardOf i .queue)
 
 unfoldable pub keptOf : Input → List Frame
 keptOf i = keptIn (i .setup) (i .clock) (heardOf i .queue)
@@ -198,7 +198,7 @@ takenCount verdicts = length (select (λ x. eqb x 0) verdicts)
 -- what an accepted call comes to: mend, the new stamp, the verdicts, the frame sent, what is handed out, with its bytes, and the shelf's bytes.
 -- "Bytes beyond those written stay"
 abbrev pub acceptedWith : Input → ℕ → Timestamp → List ℕ → List ℕ → List Frame → List ℕ → List ℕ → Output
-acceptedWith i repair stamp verdicts sent delivered handed holdback =
+acceptedWith i repair stamp verdicts sent delivered deliveredBytes holdback =
     record {
       answer =
           record {
@@ -212,7 +212,7 @@ acceptedWith i repair stamp verdicts sent delivered handed holdback =
       holdback = holdback;
       outgoing = overlay sent (i .outgoing);
       verdicts = overlay verdicts (i .verdicts);
-      delivery = overlay handed (i .delivery);
+      delivery = overlay deliveredBytes (i .delivery);
     }
 
 -- an accepted call

@@ -15,7 +15,7 @@ use Rattle.model.specs.Question.{Question, ask, firstNo, askRange}
 use Rattle.model.specs.Codec.{askPayload, frameOf}
 use Rattle.model.specs.Holdback.{cutBy, sameOrigin, notEarly, encodeFrames, encodeHoldback}
 use Rattle.model.specs.Judge.{Asking, askLate, askEarly, askRepeat, Verdict, verdictBy, Heard, hearBy, absorbBy, absorbEach}
-use Rattle.model.specs.Tick.{Input, Output, refusal, boardRoomy, holdbackQuestions, holdbackSize, stepOf, leastAt, acceptedWith}
+use Rattle.model.specs.Tick.{Input, Output, refusal, deliveryRoomy, holdbackQuestions, holdbackSize, stepOf, leastAt, acceptedWith}
 use Rattle.model.specs.Schedule.{Schedule, steady, widening, modulusOf, widestOf, Wider, askBoth, askWider, along, ownLimits, halfOf, tablesHalf, dueAlong, comparedAlong}
 
 -- ---- frames of both widths
@@ -95,15 +95,15 @@ widerHeld g s = map (widerDecode g) (widerHeldBytes g s)
 unfoldable pub widerPasses : Schedule → List ℕ → Bool
 widerPasses g bytes = eqb (firstNo (widerFrameQuestions g bytes)) 0
 
-unfoldable pub widerNotOverdue : Schedule → ℕ → ℕ → Frame → Bool
-widerNotOverdue g v least f = leb least (widerDue g v f)
+unfoldable pub widerNotExpired : Schedule → ℕ → ℕ → Frame → Bool
+widerNotExpired g v least f = leb least (widerDue g v f)
 
 -- 01: "It is sound if …", by the limits of v
 unfoldable pub widerSoundHoldback : Schedule → ℕ → ℕ → List ℕ → Bool
 widerSoundHoldback g v least bytes =
     leb (twoAt bytes 0) (depthOf (ownLimits g)) && (every (widerPasses g) (widerHeldBytes g bytes)
     && (chained (widerBefore g v) (widerHeld g bytes) && (apart sameOrigin (widerHeld g bytes)
-    && (every (notEarly (ownLimits g) v) (widerHeld g bytes) && every (widerNotOverdue g v least) (widerHeld g bytes)))))
+    && (every (notEarly (ownLimits g) v) (widerHeld g bytes) && every (widerNotExpired g v least) (widerHeld g bytes)))))
 
 -- 01, tick 1: "An unsound shelf is emptied"
 unfoldable pub widerOpeningQueue : Schedule → ℕ → ℕ → List ℕ → List Frame
@@ -117,14 +117,14 @@ unfoldable pub widerDueNow : Schedule → ℕ → Frame → Bool
 widerDueNow g v f = eqb (widerDue g v f) (modulusOf g)
 
 -- what goes out before the bundle is judged, what hearing starts from, what is handed out, and what stays
-abbrev pub widerEarly : Schedule → ℕ → List Frame → List Frame
-widerEarly g v queue = select (widerDueBefore g v) queue
+abbrev pub widerOverdue : Schedule → ℕ → List Frame → List Frame
+widerOverdue g v queue = select (widerDueBefore g v) queue
 
 abbrev pub widerOpening : Schedule → ℕ → List Frame → Heard
 widerOpening g v queue = record { queue = select (λ f. not (widerDueBefore g v f)) queue; verdicts = [] }
 
 abbrev pub widerDelivered : Schedule → ℕ → List Frame → List Frame → List Frame
-widerDelivered g v early queue = early ++ select (widerDueNow g v) queue
+widerDelivered g v overdue queue = overdue ++ select (widerDueNow g v) queue
 
 abbrev pub widerKept : Schedule → ℕ → List Frame → List Frame
 widerKept g v queue = select (λ f. not (widerDueNow g v f)) queue
@@ -216,11 +216,11 @@ widerTablesSound g v tables =
 unfoldable pub widerLeast : Schedule → ℕ → Timestamp → ℕ
 widerLeast g v tables = leastAt (modulusOf g) (widerTablesSound g v tables) (widerStepOf g v tables)
 
-unfoldable pub widerShelfSound : Schedule → ℕ → Timestamp → List ℕ → Bool
-widerShelfSound g v tables holdback = widerSoundHoldback g v (widerLeast g v tables) holdback
+unfoldable pub widerHoldbackSound : Schedule → ℕ → Timestamp → List ℕ → Bool
+widerHoldbackSound g v tables holdback = widerSoundHoldback g v (widerLeast g v tables) holdback
 
 unfoldable pub widerRepair : Schedule → ℕ → Timestamp → List ℕ → ℕ
-widerRepair g v tables holdback = cond (widerTablesSound g v tables) 0 1 + cond (widerShelfSound g v tables holdback) 0 2
+widerRepair g v tables holdback = cond (widerTablesSound g v tables) 0 1 + cond (widerHoldbackSound g v tables holdback) 0 2
 
 -- 02, 2.2: "c drops by the step and counts move down by it", from counts of one half width into those of another: "missing counts being 0"
 unfoldable pub stepInto : ℕ → ℕ → ℕ → ℕ → Timestamp → Timestamp
@@ -258,7 +258,7 @@ widerSent g i = cond (i .send) (encode (frameOf (ownLimits g .epsilon) (i .own) 
 
 -- tick 6
 unfoldable pub widerDeliveredOf : Schedule → Input → List Frame
-widerDeliveredOf g i = widerDelivered g (i .clock) (widerEarly g (i .clock) (widerOpened g i)) (widerHeard g i .queue)
+widerDeliveredOf g i = widerDelivered g (i .clock) (widerOverdue g (i .clock) (widerOpened g i)) (widerHeard g i .queue)
 
 unfoldable pub widerKeptOf : Schedule → Input → List Frame
 widerKeptOf g i = widerKept g (i .clock) (widerHeard g i .queue)
@@ -274,7 +274,7 @@ unfoldable pub sizedQuestions : Setup → Input → List Question
 sizedQuestions s i =
     holdbackQuestions s (i .clock) (i .holdback)
     ++ (askPayload (i .payload) ∷ ask (exactBatch (i .batch)) 5
-    ∷ ask (leb (longestFrame (s .epsilon)) (length (i .outgoing)) && boardRoomy s (i .verdicts) (i .delivery)) 6 ∷ [])
+    ∷ ask (leb (longestFrame (s .epsilon)) (length (i .outgoing)) && deliveryRoomy s (i .verdicts) (i .delivery)) 6 ∷ [])
 
 -- 1, 19, then 2 to 6: "shelves and buffers have the new sizes from a station's first call with both pairs"
 unfoldable pub widerCallQuestions : Wider → Input → List Question

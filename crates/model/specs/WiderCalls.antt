@@ -9,18 +9,18 @@ use Rattle.laws.specs.Lists.{select, overlay, smallest}
 use Rattle.model.specs.Setup.{Setup}
 use Rattle.model.specs.Timestamp.{Timestamp, sum, clockStep, soundClock, widened, fresh}
 use Rattle.model.specs.Frame.{Frame, encode}
-use Rattle.model.specs.Order.{clockAt}
+use Rattle.model.specs.Order.{readingClock}
 use Rattle.model.specs.Comparison.{Comparison, compareKeys, countClock, atClocks, CompareAnswer, compareBy}
 use Rattle.model.specs.Batch.{exactBatch, batchEntries}
 use Rattle.model.specs.Question.{Question, ask, firstNo, askRange}
 use Rattle.model.specs.Codec.{askPayload, noTimestamp, frameOf, WriteAnswer, writeBy}
 use Rattle.model.specs.Holdback.{encodeFrames, encodeHoldback}
 use Rattle.model.specs.Judge.{Heard}
-use Rattle.model.specs.Tick.{holdbackSize, boardRoomy, holdbackQuestions, leastAt, takenCount}
+use Rattle.model.specs.Tick.{holdbackSize, deliveryRoomy, holdbackQuestions, leastAt, takenCount}
 use Rattle.model.specs.Observer.{Listening, Listened, notListened}
 use Rattle.model.specs.Poll.{PollAnswer}
 use Rattle.model.specs.Schedule.{Schedule, widening, modulusOf, widestOf, Wider, widerSetup, bothInLimits, askBoth, askWider, along, ownLimits, comparedAlong}
-use Rattle.model.specs.Wider.{widerDecode, frameHalf, soundWithin, questionsWithin, widerFrameQuestions, widerReading, widerKeyNear, widerDue, widerSoundHoldback, widerOpeningQueue, widerEarly, widerOpening, widerDelivered, widerKept, widerObserverQuestions, widerHear}
+use Rattle.model.specs.Wider.{widerDecode, frameHalf, soundWithin, questionsWithin, widerFrameQuestions, widerReading, widerKeyNear, widerDue, widerSoundHoldback, widerOpeningQueue, widerOverdue, widerOpening, widerDelivered, widerKept, widerObserverQuestions, widerHear}
 
 -- ---- a listener; 02: "A listener changes setups as a station does"
 
@@ -30,7 +30,7 @@ listenInQuestions w i =
     let size : Setup = widestOf (along (i .setup) w (i .clock)) in
     ask (bothInLimits (i .setup) w) 1 ∷ askWider (i .setup) w
     ∷ (holdbackQuestions size (i .clock) (i .holdback)
-    ++ (ask (exactBatch (i .batch)) 5 ∷ ask (boardRoomy size (i .verdicts) (i .delivery)) 6 ∷ []))
+    ++ (ask (exactBatch (i .batch)) 5 ∷ ask (deliveryRoomy size (i .verdicts) (i .delivery)) 6 ∷ []))
 
 -- its last clock, "judged and mended like the r of tables"
 unfoldable pub widerLastSound : Schedule → Listening → Bool
@@ -52,7 +52,7 @@ widerObserverHeard g i =
 
 unfoldable pub widerObserverDelivered : Schedule → Listening → List Frame
 widerObserverDelivered g i =
-    widerDelivered g (i .clock) (widerEarly g (i .clock) (widerObserverOpened g i)) (widerObserverHeard g i .queue)
+    widerDelivered g (i .clock) (widerOverdue g (i .clock) (widerObserverOpened g i)) (widerObserverHeard g i .queue)
 
 unfoldable pub widerObserverKept : Schedule → Listening → List Frame
 widerObserverKept g i = widerKept g (i .clock) (widerObserverHeard g i .queue)
@@ -91,7 +91,7 @@ unfoldable pub widerSoonestDue : Schedule → ℕ → List Frame → Option ℕ
 widerSoonestDue g v queue = smallest (map (widerDue g v) queue)
 
 unfoldable pub widerNextDue : Schedule → ℕ → List Frame → Option ℕ
-widerNextDue g v queue = Option·map (clockAt (ownLimits g) v) (widerSoonestDue g v queue)
+widerNextDue g v queue = Option·map (readingClock (ownLimits g) v) (widerSoonestDue g v queue)
 
 unfoldable pub widerDueWithin : Schedule → ℕ → ℕ → Frame → Bool
 widerDueWithin g v d f = leb (widerDue g v f) (modulusOf g + d)

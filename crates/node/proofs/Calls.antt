@@ -12,19 +12,19 @@ use Rattle.model.specs.Batch.{exactBatch}
 use Rattle.model.specs.Question.{Question, ask, firstNo, askSetup}
 use Rattle.model.specs.Codec.{askPayload}
 use Rattle.model.specs.Tick.{Input, holdbackSize, roomy, holdbackQuestions, callQuestions}
-use Rattle.lemmas.proofs.Questions.{yes-cons, no-cons, yes-append, no-append, shelf-passed}
+use Rattle.lemmas.proofs.Questions.{yes-cons, no-cons, yes-append, no-append, holdback-passed}
 use Rattle.node.specs.Views.{bufferQuestions}
 
 -- ---- 4 to 6
 
 module _ (longest size : ℕ) (batch payload outgoing verdicts delivery : List ℕ) where
   -- what question 6 asks of the board's buffers
-  abbrev board : Bool
-  board = leb verdictLength (length verdicts) && leb size (length delivery)
+  abbrev deliveryAsked : Bool
+  deliveryAsked = leb verdictLength (length verdicts) && leb size (length delivery)
 
   -- the questions from each on
   abbrev from6 : List Question
-  from6 = ask (leb longest (length outgoing) && board) 6 ∷ []
+  from6 = ask (leb longest (length outgoing) && deliveryAsked) 6 ∷ []
 
   abbrev from5 : List Question
   from5 = ask (exactBatch batch) 5 ∷ from6
@@ -49,25 +49,25 @@ module _ (longest size : ℕ) (batch payload outgoing verdicts delivery : List �
       left6 = left5 ∙ yes-cons _ 5 from6 h5
 
       pub outgoing-no : length outgoing < longest → 6 ≡ firstNo asked
-      outgoing-no h = sym (left6 ∙ no-cons (leb longest (length outgoing) && board) 6 [] (rw (lt-leb longest (length outgoing) h)))
+      outgoing-no h = sym (left6 ∙ no-cons (leb longest (length outgoing) && deliveryAsked) 6 [] (rw (lt-leb longest (length outgoing) h)))
 
       module _ (h6 : longest ≤ length outgoing) where
-        roomy-is : (leb longest (length outgoing) && board) ≡ board
+        roomy-is : (leb longest (length outgoing) && deliveryAsked) ≡ deliveryAsked
         roomy-is = rw (le-leb longest (length outgoing) h6)
 
-        pub board-no : board ≡ false → 6 ≡ firstNo asked
-        board-no h = sym (left6 ∙ no-cons (leb longest (length outgoing) && board) 6 [] (roomy-is ∙ h))
+        pub delivery-no : deliveryAsked ≡ false → 6 ≡ firstNo asked
+        delivery-no h = sym (left6 ∙ no-cons (leb longest (length outgoing) && deliveryAsked) 6 [] (roomy-is ∙ h))
 
-        pub none-no : board ≡ true → 0 ≡ firstNo asked
+        pub none-no : deliveryAsked ≡ true → 0 ≡ firstNo asked
         unfolding firstNo
-        none-no h = sym (left6 ∙ yes-cons (leb longest (length outgoing) && board) 6 [] (roomy-is ∙ h))
+        none-no h = sym (left6 ∙ yes-cons (leb longest (length outgoing) && deliveryAsked) 6 [] (roomy-is ∙ h))
 
 -- ---- 1 to 6 of a station's
 
 module _ (i : Input) where
   -- questions 2 and 3
-  abbrev shelf : List Question
-  shelf = holdbackQuestions (i .setup) (i .clock) (i .holdback)
+  abbrev holdbackAsked : List Question
+  holdbackAsked = holdbackQuestions (i .setup) (i .clock) (i .holdback)
 
   -- questions 4 to 6
   abbrev buffers : ℕ → List Question
@@ -77,23 +77,23 @@ module _ (i : Input) where
   abbrev valid : Bool
   valid = inLimits (i .setup) && isMember (i .setup) (i .own)
 
-  call-is : callQuestions i ≡ ask valid 1 ∷ (shelf ++ buffers (holdbackSize (i .setup)))
+  call-is : callQuestions i ≡ ask valid 1 ∷ (holdbackAsked ++ buffers (holdbackSize (i .setup)))
   unfolding callQuestions askSetup roomy bufferQuestions
   call-is = refl
 
   pub setup-no : valid ≡ false → 1 ≡ firstNo (callQuestions i)
-  setup-no h = sym (ap firstNo call-is ∙ no-cons valid 1 (shelf ++ buffers (holdbackSize (i .setup))) h)
+  setup-no h = sym (ap firstNo call-is ∙ no-cons valid 1 (holdbackAsked ++ buffers (holdbackSize (i .setup))) h)
 
   module _ (h1 : valid ≡ true) where
-    left2 : firstNo (callQuestions i) ≡ firstNo (shelf ++ buffers (holdbackSize (i .setup)))
-    left2 = ap firstNo call-is ∙ yes-cons valid 1 (shelf ++ buffers (holdbackSize (i .setup))) h1
+    left2 : firstNo (callQuestions i) ≡ firstNo (holdbackAsked ++ buffers (holdbackSize (i .setup)))
+    left2 = ap firstNo call-is ∙ yes-cons valid 1 (holdbackAsked ++ buffers (holdbackSize (i .setup))) h1
 
-    pub shelf-no : (k : ℕ) → k ≡ firstNo shelf → (k ≡ 0 → ⊥) → k ≡ firstNo (callQuestions i)
-    shelf-no k e h = no-append shelf (buffers (holdbackSize (i .setup))) k e h ∙ sym left2
+    pub holdback-no : (k : ℕ) → k ≡ firstNo holdbackAsked → (k ≡ 0 → ⊥) → k ≡ firstNo (callQuestions i)
+    holdback-no k e h = no-append holdbackAsked (buffers (holdbackSize (i .setup))) k e h ∙ sym left2
 
     -- the shelf has its length, so the hand-out buffer is held to it
-    pub buffers-left : (k : ℕ) → firstNo shelf ≡ 0 → k ≡ firstNo (buffers (length (i .holdback))) → k ≡ firstNo (callQuestions i)
+    pub buffers-left : (k : ℕ) → firstNo holdbackAsked ≡ 0 → k ≡ firstNo (buffers (length (i .holdback))) → k ≡ firstNo (callQuestions i)
     unfolding every
     buffers-left k h2 e =
-        e ∙ ap (λ (size : ℕ). firstNo (buffers size)) (shelf-passed (i .setup) (i .clock) (i .holdback) h2 .1)
-        ∙ sym (left2 ∙ yes-append shelf (buffers (holdbackSize (i .setup))) refl h2)
+        e ∙ ap (λ (size : ℕ). firstNo (buffers size)) (holdback-passed (i .setup) (i .clock) (i .holdback) h2 .1)
+        ∙ sym (left2 ∙ yes-append holdbackAsked (buffers (holdbackSize (i .setup))) refl h2)

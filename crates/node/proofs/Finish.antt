@@ -18,14 +18,14 @@ use Rattle.model.specs.Holdback.{soundHoldback, encodeFrames, encodeHoldback}
 use Rattle.model.specs.Question.{firstNo, askSetup}
 use Rattle.model.specs.Codec.{askPayload, frameOf}
 use Rattle.model.specs.Judge.{Heard, absorbAll}
-use Rattle.model.specs.Tick.{Input, holdbackSize, roomy, callQuestions, refusal, tablesSound, stepOf, leastAfter, leastDue, shelfSound, repairOf, openingStamp, openedQueue, earlyOf, heardOf, heardStamp, newStamp, sentBytes, dueNow, deliveredOf, keptOf, takenCount, acceptance, tick}
+use Rattle.model.specs.Tick.{Input, holdbackSize, roomy, callQuestions, refusal, tablesSound, stepOf, leastAfter, leastDue, holdbackSound, repairOf, openingStamp, openedQueue, overdueOf, heardOf, heardStamp, newStamp, sentBytes, dueNow, deliveredOf, keptOf, takenCount, acceptance, tick}
 use Rattle.lemmas.proofs.Bounds.{Limits}
 use Rattle.lemmas.proofs.Questions.{first-yes, other-yes}
 use Rattle.lemmas.proofs.Counts.{count-zero, tables-clock, trimmed-same, trimmed-widened}
 use Rattle.lemmas.proofs.OneTick.{Accepted, passes-questions, tick-by, opening-stamp, absorbing-end, new-sound}
 use Rattle.frame.specs.Lay.{Room, Laid}
 use Rattle.node.specs.Views.{questionsFor}
-use Rattle.node.specs.States.{Timed, LastClock, ClockOpened, StampOpened, earlyOnes, absorbedFor, Sent, bytesToSend, Attending, attendedAll, attendedFrames, AttendedQueue, AttendedStamp}
+use Rattle.node.specs.States.{Timed, LastClock, ClockOpened, StampOpened, overdueOnes, absorbedFor, Sent, bytesToSend, Attending, attendedAll, attendedFrames, AttendedQueue, AttendedStamp}
 
 -- ---- the tables opened
 
@@ -123,9 +123,9 @@ heard-same : (i : Input) → attendedAll false (i .setup) (i .clock) (callLeast 
 unfolding heardOf openedQueue questionsFor
 heard-same i = refl
 
-early-same : (i : Input) → earlyOnes (i .setup) (i .clock) (callLeast i) (i .holdback) ≡ earlyOf i
-unfolding earlyOf openedQueue
-early-same i = refl
+overdue-same : (i : Input) → overdueOnes (i .setup) (i .clock) (callLeast i) (i .holdback) ≡ overdueOf i
+unfolding overdueOf openedQueue
+overdue-same i = refl
 
 -- what it shares with an observer's, by the name of the least due clock
 pub call-queue : (i : Input) {t₁ : Timestamp} {least repair emptied took delivered : ℕ} {buffer verdicts delivery : List ℕ} → StampOpened (i .setup) (i .clock) (i .tables) t₁ least repair
@@ -146,7 +146,7 @@ call-stamp i {t₁} {t₂} {least} c o h =
 -- the repair of both
 pub call-repair : (i : Input) {t₁ : Timestamp} {least repair emptied : ℕ} → StampOpened (i .setup) (i .clock) (i .tables) t₁ least repair
     → emptied ≡ cond (soundHoldback (i .setup) (i .clock) least (i .holdback)) 0 2 → repair + emptied ≡ repairOf (i .setup) (i .clock) (i .tables) (i .holdback)
-unfolding repairOf shelfSound
+unfolding repairOf holdbackSound
 call-repair i o e = rw (o .repaired, e, o .least-is)
 
 -- the own event fits
@@ -210,15 +210,15 @@ unfolding acceptance deliveredOf keptOf
 accepted-output i e {t′} {emptied} {took} {delivered} {buffer} {verdicts} {delivery} {repair} {size} {outgoing} h own e-repair sent =
     let c : Call i = call-passed i e in
     let sent-is = sent-same i t′ c own in
-    let handed : attendedFrames false (i .setup) (i .clock) (callLeast i) (i .batch) (i .holdback) ≡ deliveredOf i =
-    ap₂ (λ (l : List Frame) (x : Heard). l ++ select (dueNow (i .setup) (i .clock)) (x .queue)) (early-same i) (heard-same i) in
+    let same-frames : attendedFrames false (i .setup) (i .clock) (callLeast i) (i .batch) (i .holdback) ≡ deliveredOf i =
+    ap₂ (λ (l : List Frame) (x : Heard). l ++ select (dueNow (i .setup) (i .clock)) (x .queue)) (overdue-same i) (heard-same i) in
     let e-taken : took ≡ takenCount (heardOf i .verdicts) = h .taken-is ∙ ap (λ (x : Heard). takenCount (x .verdicts)) (heard-same i) in
-    let e-delivered : delivered ≡ length (deliveredOf i) = h .count-is ∙ ap length handed in
+    let e-delivered : delivered ≡ length (deliveredOf i) = h .count-is ∙ ap length same-frames in
     let e-sent : size ≡ length (sentBytes i) = sent .long ∙ ap length sent-is in
     let e-holdback : buffer ≡ encodeHoldback (holdbackSize (i .setup)) (keptOf i) = h .kept ∙ ap (λ (x : Heard). encodeHoldback (holdbackSize (i .setup)) (select (λ f. not (dueNow (i .setup) (i .clock) f)) (x .queue))) (heard-same i) in
     let e-outgoing : outgoing ≡ overlay (sentBytes i) (i .outgoing) = sent .bytes ∙ ap (λ (l : List ℕ). overlay l (i .outgoing)) sent-is in
     let e-verdicts : verdicts ≡ overlay (heardOf i .verdicts) (i .verdicts) = h .numbers ∙ ap (λ (x : Heard). overlay (x .verdicts) (i .verdicts)) (heard-same i) in
-    let e-delivery : delivery ≡ overlay (encodeFrames (deliveredOf i)) (i .delivery) = h .given ∙ ap (λ (l : List Frame). overlay (encodeFrames l) (i .delivery)) handed in
+    let e-delivery : delivery ≡ overlay (encodeFrames (deliveredOf i)) (i .delivery) = h .given ∙ ap (λ (l : List Frame). overlay (encodeFrames l) (i .delivery)) same-frames in
     rw (own, e-repair, e-taken, e-delivered, e-sent, e-holdback, e-outgoing, e-verdicts, e-delivery) (sym (tick-by i 0 e))
 
 -- ---- a refused call

@@ -22,7 +22,7 @@ use Rattle.batch.specs.Walk.{countOf}
 use Rattle.splice.specs.Bytes.{pasted}
 use Rattle.node.specs.declared.attending.Attended.{Attended}
 use Rattle.node.specs.Answers.{passedOver}
-use Rattle.node.specs.States.{isIdle, earlyOnes, absorbedFor, attendedAll, attendedFrames, AttendedQueue, AttendedStamp}
+use Rattle.node.specs.States.{isIdle, overdueOnes, absorbedFor, attendedAll, attendedFrames, AttendedQueue, AttendedStamp}
 
 -- ---- no frames
 
@@ -57,9 +57,9 @@ module _ (listens : Bool) (s : Setup) (v least : ℕ) (batch buffer : List ℕ) 
   no-entries : batchEntries batch ≡ []
   no-entries = entries-none batch (eqb-true (countOf batch) 0 (and-right (eqb (twoAt buffer 0) 0) (eqb (countOf batch) 0) idle))
 
-  early-none : earlyOnes s v least buffer ≡ []
+  overdue-none : overdueOnes s v least buffer ≡ []
   unfolding select
-  early-none = rw (opening-none s v least buffer no-frames)
+  overdue-none = rw (opening-none s v least buffer no-frames)
 
   heard-none : attendedAll listens s v least batch buffer ≡ record { queue = []; verdicts = [] }
   unfolding select hear foldLeft
@@ -73,9 +73,9 @@ module _ (listens : Bool) (s : Setup) (v least : ℕ) (batch buffer : List ℕ) 
       go true = refl
       go false = refl
 
-  handed-none : attendedFrames listens s v least batch buffer ≡ []
+  attended-none : attendedFrames listens s v least batch buffer ≡ []
   unfolding select
-  handed-none = rw (early-none, heard-none)
+  attended-none = rw (overdue-none, heard-none)
 
   -- ---- what is answered, and left
 
@@ -96,10 +96,10 @@ module _ (listens : Bool) (s : Setup) (v least : ℕ) (batch buffer : List ℕ) 
         record {
           repaired = ap (λ (x : Attended). x .repair) passed ∙ rw (sound-none s v least buffer no-frames);
           taken-is = ap (λ (x : Attended). x .taken) passed ∙ rw heard-none;
-          count-is = ap (λ (x : Attended). x .delivered) passed ∙ ap length (sym handed-none);
+          count-is = ap (λ (x : Attended). x .delivered) passed ∙ ap length (sym attended-none);
           kept = kept ∙ rw (size, heard-none);
           numbers = rw heard-none;
-          given = given ∙ ap (λ (l : List Frame). overlay (encodeFrames l) delivery) (sym handed-none);
+          given = given ∙ ap (λ (l : List Frame). overlay (encodeFrames l) delivery) (sym attended-none);
         }
 
 -- the delivery gets the count of no frames

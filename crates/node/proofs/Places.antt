@@ -23,11 +23,11 @@ use Rattle.lemmas.proofs.Questions.{limits-from}
 use Rattle.lemmas.proofs.RoundTrip.{formed-from, form-passed, passes-formed, held-frames, held-holdback, frame-fits, length-holdback}
 use Rattle.lemmas.proofs.Queue.{Passed, sound-queue, queue-none, queue-take, queue-room, frames-sound, queue-sound, both-few, depth-small}
 use Rattle.setup.proofs.InLimits.{frames-most}
-use Rattle.holdback.specs.Early.{SoundBy, earlyFrames, releasedBuffer, Released}
+use Rattle.holdback.specs.Overdue.{SoundBy, overdueFrames, releasedBuffer, Released}
 use Rattle.holdback.specs.Queue.{frameStart, endOf, Spans}
 use Rattle.holdback.specs.Seen.{Placeable, seenTable, isMarked, marked}
 use Rattle.holdback.specs.Sound as sounds
-use Rattle.holdback.specs.Starts.{startUnit, usedPlaces, allFront, sumPlace, startsOf, Moving, movedStarts}
+use Rattle.holdback.specs.Starts.{startUnit, usedEntries, allFront, sumWait, startsOf, Moving, movedStarts}
 use Rattle.holdback.proofs.RoundTrip.{Bytes}
 use Rattle.holdback.proofs.Frames.{held-tab, take-start, start-zero, start-within, start-most}
 use Rattle.holdback.proofs.Changes.{formed-frames, length-held}
@@ -37,7 +37,7 @@ use Rattle.holdback.proofs.Started.{starts-none, spans-small, moving, moved-tab
 use Rattle.holdback.proofs.Judging.{sound-few}
 use Rattle.holdback.proofs.Seen.{seen-insert}
 use Rattle.node.specs.Views.{questionsFor}
-use Rattle.node.specs.States.{Timed, Queued, Extent, Taking, keptBuffer, QueueJudged, earlyOnes, HandedEarly, QueueOpened}
+use Rattle.node.specs.States.{Timed, Queued, Extent, Taking, keptBuffer, QueueJudged, overdueOnes, OverdueGiven, QueueOpened}
 use Rattle.node.proofs.Verdicts.{taken-passed, asked-form, asked-passed, fits-when, late-placeable, marked-is}
 
 -- ---- a sound queue
@@ -223,7 +223,7 @@ module _ {s : Setup} {v : ℕ} {buffer : List ℕ} {place at : ℕ} {bytes : Lis
             ends = ap (λ (n : ℕ). n + length bytes) (old .ends) ∙ sym (end-behind here clean bytes bytes-clean (k .form) wide buffer′ e);
           }
 
-      more-starts : {sum to : ℕ} {starts starts′ : List ℕ} → starts ≡ startsOf s v buffer → sum ≡ sumPlace s v (decode (s .epsilon) bytes) → to ≡ usedPlaces s
+      more-starts : {sum to : ℕ} {starts starts′ : List ℕ} → starts ≡ startsOf s v buffer → sum ≡ sumWait s v (decode (s .epsilon) bytes) → to ≡ usedEntries s
           → starts′ ≡ movedStarts (sum + 1) to (startUnit + length bytes) starts → starts′ ≡ startsOf s v buffer′
       unfolding placeFor dueNear due sum
       more-starts {starts} old own used moved =
@@ -233,7 +233,7 @@ module _ {s : Setup} {v : ℕ} {buffer : List ℕ} {place at : ℕ} {bytes : Lis
           (k .limits) old (moved ∙ ap₂ (λ (n m : ℕ). movedStarts (n + 1) m (startUnit + length bytes) starts) own used)
 
       pub more-queued : {sum to : ℕ} {table table′ starts starts′ : List ℕ} → Queued s v buffer table starts → table′ ≡ marked s v (decode (s .epsilon) bytes) table
-          → sum ≡ sumPlace s v (decode (s .epsilon) bytes) → to ≡ usedPlaces s → starts′ ≡ movedStarts (sum + 1) to (startUnit + length bytes) starts → Queued s v buffer′ table′ starts′
+          → sum ≡ sumWait s v (decode (s .epsilon) bytes) → to ≡ usedEntries s → starts′ ≡ movedStarts (sum + 1) to (startUnit + length bytes) starts → Queued s v buffer′ table′ starts′
       unfolding overlay
       more-queued old h′ own used moved =
           let long : length (encodeFrames more) ≤ length buffer = omega (arith, frames-long s more (k .limits) (more-ok .frames) (omega (arith, more-room)), t .size) in
@@ -292,7 +292,7 @@ module _ (s : Setup) (v least : ℕ) (buffer : List ℕ) (t : Timed s v) (near :
         queue = rw h empty;
       }
 
--- judged, and without what is handed out early
+-- judged, and without what is overdue
 module _ {s : Setup} {v least : ℕ} {buffer : List ℕ} {repair count stop : ℕ} {buffer₁ table₁ starts₁ : List ℕ} (t : Timed s v) (q : QueueJudged s v least buffer repair count stop buffer₁ table₁ starts₁)
     {delivery : List ℕ} {index at : ℕ} {buffer₂ table₂ starts₂ delivery₂ : List ℕ} (r : Released s v buffer₁ delivery index at buffer₂ table₂ starts₂ delivery₂) where
   pub opened : QueueOpened s v least buffer repair (count - index) (stop + 2 - at) buffer₂ table₂ starts₂
@@ -315,9 +315,9 @@ module _ {s : Setup} {v least : ℕ} {buffer : List ℕ} {repair count stop : �
         queue = r .held-is ∙ ap (select (λ f. not (dueBefore s v f))) (q .queue);
       }
 
-  pub handed : HandedEarly s v least buffer delivery index at delivery₂
-  handed =
-      let same : earlyFrames s v buffer₁ ≡ earlyOnes s v least buffer = ap (select (dueBefore s v)) (q .queue) in
+  pub overdue-given : OverdueGiven s v least buffer delivery index at delivery₂
+  overdue-given =
+      let same : overdueFrames s v buffer₁ ≡ overdueOnes s v least buffer = ap (select (dueBefore s v)) (q .queue) in
       record {
         number = r .number ∙ ap length same;
         ends = r .ends ∙ ap (λ (l : List Frame). length (encodeFrames l)) same;

@@ -17,11 +17,11 @@ use Rattle.model.specs.Tick.{holdbackSize, openingQueue, dueBefore, dueNow, tak
 use Rattle.lemmas.proofs.Bounds.{Limits, FrameOk}
 use Rattle.lemmas.proofs.Questions.{limits-from}
 use Rattle.lemmas.proofs.RoundTrip.{well-formed-encode, two-at-encode, held-encode, held-frames}
-use Rattle.lemmas.proofs.Queue.{opening-queue, early-few, both-few, depth-small}
+use Rattle.lemmas.proofs.Queue.{opening-queue, overdue-few, both-few, depth-small}
 use Rattle.holdback.specs.Queue.{frameStart, Spans}
 use Rattle.holdback.specs.Sound.{Recent}
 use Rattle.holdback.proofs.Placed.{Wide, written-whole}
-use Rattle.node.specs.States.{Timed, earlyOnes, HandedEarly, QueueOpened, heardWith, heardAll, HeardQueue, HeardStamp, absorbedFor, Closing, Delivered, attendedAll, AttendedQueue, AttendedStamp}
+use Rattle.node.specs.States.{Timed, overdueOnes, OverdueGiven, QueueOpened, heardWith, heardAll, HeardQueue, HeardStamp, absorbedFor, Closing, Delivered, attendedAll, AttendedQueue, AttendedStamp}
 use Rattle.node.proofs.Places.{size-two, frames-long}
 
 -- more frames are no shorter
@@ -29,50 +29,50 @@ more-longer : (q r : List Frame) → length (encodeFrames q) ≤ length (encodeF
 unfolding encodeFrames twoBytes
 more-longer q r = omega (arith, ap length (joined-append encode q r), length-append (joined encode q) (joined encode r))
 
--- ---- what is handed out early: sound frames, few, and they stand in the delivery
+-- ---- what is overdue: sound frames, few, and they stand in the delivery
 
 module _ {s : Setup} {v least : ℕ} {buffer delivery : List ℕ} {index at : ℕ} {delivery₁ : List ℕ} (t : Timed s v) (near : Recent s least)
-    (room : holdbackSize s ≤ length delivery) (h : HandedEarly s v least buffer delivery index at delivery₁) where
-  abbrev early : List Frame
-  early = earlyOnes s v least buffer
+    (room : holdbackSize s ≤ length delivery) (h : OverdueGiven s v least buffer delivery index at delivery₁) where
+  abbrev overdue : List Frame
+  overdue = overdueOnes s v least buffer
 
   limits : Limits s
   limits = limits-from s (t .limits)
 
-  early-frames : (f : Frame) → List·Memᴰ f early → FrameOk s f
-  early-frames f m = opening-queue s v least buffer limits .frames f (mem-of-select (dueBefore s v) (openingQueue s v least buffer) m .0)
+  overdue-frames : (f : Frame) → List·Memᴰ f overdue → FrameOk s f
+  overdue-frames f m = opening-queue s v least buffer limits .frames f (mem-of-select (dueBefore s v) (openingQueue s v least buffer) m .0)
 
-  early-number : length early ≤ s .n * (2 * s .epsilon - 2)
-  early-number = early-few s v least (openingQueue s v least buffer) limits (t .below) (near .late) (opening-queue s v least buffer limits)
+  overdue-number : length overdue ≤ s .n * (2 * s .epsilon - 2)
+  overdue-number = overdue-few s v least (openingQueue s v least buffer) limits (t .below) (near .late) (opening-queue s v least buffer limits)
 
   -- none of them is too long for the delivery
-  early-fits : length (encodeFrames early) ≤ length delivery
-  early-fits = omega (arith, frames-long s early limits early-frames (omega (arith, early-number, both-few s)), room)
+  overdue-fits : length (encodeFrames overdue) ≤ length delivery
+  overdue-fits = omega (arith, frames-long s overdue limits overdue-frames (omega (arith, overdue-number, both-few s)), room)
 
-  early-long : length delivery₁ ≡ length delivery
-  early-long = ap length (h .given) ∙ length-overlay (encodeFrames early) delivery early-fits
+  overdue-long : length delivery₁ ≡ length delivery
+  overdue-long = ap length (h .given) ∙ length-overlay (encodeFrames overdue) delivery overdue-fits
 
-  early-small : length early < 65536
-  early-small = omega (arith, early-number, both-few s, depth-small s limits)
+  overdue-small : length overdue < 65536
+  overdue-small = omega (arith, overdue-number, both-few s, depth-small s limits)
 
-  early-held : held (s .epsilon) delivery₁ ≡ early
+  overdue-held : held (s .epsilon) delivery₁ ≡ overdue
   unfolding overlay
-  early-held = ap (held (s .epsilon)) (h .given) ∙ held-frames (s .epsilon) early _ (λ f m. early-frames f m .sound .wide) early-small
+  overdue-held = ap (held (s .epsilon)) (h .given) ∙ held-frames (s .epsilon) overdue _ (λ f m. overdue-frames f m .sound .wide) overdue-small
 
-  early-spans : Spans (s .epsilon) delivery₁ index at index at
+  overdue-spans : Spans (s .epsilon) delivery₁ index at index at
   unfolding overlay
-  early-spans =
-      let wide : Wide (s .epsilon) early = λ f m. early-frames f m .sound .wide in
-      let count : twoAt delivery₁ 0 ≡ length early = ap (λ (l : List ℕ). twoAt l 0) (h .given) ∙ two-at-encode early _ in
+  overdue-spans =
+      let wide : Wide (s .epsilon) overdue = λ f m. overdue-frames f m .sound .wide in
+      let count : twoAt delivery₁ 0 ≡ length overdue = ap (λ (l : List ℕ). twoAt l 0) (h .given) ∙ two-at-encode overdue _ in
       let ends : at ≡ frameStart (s .epsilon) delivery₁ index =
-      h .ends ∙ sym (ap₂ (λ (l : List ℕ) (n : ℕ). frameStart (s .epsilon) l n) (h .given) (h .number) ∙ written-whole (s .epsilon) early _ wide) in
+      h .ends ∙ sym (ap₂ (λ (l : List ℕ) (n : ℕ). frameStart (s .epsilon) l n) (h .given) (h .number) ∙ written-whole (s .epsilon) overdue _ wide) in
       record {
         formed =
             ap (λ (l : List ℕ). every (wellFormed (s .epsilon)) (heldBytes (s .epsilon) l)) (h .given)
-            ∙ ap (every (wellFormed (s .epsilon))) (held-encode (s .epsilon) early _ wide early-small)
-            ∙ (every-map (wellFormed (s .epsilon)) encode early
-            ∙ every-of-mem (λ f. wellFormed (s .epsilon) (encode f)) early (λ f m. well-formed-encode (s .epsilon) f (early-frames f m .sound .wide) (early-frames f m .short)));
-        two = omega (arith, early-long, size-two s (holdbackSize s) refl, room);
+            ∙ ap (every (wellFormed (s .epsilon))) (held-encode (s .epsilon) overdue _ wide overdue-small)
+            ∙ (every-map (wellFormed (s .epsilon)) encode overdue
+            ∙ every-of-mem (λ f. wellFormed (s .epsilon) (encode f)) overdue (λ f m. well-formed-encode (s .epsilon) f (overdue-frames f m .sound .wide) (overdue-frames f m .short)));
+        two = omega (arith, overdue-long, size-two s (holdbackSize s) refl, room);
         count-is = h .number ∙ sym count;
         ends = ends;
         inside = omega arith;
@@ -80,10 +80,10 @@ module _ {s : Setup} {v least : ℕ} {buffer delivery : List ℕ} {index at : �
       }
 
   -- and what is due at v behind them
-  delivery-whole : (q : List Frame) {l : List ℕ} → l ≡ overlay (encodeFrames (held (s .epsilon) delivery₁ ++ q)) delivery₁ → l ≡ overlay (encodeFrames (early ++ q)) delivery
+  delivery-whole : (q : List Frame) {l : List ℕ} → l ≡ overlay (encodeFrames (held (s .epsilon) delivery₁ ++ q)) delivery₁ → l ≡ overlay (encodeFrames (overdue ++ q)) delivery
   delivery-whole q e =
-      e ∙ ap₂ (λ (g : List Frame) (d : List ℕ). overlay (encodeFrames (g ++ q)) d) early-held (h .given)
-      ∙ overlay-hides (encodeFrames (early ++ q)) (encodeFrames early) delivery (more-longer early q)
+      e ∙ ap₂ (λ (g : List Frame) (d : List ℕ). overlay (encodeFrames (g ++ q)) d) overdue-held (h .given)
+      ∙ overlay-hides (encodeFrames (overdue ++ q)) (encodeFrames overdue) delivery (more-longer overdue q)
 
   -- ---- the batch heard with what is left, and what is due at v delivered
 
@@ -106,9 +106,9 @@ module _ {s : Setup} {v least : ℕ} {buffer delivery : List ℕ} {index at : �
             size = g .queued .size;
             sound = g .queued .sound;
             extent = g .extent;
-            room = omega (arith, room, early-long);
-            before = early-spans;
-            few = omega (arith, h .number, early-number);
+            room = omega (arith, room, overdue-long);
+            before = overdue-spans;
+            few = omega (arith, h .number, overdue-number);
           }
 
       queue-is : held (s .epsilon) buffer₂ ≡ attendedAll listens s v least batch buffer .queue
@@ -124,7 +124,7 @@ module _ {s : Setup} {v least : ℕ} {buffer delivery : List ℕ} {index at : �
             count-is =
                 d .count-is
                 ∙ ap₂ (λ (n : ℕ) (l : List Frame). n + length (select (dueNow s v) l)) (h .number) queue-is
-                ∙ sym (length-append early due);
+                ∙ sym (length-append overdue due);
             kept = d .kept ∙ ap (λ (l : List Frame). encodeHoldback (holdbackSize s) (select (λ f. not (dueNow s v f)) l)) queue-is;
             numbers = g .numbers ∙ ap (λ (x : Heard). overlay (x .verdicts) verdicts) (all listens batch);
             given =

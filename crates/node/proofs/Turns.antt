@@ -12,7 +12,7 @@ use Rattle.model.specs.Batch.{exactBatch}
 use Rattle.model.specs.Question.{firstNo}
 use Rattle.model.specs.Holdback.{held, encodeFrames}
 use Rattle.model.specs.Judge.{Heard, Verdict, taken, refused, judge, hearBy, hearOne, hear}
-use Rattle.lemmas.proofs.Board.{hear-one-verdict}
+use Rattle.lemmas.proofs.Receiving.{hear-one-verdict}
 use Rattle.holdback.proofs.RoundTrip.{Bytes}
 use Rattle.batch.specs.Walk.{countOf, entryAt, nextAt}
 use Rattle.node.specs.Views.{questionsFor}

@@ -16,7 +16,7 @@ use Rattle.model.specs.Holdback.{held, passes, sameOrigin, notEarly}
 use Rattle.model.specs.Judge.{Asking, Verdict, taken, refused, verdictNumber, verdictPlace, verdictBy, judge, judgeQuestions, placeQuestions, observerQuestions, observerPlaceQuestions, askLate, askEarly, askCounts, askRepeat, placeFor}
 use Rattle.lemmas.proofs.Bounds.{Limits, FrameOk, QueueOk}
 use Rattle.lemmas.proofs.Questions.{limits-from, first-yes, other-yes, no-append, yes-append, front-append}
-use Rattle.lemmas.proofs.Queue.{InWindow, Passed, judged-passed, observed-passed, sound-queue, queue-window, overdue-to}
+use Rattle.lemmas.proofs.Queue.{InWindow, Passed, judged-passed, observed-passed, sound-queue, queue-window, expired-to}
 use Rattle.holdback.specs.Queue.{frameStart}
 use Rattle.holdback.specs.Seen.{Placeable, isMarked}
 use Rattle.holdback.specs.Sound.{fits}
@@ -138,7 +138,7 @@ pub fits-when : (s : Setup) (v : ℕ) (bytes : List ℕ) → firstNo (frameQuest
     → notEarly s v (decode (s .epsilon) bytes) ≡ true → fits s v (s .modulus) bytes ≡ true
 unfolding fits passes
 fits-when s v bytes form late early =
-    and-intro (eq-eqb (firstNo (frameQuestions s bytes)) 0 form) (and-intro early (overdue-to s v (s .modulus) (decode (s .epsilon) bytes) (omega arith)))
+    and-intro (eq-eqb (firstNo (frameQuestions s bytes)) 0 form) (and-intro early (expired-to s v (s .modulus) (decode (s .epsilon) bytes) (omega arith)))
 
 -- one that is taken has passed 10 to 12
 pub asked-form : (listens : Bool) (s : Setup) (v : ℕ) (queue : List Frame) (bytes : List ℕ) → firstNo (questionsFor listens s v queue bytes) ≡ 0 → firstNo (frameQuestions s bytes) ≡ 0

@@ -21,7 +21,7 @@ use Rattle.holdback.specs.Queue.{frameStart, endOf, Spans}
 use Rattle.holdback.specs.Seen.{seenTable}
 use Rattle.holdback.specs.Starts.{startsOf}
 use Rattle.holdback.specs.Sound.{Recent}
-use Rattle.holdback.specs.Early.{SoundBy, releasedBuffer}
+use Rattle.holdback.specs.Overdue.{SoundBy, releasedBuffer}
 use Rattle.node.specs.Views.{questionsFor}
 
 -- a call that has passed 1 and 2
@@ -145,8 +145,8 @@ pub record QueueJudged (s : Setup) (v least : ℕ) (buffer : List ℕ) (repair c
   pub queue : held (s .epsilon) buffer′ ≡ openingQueue s v least buffer
 
 -- 02, 2.2: "Frames whose due clock lies before v go out before the bundle is judged": those, and the others
-abbrev pub earlyOnes : Setup → ℕ → ℕ → List ℕ → List Frame
-earlyOnes s v least buffer = select (dueBefore s v) (openingQueue s v least buffer)
+abbrev pub overdueOnes : Setup → ℕ → ℕ → List ℕ → List Frame
+overdueOnes s v least buffer = select (dueBefore s v) (openingQueue s v least buffer)
 
 abbrev pub otherOnes : Setup → ℕ → ℕ → List ℕ → List Frame
 otherOnes s v least buffer = select (λ f. not (dueBefore s v f)) (openingQueue s v least buffer)
@@ -155,13 +155,13 @@ otherOnes s v least buffer = select (λ f. not (dueBefore s v f)) (openingQueue 
 abbrev pub openedBuffer : Setup → ℕ → ℕ → List ℕ → List ℕ
 openedBuffer s v least buffer = releasedBuffer s v (keptBuffer s v least buffer)
 
--- what is handed out early: how many frames, where they end in the delivery, and the delivery
-pub record HandedEarly (s : Setup) (v least : ℕ) (buffer delivery : List ℕ) (index at : ℕ) (delivery′ : List ℕ) : Type 0 where
-  pub number : index ≡ length (earlyOnes s v least buffer)
-  pub ends : at ≡ length (encodeFrames (earlyOnes s v least buffer))
-  pub given : delivery′ ≡ overlay (encodeFrames (earlyOnes s v least buffer)) delivery
+-- what is overdue: how many frames, where they end in the delivery, and the delivery
+pub record OverdueGiven (s : Setup) (v least : ℕ) (buffer delivery : List ℕ) (index at : ℕ) (delivery′ : List ℕ) : Type 0 where
+  pub number : index ≡ length (overdueOnes s v least buffer)
+  pub ends : at ≡ length (encodeFrames (overdueOnes s v least buffer))
+  pub given : delivery′ ≡ overlay (encodeFrames (overdueOnes s v least buffer)) delivery
 
--- the queue opened: judged, and without what is handed out early
+-- the queue opened: judged, and without what is overdue
 pub record QueueOpened (s : Setup) (v least : ℕ) (buffer : List ℕ) (repair count stop : ℕ) (buffer′ table′ starts′ : List ℕ) : Type 0 where
   pub repaired : repair ≡ cond (soundHoldback s v least buffer) 0 2
   pub queued : Queued s v buffer′ table′ starts′
@@ -212,7 +212,7 @@ attendedAll listens s v least batch buffer = heardWith listens s v (otherOnes s 
 
 -- the frames handed out. 02, 2.2: "both make one hand-out"
 abbrev pub attendedFrames : Bool → Setup → ℕ → ℕ → List ℕ → List ℕ → List Frame
-attendedFrames listens s v least batch buffer = deliveredIn s v (earlyOnes s v least buffer) (attendedAll listens s v least batch buffer .queue)
+attendedFrames listens s v least batch buffer = deliveredIn s v (overdueOnes s v least buffer) (attendedAll listens s v least batch buffer .queue)
 
 pub record AttendedQueue (listens : Bool) (s : Setup) (v least : ℕ) (batch buffer verdicts delivery : List ℕ) (repair took delivered : ℕ) (buffer′ verdicts′ delivery′ : List ℕ) : Type 0 where
   pub repaired : repair ≡ cond (soundHoldback s v least buffer) 0 2

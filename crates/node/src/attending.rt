@@ -5,7 +5,7 @@ use crate::idle::pass_over;
 use crate::queue::deliver;
 use crate::queue::open_queue;
 use holdback::FRONT;
-use holdback::START_PLACES;
+use holdback::START_ENTRIES;
 use holdback::TABLE_LENGTH;
 use setup::Setup;
 use timestamp::Timestamp;
@@ -46,7 +46,7 @@ pub fn attend(
         return pass_over(stamp, holdback, delivery);
     }
     let mut seen = [0u64; TABLE_LENGTH];
-    let mut starts = [FRONT; START_PLACES];
+    let mut starts = [FRONT; START_ENTRIES];
     let opened = open_queue(
         setup,
         clock,
@@ -56,7 +56,7 @@ pub fn attend(
         &mut starts,
         delivery,
     );
-    let early = opened.early;
+    let overdue = opened.overdue;
     let heard = hear(
         setup,
         clock,
@@ -73,7 +73,16 @@ pub fn attend(
     let absorbed = heard.stamp;
     let count = heard.count;
     let end = heard.end;
-    let delivered = deliver(setup, clock, count, end, early, holdback, &starts, delivery);
+    let delivered = deliver(
+        setup,
+        clock,
+        count,
+        end,
+        overdue,
+        holdback,
+        &starts,
+        delivery,
+    );
     Attended {
         stamp: absorbed,
         repair: opened.repair,

@@ -1,8 +1,12 @@
 // 01, "Of the call, in order": questions 1 to 6.
+use setup::BAD_BATCH;
+use setup::BAD_BUFFERS;
+use setup::BAD_PAYLOAD;
+use setup::BAD_SETUP;
 use setup::LONGEST_PAYLOAD;
 use setup::Setup;
-use setup::board_roomy;
 use setup::check_holdback;
+use setup::delivery_roomy;
 use setup::longest_frame;
 use setup::valid_for;
 ghost use mathlib.Core.Path.{_≡_};
@@ -28,16 +32,16 @@ pub fn check_buffers(
         (now (outgoing .entry)) (now (verdicts .entry)) (now (delivery .entry))) ⌝ }
 {
     if LONGEST_PAYLOAD < payload.len() {
-        return 4;
+        return BAD_PAYLOAD;
     }
     if !batch::exact(batch) {
-        return 5;
+        return BAD_BATCH;
     }
     if outgoing.len() < longest {
-        return 6;
+        return BAD_BUFFERS;
     }
-    if !board_roomy(holdback, verdicts, delivery) {
-        return 6;
+    if !delivery_roomy(holdback, verdicts, delivery) {
+        return BAD_BUFFERS;
     }
     0
 }
@@ -59,7 +63,7 @@ pub fn check_call(
         (now (verdicts .entry)) (now (delivery .entry))))) ⌝ }
 {
     if !valid_for(setup, own) {
-        return 1;
+        return BAD_SETUP;
     }
     let number = check_holdback(setup, clock, holdback);
     if number != 0 {

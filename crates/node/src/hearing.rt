@@ -5,15 +5,15 @@ use crate::verdict::Placed;
 use crate::verdict::Verdict;
 use crate::verdict::number_of;
 use batch::count_of;
-use batch::walker::walk_step;
+use batch::walker::walk_entry;
 use frame::c_of;
 use frame::counts_part;
 use holdback::START_UNIT;
 use holdback::mark;
 use holdback::put;
 use holdback::shift_starts;
-use holdback::sum_place;
-use holdback::used_places;
+use holdback::sum_wait;
+use holdback::used_entries;
 use setup::Setup;
 use timestamp::Timestamp;
 ghost use mathlib.Core.Path.{_≡_};
@@ -34,24 +34,24 @@ fn enqueue(
     placed: Placed,
     count: usize,
     end: usize,
-    s: &[u8],
+    frame: &[u8],
     holdback: &mut [u8],
     seen: &mut [u64],
     starts: &mut [u32],
 )
-    requires { ⌜ Taking (setupOf setup) clock (now holdback) (placed .place .index) (placed .place .at) (now s) ⌝ }
+    requires { ⌜ Taking (setupOf setup) clock (now holdback) (placed .place .index) (placed .place .at) (now frame) ⌝ }
     requires { ⌜ Queued (setupOf setup) clock (now holdback) (now seen) (now starts) ⌝ }
-    requires { ⌜ Extent (setup .epsilon) (now holdback) count end × (placed .reading ≡ readingOf (setupOf setup) clock (decode (setup .epsilon) (now s))) ⌝ }
-    ensures { λ _. ⌜ Enqueued (setupOf setup) clock (placed .place .index) (now (s .entry)) (now (holdback .entry)) count end
+    requires { ⌜ Extent (setup .epsilon) (now holdback) count end × (placed .reading ≡ readingOf (setupOf setup) clock (decode (setup .epsilon) (now frame))) ⌝ }
+    ensures { λ _. ⌜ Enqueued (setupOf setup) clock (placed .place .index) (now (frame .entry)) (now (holdback .entry)) count end
         (now (holdback .exit)) (now (seen .exit)) (now (starts .exit)) ⌝ }
 {
     let place = placed.place;
     let reading = placed.reading;
-    put(setup.epsilon as usize, holdback, count, end, place, s);
-    let k = sum_place(setup, clock, s, reading);
-    let to = used_places(setup);
-    shift_starts(starts, k + 1, to, (START_UNIT + s.len()) as u32);
-    mark(setup, clock, s, reading, seen);
+    put(setup.epsilon as usize, holdback, count, end, place, frame);
+    let k = sum_wait(setup, clock, frame, reading);
+    let to = used_entries(setup);
+    shift_starts(starts, k + 1, to, (START_UNIT + frame.len()) as u32);
+    mark(setup, clock, frame, reading, seen);
 }
 
 // "c and each count become the larger of own and frame's, both placed relative to v": of a frame whose r is read already, and v at its own
@@ -60,16 +60,16 @@ pub fn absorb_counts(
     setup: Setup,
     at: usize,
     stamp: Timestamp,
-    s: &[u8],
+    frame: &[u8],
     reading: usize,
 ) -> Timestamp
-    requires { ⌜ Askable (setupOf setup) at reading (now s) × (stampOf stamp ≡ widened (trimmed (setup .epsilon) (stampOf stamp))) ⌝ }
+    requires { ⌜ Askable (setupOf setup) at reading (now frame) × (stampOf stamp ≡ widened (trimmed (setup .epsilon) (stampOf stamp))) ⌝ }
     ensures { λ r. ⌜ stampOf r
-        ≡ widened (absorb (setup .epsilon) at (trimmed (setup .epsilon) (stampOf stamp)) reading (decode (setup .epsilon) (now (s .entry)) .stamp)) ⌝ }
+        ≡ widened (absorb (setup .epsilon) at (trimmed (setup .epsilon) (stampOf stamp)) reading (decode (setup .epsilon) (now (frame .entry)) .stamp)) ⌝ }
 {
     let epsilon = setup.epsilon as usize;
-    let c = c_of(s);
-    let counts = counts_part(epsilon, s);
+    let c = c_of(frame);
+    let counts = counts_part(epsilon, frame);
     stamp.absorb(epsilon, at, reading, c, counts)
 }
 
@@ -79,19 +79,19 @@ fn absorb_frame(
     clock: usize,
     listens: bool,
     stamp: Timestamp,
-    s: &[u8],
+    frame: &[u8],
     reading: usize,
 ) -> Timestamp
-    requires { ⌜ Readable (setupOf setup) clock (now s) × (reading ≡ readingOf (setupOf setup) clock (decode (setup .epsilon) (now s))) ⌝ }
+    requires { ⌜ Readable (setupOf setup) clock (now frame) × (reading ≡ readingOf (setupOf setup) clock (decode (setup .epsilon) (now frame))) ⌝ }
     requires { ⌜ stampOf stamp ≡ widened (trimmed (setup .epsilon) (stampOf stamp)) ⌝ }
     ensures { λ r. ⌜ stampOf r ≡ cond listens (stampOf stamp)
-        (widened (absorbBy 0 (setupOf setup) clock (decode (setup .epsilon) (now (s .entry))) (trimmed (setup .epsilon) (stampOf stamp)))) ⌝ }
+        (widened (absorbBy 0 (setupOf setup) clock (decode (setup .epsilon) (now (frame .entry))) (trimmed (setup .epsilon) (stampOf stamp)))) ⌝ }
 {
     if listens {
         return stamp;
     }
     let modulus = setup.modulus as usize;
-    absorb_counts(setup, modulus, stamp, s, reading)
+    absorb_counts(setup, modulus, stamp, frame, reading)
 }
 
 // What hearing answers beside the buffers.
@@ -137,9 +137,9 @@ pub fn hear(
     let mut at = 1;
     let mut i = 0;
     while i < entries {
-        let step = walk_step(batch, at);
-        let start = step.start;
-        at = step.end;
+        let span = walk_entry(batch, at);
+        let start = span.start;
+        at = span.end;
         let s = &batch[start..at];
         let verdict = judge(setup, clock, listens, holdback, held, seen, starts, s);
         let Verdict::Taken(placed) = verdict else {

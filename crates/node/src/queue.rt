@@ -13,8 +13,8 @@ ghost use Rattle.model.specs.Tick.{holdbackSize};
 ghost use Rattle.holdback.specs.Seen.{tableLength};
 ghost use Rattle.holdback.specs.Sound.{Recent};
 ghost use Rattle.holdback.specs.Starts.{allFront};
-ghost use Rattle.holdback.specs.Early.{Tabled};
-ghost use Rattle.node.specs.States.{Timed, Stored, Closing, QueueJudged, QueueOpened, HandedEarly, Delivered};
+ghost use Rattle.holdback.specs.Overdue.{Tabled};
+ghost use Rattle.node.specs.States.{Timed, Stored, Closing, QueueJudged, QueueOpened, OverdueGiven, Delivered};
 
 // What judging the queue answers beside the buffers.
 struct JudgedQueue {
@@ -66,7 +66,7 @@ pub struct OpenedQueue {
     // where they end
     pub end: usize,
     // how many frames are handed out, and where they end in the delivery
-    pub early: Place,
+    pub overdue: Place,
 }
 
 // The queue judged, and then 02, 2.2: "Frames whose due clock lies before v go out before the bundle is judged".
@@ -83,17 +83,17 @@ pub fn open_queue(
     requires { ⌜ Stored (setupOf setup) (now holdback) × (holdbackSize (setupOf setup) ≤ length (now delivery)) ⌝ }
     requires { ⌜ (now seen ≡ replicate tableLength 0) × (now starts ≡ allFront) ⌝ }
     ensures { λ r. ⌜ QueueOpened (setupOf setup) clock least (now (holdback .entry)) (r .repair) (r .count) (r .end) (now (holdback .exit)) (now (seen .exit)) (now (starts .exit)) ⌝ }
-    ensures { λ r. ⌜ HandedEarly (setupOf setup) clock least (now (holdback .entry)) (now (delivery .entry)) (r .early .index) (r .early .at) (now (delivery .exit)) ⌝ }
+    ensures { λ r. ⌜ OverdueGiven (setupOf setup) clock least (now (holdback .entry)) (now (delivery .entry)) (r .overdue .index) (r .overdue .at) (now (delivery .exit)) ⌝ }
 {
     let judged = judge_queue(setup, clock, least, holdback, seen, starts);
     let count = judged.count;
     let end = judged.end;
-    let early = release(setup, clock, holdback, count, end, seen, starts, delivery);
+    let overdue = release(setup, clock, holdback, count, end, seen, starts, delivery);
     OpenedQueue {
         repair: judged.repair,
-        count: count - early.index,
-        end: end + 2 - early.at,
-        early,
+        count: count - overdue.index,
+        end: end + 2 - overdue.at,
+        overdue,
     }
 }
 
@@ -104,13 +104,23 @@ pub fn deliver(
     clock: usize,
     count: usize,
     end: usize,
-    early: Place,
+    overdue: Place,
     holdback: &mut [u8],
     starts: &[u32],
     delivery: &mut [u8],
 ) -> usize
-    requires { ⌜ Closing (setupOf setup) clock count end (early .index) (early .at) (now holdback) (now delivery) × Tabled (setupOf setup) clock (now holdback) (now starts) ⌝ }
-    ensures { λ r. ⌜ Delivered (setupOf setup) clock (early .index) (now (holdback .entry)) (now (delivery .entry)) r (now (holdback .exit)) (now (delivery .exit)) ⌝ }
+    requires { ⌜ Closing (setupOf setup) clock count end (overdue .index) (overdue .at) (now holdback) (now delivery) × Tabled (setupOf setup) clock (now holdback) (now starts) ⌝ }
+    ensures { λ r. ⌜ Delivered (setupOf setup) clock (overdue .index) (now (holdback .entry)) (now (delivery .entry)) r (now (holdback .exit)) (now (delivery .exit)) ⌝ }
 {
-    early.index + cut_due(setup, clock, holdback, count, end, starts, delivery, early)
+    overdue.index
+        + cut_due(
+            setup,
+            clock,
+            holdback,
+            count,
+            end,
+            starts,
+            delivery,
+            overdue,
+        )
 }

@@ -15,7 +15,7 @@ use Rattle.model.specs.Batch.{exactBatch}
 use Rattle.model.specs.Holdback.{encodeFrames, encodeHoldback}
 use Rattle.model.specs.Question.{firstNo}
 use Rattle.model.specs.Judge.{Heard}
-use Rattle.model.specs.Tick.{holdbackSize, boardRoomy, leastAfter, keptIn, takenCount}
+use Rattle.model.specs.Tick.{holdbackSize, deliveryRoomy, leastAfter, keptIn, takenCount}
 use Rattle.model.specs.Observer.{Listening, listenQuestions, notListened, lastSound, observerLeast, observerRepair, observerOpened, observerHeard, observerDelivered, observerKept, listened, listen}
 use Rattle.lemmas.proofs.Bounds.{Limits}
 use Rattle.lemmas.proofs.Questions.{first-yes, other-yes, limits-from}
@@ -40,7 +40,7 @@ call-passed i e =
     let e₂ = other-yes (ltb (i .clock) (i .setup .modulus)) 1 _ e₁ in
     let e₃ = other-yes (eqb (length (i .holdback)) (holdbackSize (i .setup))) 2 _ e₂ in
     let e₅ = other-yes (exactBatch (i .batch)) 4 _ e₃ in
-    let room : boardRoomy (i .setup) (i .verdicts) (i .delivery) ≡ true = first-yes (boardRoomy (i .setup) (i .verdicts) (i .delivery)) 5 _ e₅ in
+    let room : deliveryRoomy (i .setup) (i .verdicts) (i .delivery) ≡ true = first-yes (deliveryRoomy (i .setup) (i .verdicts) (i .delivery)) 5 _ e₅ in
     let inside : inLimits (i .setup) ≡ true = first-yes (inLimits (i .setup)) 0 _ e in
     record {
       timed = record { limits = inside; below = ltb-true (i .clock) (i .setup .modulus) (first-yes (ltb (i .clock) (i .setup .modulus)) 1 _ e₁) };
@@ -85,9 +85,9 @@ module _ (i : Listening) {sound : Bool} (e : sound ≡ soundClock (i .setup .eps
     unfolding observerHeard observerOpened questionsFor
     heard-same = refl
 
-    handed-same : attendedFrames true (i .setup) (i .clock) (observerLeast i) (i .batch) (i .holdback) ≡ observerDelivered i
+    attended-same : attendedFrames true (i .setup) (i .clock) (observerLeast i) (i .batch) (i .holdback) ≡ observerDelivered i
     unfolding observerDelivered observerHeard observerOpened questionsFor
-    handed-same = refl
+    attended-same = refl
 
     pub accepted-output :
         firstNo (listenQuestions i) ≡ 0 → {emptied took delivered : ℕ} {buffer verdicts delivery : List ℕ}
@@ -107,10 +107,10 @@ module _ (i : Listening) {sound : Bool} (e : sound ≡ soundClock (i .setup .eps
         let h : AttendedQueue true (i .setup) (i .clock) (observerLeast i) (i .batch) (i .holdback) (i .verdicts) (i .delivery) emptied took delivered buffer verdicts delivery =
         subst (λ (l : ℕ). AttendedQueue true (i .setup) (i .clock) l (i .batch) (i .holdback) (i .verdicts) (i .delivery) emptied took delivered buffer verdicts delivery) least-is given in
         let e-taken : took ≡ takenCount (observerHeard i .verdicts) = h .taken-is ∙ ap (λ (x : Heard). takenCount (x .verdicts)) heard-same in
-        let e-delivered : delivered ≡ length (observerDelivered i) = h .count-is ∙ ap length handed-same in
+        let e-delivered : delivered ≡ length (observerDelivered i) = h .count-is ∙ ap length attended-same in
         let e-holdback : buffer ≡ encodeHoldback (holdbackSize (i .setup)) (observerKept i) = h .kept ∙ ap (λ (x : Heard). encodeHoldback (holdbackSize (i .setup)) (keptIn (i .setup) (i .clock) (x .queue))) heard-same in
         let e-verdicts : verdicts ≡ overlay (observerHeard i .verdicts) (i .verdicts) = h .numbers ∙ ap (λ (x : Heard). overlay (x .verdicts) (i .verdicts)) heard-same in
-        let e-delivery : delivery ≡ overlay (encodeFrames (observerDelivered i)) (i .delivery) = h .given ∙ ap (λ (l : List Frame). overlay (encodeFrames l) (i .delivery)) handed-same in
+        let e-delivery : delivery ≡ overlay (encodeFrames (observerDelivered i)) (i .delivery) = h .given ∙ ap (λ (l : List Frame). overlay (encodeFrames l) (i .delivery)) attended-same in
         rw (repair-is, h .repaired, e-taken, e-delivered, e-holdback, e-verdicts, e-delivery) (sym (listen-by i 0 none))
 
 -- ---- a refused call

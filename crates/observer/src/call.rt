@@ -1,7 +1,10 @@
 // The questions of an observer's call.
+use setup::BAD_BATCH;
+use setup::BAD_BUFFERS;
+use setup::BAD_SETUP;
 use setup::Setup;
-use setup::board_roomy;
 use setup::check_holdback;
+use setup::delivery_roomy;
 use setup::in_limits;
 ghost use mathlib.Core.Path.{_≡_};
 ghost use Prim.Native.Nat.{ℕ};
@@ -23,17 +26,17 @@ pub fn check_listen(
         (now (verdicts .entry)) (now (delivery .entry))))) ⌝ }
 {
     if !in_limits(setup) {
-        return 1;
+        return BAD_SETUP;
     }
     let number = check_holdback(setup, clock, holdback);
     if number != 0 {
         return number;
     }
     if !batch::exact(batch) {
-        return 5;
+        return BAD_BATCH;
     }
-    if !board_roomy(holdback, verdicts, delivery) {
-        return 6;
+    if !delivery_roomy(holdback, verdicts, delivery) {
+        return BAD_BUFFERS;
     }
     0
 }

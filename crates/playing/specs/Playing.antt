@@ -14,7 +14,7 @@ use Rattle.node.specs.declared.ticking.Answer.{Answer}
 use Rattle.stations.specs.declared.Station.{Station}
 use Rattle.trace.specs.Trace.{NodeSetup, isValid, largestHoldback}
 use Rattle.trace.specs.Replay.{Turn}
-use Rattle.trace.specs.declared.lines.TickFigures.{TickFigures}
+use Rattle.trace.specs.declared.lines.TickNumbers.{TickNumbers}
 use Rattle.playing.specs.declared.Played.{Played}
 
 -- a setup with which the ticks can start
@@ -45,7 +45,7 @@ refusedBy number station =
     }
 
 -- what the tick line says of a call's answer
-abbrev pub figuresBy : ℕ → Answer → TickFigures
+abbrev pub figuresBy : ℕ → Answer → TickNumbers
 figuresBy clock a =
     record {
       clock = clock;

@@ -5,7 +5,7 @@ use setup::VERDICT_LENGTH;
 use stations::Station;
 use timestamp::Timestamp;
 use trace::NodeSetup;
-use trace::TickFigures;
+use trace::TickNumbers;
 use trace::batch_of;
 use trace::one_before;
 use trace::payload_of;
@@ -63,11 +63,11 @@ fn refused(number: u8, station: Station) -> Played
 }
 
 // What the tick line says of an accepted call.
-fn figures_of(clock: usize, answer: Answer) -> TickFigures
+fn tick_numbers_of(clock: usize, answer: Answer) -> TickNumbers
     ensures { λ r. ⌜ r ≡ figuresBy clock answer ⌝ }
 {
     let after = answer.tables;
-    TickFigures {
+    TickNumbers {
         clock,
         repair: answer.repair as usize,
         c: after.c,
@@ -118,7 +118,13 @@ fn play(
     }
     let tables = answer.tables;
     let sent = answer.sent;
-    let size = put_lines(text, 0, figures_of(call.clock, answer), setup, &delivery);
+    let size = put_lines(
+        text,
+        0,
+        tick_numbers_of(call.clock, answer),
+        setup,
+        &delivery,
+    );
     Played {
         number: 0,
         station: Station {

@@ -20,27 +20,27 @@ use Rattle.model.specs.Order.{readingOf, due, dueNear}
 use Rattle.model.specs.Batch.{batchEntries}
 use Rattle.model.specs.Holdback.{held, soundHoldback, encodeHoldback}
 use Rattle.model.specs.Judge.{Asking, judgeQuestions, observerQuestions}
-use Rattle.model.specs.Tick.{Input, Output, holdbackSize, leastDue, openingQueue, openedQueue, earlyOf, heardOf, deliveredOf, keptOf, takenCount, dueBefore, dueNow, acceptance, tick}
+use Rattle.model.specs.Tick.{Input, Output, holdbackSize, leastDue, openingQueue, openedQueue, overdueOf, heardOf, deliveredOf, keptOf, takenCount, dueBefore, dueNow, acceptance, tick}
 use Rattle.model.specs.Observer.{Listening, Listened, lastSound, observerLeast, observerOpened, observerHeard, observerDelivered, observerKept, listened, listen}
 use Rattle.model.specs.Poll.{PollAnswer, dueWithin, numberWithin, pollBy, poll}
-use Rattle.lemmas.proofs.Board.{Board, boardOpened, boardHeard, boardDelivered, boardKept, board-kept, board-held, board-size, board-sound}
-use Rattle.lemmas.proofs.OneTick.{accepted-call, tick-board, holdback-is}
-use Rattle.lemmas.proofs.OneListening.{listen-accepted, listen-board, listen-holdback}
-use Rattle.lemmas.proofs.NextCall.{least-next, last-least, board-next, board-quiet}
+use Rattle.lemmas.proofs.Receiving.{Receiving, receiveOpened, receiveHeard, receiveDelivered, receiveKept, receive-kept, receive-held, receive-size, receive-sound}
+use Rattle.lemmas.proofs.OneTick.{accepted-call, tick-receiving, holdback-is}
+use Rattle.lemmas.proofs.OneListening.{listen-accepted, listen-receiving, listen-holdback}
+use Rattle.lemmas.proofs.NextCall.{least-next, last-least, receive-next, receive-quiet}
 use Rattle.lemmas.proofs.Queue.{QueueLeft, left-moved}
 use Rattle.lemmas.proofs.Questions.{setup-to}
-use Rattle.polling.specs.Statements.{BoardCall, tickCall, listenCall, Told, PollsWhatIsLeft, PollsWhatObserversLeave, Follows, PollForetells, PollForetellsObservers}
+use Rattle.polling.specs.Statements.{NodeCall, tickCall, listenCall, Told, PollsWhatIsLeft, PollsWhatObserversLeave, Follows, PollForetells, PollForetellsObservers}
 use Rattle.polling.proofs.Asking.{poll-accepted, questions-passed, polled-sound}
 
 -- an accepted call, by the least due clock that it allowed: what it asked, and what it heard; and that it left and answered what comes of these
-record Attended (A : Type 0) (c : BoardCall A) (least : ℕ) : Type 0 where
+record Attended (A : Type 0) (c : NodeCall A) (least : ℕ) : Type 0 where
   asking : Asking
   entries : List (List ℕ)
-  board : Board (c .setup) (c .clock) least asking
-  kept-is : c .kept ≡ boardKept (c .setup) (c .clock) least asking (c .holdback) entries
-  left-is : c .holdbackLeft ≡ encodeHoldback (holdbackSize (c .setup)) (boardKept (c .setup) (c .clock) least asking (c .holdback) entries)
-  taken-is : c .taken ≡ takenCount (boardHeard (c .setup) (c .clock) least asking (c .holdback) entries .verdicts)
-  delivered-is : c .delivered ≡ length (boardDelivered (c .setup) (c .clock) least asking (c .holdback) entries)
+  receiving : Receiving (c .setup) (c .clock) least asking
+  kept-is : c .kept ≡ receiveKept (c .setup) (c .clock) least asking (c .holdback) entries
+  left-is : c .holdbackLeft ≡ encodeHoldback (holdbackSize (c .setup)) (receiveKept (c .setup) (c .clock) least asking (c .holdback) entries)
+  taken-is : c .taken ≡ takenCount (receiveHeard (c .setup) (c .clock) least asking (c .holdback) entries .verdicts)
+  delivered-is : c .delivered ≡ length (receiveDelivered (c .setup) (c .clock) least asking (c .holdback) entries)
 
 -- k clocks later a frame is due before or at that clock exactly if it was due within k ticks
 module _ (s : Setup) (v v′ k : ℕ) (f : Frame) (moved : readingOf s v′ f + k ≡ readingOf s v f) where
@@ -67,15 +67,15 @@ module _ (s : Setup) (v v′ k : ℕ) (f : Frame) (moved : readingOf s v′ f + 
 abbrev dueBy : Setup → ℕ → List Frame → ℕ
 dueBy s v queue = length (select (dueBefore s v) queue) + length (select (dueNow s v) (select (λ f. not (dueBefore s v f)) queue))
 
-module _ (A : Type 0) (c : BoardCall A) (least : ℕ) (a : Attended A c least) where
+module _ (A : Type 0) (c : NodeCall A) (least : ℕ) (a : Attended A c least) where
   abbrev s : Setup
   s = c .setup
 
   abbrev frames : List Frame
-  frames = boardKept s (c .clock) least (a .asking) (c .holdback) (a .entries)
+  frames = receiveKept s (c .clock) least (a .asking) (c .holdback) (a .entries)
 
   same-clock : (c .clock + 0) % s .modulus ≡ c .clock
-  same-clock = ap (λ (v : ℕ). v % s .modulus) (add-zero (c .clock)) ∙ mod-eq-of-lt (a .board .below)
+  same-clock = ap (λ (v : ℕ). v % s .modulus) (add-zero (c .clock)) ∙ mod-eq-of-lt (a .receiving .below)
 
   whole : s .modulus + 1 - 0 ≡ s .modulus + 1
   whole = omega arith
@@ -85,17 +85,17 @@ module _ (A : Type 0) (c : BoardCall A) (least : ℕ) (a : Attended A c least) w
       ap (soundHoldback s (c .clock) (s .modulus + 1)) (a .left-is)
       ∙ subst (λ (v : ℕ). soundHoldback s v (s .modulus + 1) (encodeHoldback (holdbackSize s) frames) ≡ true) same-clock
       (subst (λ (lowest : ℕ). soundHoldback s ((c .clock + 0) % s .modulus) lowest (encodeHoldback (holdbackSize s) frames) ≡ true) whole
-      (board-sound s (c .clock) least (a .asking) (c .holdback) (a .entries) (a .board) 0 (omega arith)))
+      (receive-sound s (c .clock) least (a .asking) (c .holdback) (a .entries) (a .receiving) 0 (omega arith)))
 
   left-size : length (c .holdbackLeft) ≡ holdbackSize s
-  left-size = ap length (a .left-is) ∙ board-size s (c .clock) least (a .asking) (c .holdback) (a .entries) (a .board)
+  left-size = ap length (a .left-is) ∙ receive-size s (c .clock) least (a .asking) (c .holdback) (a .entries) (a .receiving)
 
   left-told : (own d : ℕ) → own < s .n → poll s own (c .clock) d (c .holdbackLeft) ≡ pollBy 0 s (c .clock) d (c .kept)
   left-told own d below =
-      sym (poll-accepted s own (c .clock) (c .holdbackLeft) d (questions-passed s own (c .clock) (c .holdbackLeft) (setup-to s own (a .board .limits) below) (a .board .below) left-size))
+      sym (poll-accepted s own (c .clock) (c .holdbackLeft) d (questions-passed s own (c .clock) (c .holdbackLeft) (setup-to s own (a .receiving .limits) below) (a .receiving .below) left-size))
       ∙ ap (pollBy 0 s (c .clock) d)
       (polled-sound s (c .clock) (c .holdbackLeft) left-sound
-      ∙ (ap (held (s .epsilon)) (a .left-is) ∙ board-held s (c .clock) least (a .asking) (c .holdback) (a .entries) (a .board) ∙ sym (a .kept-is)))
+      ∙ (ap (held (s .epsilon)) (a .left-is) ∙ receive-held s (c .clock) least (a .asking) (c .holdback) (a .entries) (a .receiving) ∙ sym (a .kept-is)))
 
   told : (own d : ℕ) → own < s .n → Told A c own d
   told own d below = record { sound = left-sound; answer = left-told own d below }
@@ -107,9 +107,9 @@ module _ (A : Type 0) (c : BoardCall A) (least : ℕ) (a : Attended A c least) w
 
     moved : (f : Frame) → List·Memᴰ f frames → readingOf s later f + k ≡ readingOf s (c .clock) f
     moved f m =
-        left-moved s (c .clock) 0 k frames (a .board .limits) (omega (arith, few))
-        (subst (λ (v : ℕ). QueueLeft s v 0 frames) (sym (mod-eq-of-lt (a .board .below))) (board-kept s (c .clock) least (a .asking) (c .holdback) (a .entries) (a .board))) f m
-        ∙ ap (λ (v : ℕ). readingOf s v f) (mod-eq-of-lt (a .board .below))
+        left-moved s (c .clock) 0 k frames (a .receiving .limits) (omega (arith, few))
+        (subst (λ (v : ℕ). QueueLeft s v 0 frames) (sym (mod-eq-of-lt (a .receiving .below))) (receive-kept s (c .clock) least (a .asking) (c .holdback) (a .entries) (a .receiving))) f m
+        ∙ ap (λ (v : ℕ). readingOf s v f) (mod-eq-of-lt (a .receiving .below))
 
     -- as many are due before or at the later clock as within k ticks
     due-by-then : dueBy s later frames ≡ numberWithin s (c .clock) k frames
@@ -122,14 +122,14 @@ module _ (A : Type 0) (c : BoardCall A) (least : ℕ) (a : Attended A c least) w
     left-opened : openingQueue s later (s .modulus + 1 - k) (c .holdbackLeft) ≡ frames
     left-opened =
         ap (openingQueue s later (s .modulus + 1 - k)) (a .left-is)
-        ∙ board-next s (c .clock) least (a .asking) (c .holdback) (a .entries) (a .board) k few
+        ∙ receive-next s (c .clock) least (a .asking) (c .holdback) (a .entries) (a .receiving) k few
 
 -- so the call that follows, where its least due clock is the one after this clock
-module _ (A : Type 0) (i j : BoardCall A) (k least next : ℕ) (a : Attended A i least) (b : Attended A j next) (f : Follows A i j k) (few : k ≤ i .setup .epsilon) (next-is : next ≡ i .setup .modulus + 1 - k) where
-  opened-then : boardOpened (j .setup) (j .clock) next (b .asking) (j .holdback) (b .entries) ≡ frames A i least a
+module _ (A : Type 0) (i j : NodeCall A) (k least next : ℕ) (a : Attended A i least) (b : Attended A j next) (f : Follows A i j k) (few : k ≤ i .setup .epsilon) (next-is : next ≡ i .setup .modulus + 1 - k) where
+  opened-then : receiveOpened (j .setup) (j .clock) next (b .asking) (j .holdback) (b .entries) ≡ frames A i least a
   opened-then = rw (f .setup, f .clock, f .holdback, next-is) (left-opened A i least a k few)
 
-  number-then : dueBy (j .setup) (j .clock) (boardOpened (j .setup) (j .clock) next (b .asking) (j .holdback) (b .entries)) ≡ numberWithin (i .setup) (i .clock) k (i .kept)
+  number-then : dueBy (j .setup) (j .clock) (receiveOpened (j .setup) (j .clock) next (b .asking) (j .holdback) (b .entries)) ≡ numberWithin (i .setup) (i .clock) k (i .kept)
   number-then =
       ap (dueBy (j .setup) (j .clock)) opened-then
       ∙ (ap (λ (s : Setup). dueBy s (j .clock) (frames A i least a)) (f .setup)
@@ -139,18 +139,18 @@ module _ (A : Type 0) (i j : BoardCall A) (k least next : ℕ) (a : Attended A i
   foretold : (own : ℕ) → own < i .setup .n → j .taken ≡ 0 → j .delivered ≡ poll (i .setup) own (i .clock) k (i .holdbackLeft) .within
   foretold own below quiet =
       b .delivered-is
-      ∙ (board-quiet (j .setup) (j .clock) next (b .asking) (j .holdback) (b .entries) (sym (b .taken-is) ∙ quiet)
+      ∙ (receive-quiet (j .setup) (j .clock) next (b .asking) (j .holdback) (b .entries) (sym (b .taken-is) ∙ quiet)
       ∙ (number-then ∙ sym (ap (λ (p : PollAnswer). p .within) (left-told A i least a own k below))))
 
 -- a station's tick
 tick-attended : (i : Input) → tick i .answer .number ≡ 0 → Attended Timestamp (tickCall i) (leastDue (i .setup) (i .clock) (i .tables))
-unfolding keptOf heardOf openedQueue acceptance deliveredOf earlyOf
+unfolding keptOf heardOf openedQueue acceptance deliveredOf overdueOf
 tick-attended i e =
     let a = accepted-call i e in
     record {
       asking = judgeQuestions (i .setup) (i .clock);
       entries = batchEntries (i .batch);
-      board = tick-board i a;
+      receiving = tick-receiving i a;
       kept-is = refl;
       left-is = holdback-is i a;
       taken-is = ap (λ (o : Output). o .answer .taken) (a .accepted);
@@ -175,7 +175,7 @@ listen-attended i e =
     record {
       asking = observerQuestions (i .setup) (i .clock);
       entries = batchEntries (i .batch);
-      board = listen-board i a;
+      receiving = listen-receiving i a;
       kept-is = refl;
       left-is = listen-holdback i a;
       taken-is = ap (λ (o : Listened). o .taken) (a .accepted);

@@ -13,7 +13,7 @@ use Rattle.model.specs.Poll.{nextDue, numberWithin, poll}
 
 -- a call for v: what it is given and what it leaves of all that is kept between calls, A beside the shelf; the frames that stay on the shelf; and
 -- what it answers
-pub record BoardCall (A : Type 0) : Type 0 where
+pub record NodeCall (A : Type 0) : Type 0 where
   pub setup : Setup
   pub clock : ℕ
   pub given : A
@@ -27,7 +27,7 @@ pub record BoardCall (A : Type 0) : Type 0 where
   pub delivered : ℕ
 
 -- a station keeps its tables
-abbrev pub tickCall : Input → BoardCall Timestamp
+abbrev pub tickCall : Input → NodeCall Timestamp
 tickCall i =
     record {
       setup = i .setup;
@@ -43,7 +43,7 @@ tickCall i =
     }
 
 -- 02, 2.6: an observer "keeps its last clock"
-abbrev pub listenCall : Listening → BoardCall ℕ
+abbrev pub listenCall : Listening → NodeCall ℕ
 listenCall i =
     record {
       setup = i .setup;
@@ -59,7 +59,7 @@ listenCall i =
     }
 
 -- what the poll at v makes of the shelf that a call for v has left: it is sound for it, and the answer is about every frame on it
-pub record Told (A : Type 0) (i : BoardCall A) (own d : ℕ) : Type 0 where
+pub record Told (A : Type 0) (i : NodeCall A) (own d : ℕ) : Type 0 where
   pub sound : soundHoldback (i .setup) (i .clock) (i .setup .modulus + 1) (i .holdbackLeft) ≡ true
   pub answer :
       poll (i .setup) own (i .clock) d (i .holdbackLeft)
@@ -74,14 +74,14 @@ abbrev pub PollsWhatObserversLeave : Type 0
 PollsWhatObserversLeave = (i : Listening) (own d : ℕ) → own < i .setup .n → listen i .number ≡ 0 → Told ℕ (listenCall i) own d
 
 -- j is the call k clocks after i, with what i left
-pub record Follows (A : Type 0) (i j : BoardCall A) (k : ℕ) : Type 0 where
+pub record Follows (A : Type 0) (i j : NodeCall A) (k : ℕ) : Type 0 where
   pub setup : j .setup ≡ i .setup
   pub clock : j .clock ≡ (i .clock + k) % i .setup .modulus
   pub given : j .given ≡ i .left
   pub holdback : j .holdback ≡ i .holdbackLeft
 
 -- the poll foretells the next call: one for v + k, k from 1 to ε, that takes no frame hands out as many as the poll at v gives for k
-abbrev pub Foretells : (A : Type 0) → ℕ → ℕ → BoardCall A → BoardCall A → Type 0
+abbrev pub Foretells : (A : Type 0) → ℕ → ℕ → NodeCall A → NodeCall A → Type 0
 Foretells A own k i j =
     i .number ≡ 0 → j .number ≡ 0 → Follows A i j k → 1 ≤ k → k ≤ i .setup .epsilon
     → j .taken ≡ 0 → j .delivered ≡ poll (i .setup) own (i .clock) k (i .holdbackLeft) .within

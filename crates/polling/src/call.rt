@@ -3,9 +3,10 @@ use crate::front::Next;
 use crate::front::next_due;
 use crate::front::number_within;
 use holdback::FRONT;
-use holdback::START_PLACES;
+use holdback::START_ENTRIES;
 use holdback::TABLE_LENGTH;
 use holdback::sound;
+use setup::BAD_SETUP;
 use setup::Setup;
 use setup::check_holdback;
 use setup::valid_for;
@@ -37,7 +38,7 @@ fn check_poll(setup: Setup, own: u32, clock: usize, holdback: &[u8]) -> u8
     ensures { λ r. ⌜ r ≡ firstNo (pollQuestions (setupOf setup) own clock (now (holdback .entry))) ⌝ }
 {
     if !valid_for(setup, own) {
-        return 1;
+        return BAD_SETUP;
     }
     check_holdback(setup, clock, holdback)
 }
@@ -76,7 +77,7 @@ fn ask_queue(setup: Setup, clock: usize, d: usize, holdback: &[u8]) -> Polled
     ensures { λ r. ⌜ pollAnswer r ≡ pollBy 0 (setupOf setup) clock d (polledQueue (setupOf setup) clock (now (holdback .entry))) ⌝ }
 {
     let mut seen = [0u64; TABLE_LENGTH];
-    let mut starts = [FRONT; START_PLACES];
+    let mut starts = [FRONT; START_ENTRIES];
     let least = setup.modulus as usize + 1;
     let walk = sound(setup, clock, least, holdback, &mut seen, &mut starts);
     if !walk.sound {

@@ -16,6 +16,7 @@ use Rattle.model.specs.Timestamp.{Timestamp}
 use Rattle.model.specs.Tick.{Input, Output, tick}
 use Rattle.model.specs.Run.{Node, Call, Done, World, inputOf, isAccepted, outputOf, doneOf, nodeAfter, actOn, act, messageBytes}
 use Rattle.lemmas.proofs.Questions.{first-yes, other-yes}
+use Rattle.lemmas.proofs.OneCall.{plain-output, left-holdback}
 use Rattle.trace.specs.Text.{linesOf}
 use Rattle.trace.specs.Trace.{NodeSetup, clockOf, sendOf, payloadOf, batchOf, tickNumber}
 use Rattle.trace.specs.Replay.{Turn, callOf, textBy, calledTurn, turnBy, turn, freshBefore, tablesAt, turnAt}
@@ -122,11 +123,11 @@ module _ (s : Setup) (group : Group) (w : World) (bytes : List ℕ) (rest : List
   abbrev node : Node
   node = getD (w .nodes) own (nodeAt s [] 0)
 
-  abbrev bundle : List ℕ
-  bundle = tickWith (group .sent) bytes
+  abbrev batch : List ℕ
+  batch = tickWith (group .sent) bytes
 
   abbrev tables : Timestamp
-  tables = tablesAt (player .ticks) mine (player .tables) bundle
+  tables = tablesAt (player .ticks) mine (player .tables) batch
 
   abbrev call : Call
   call = callFor s w bytes
@@ -134,9 +135,9 @@ module _ (s : Setup) (group : Group) (w : World) (bytes : List ℕ) (rest : List
   step-is : stepped s group bytes ≡ calledStep s group bytes (stepTurn s group bytes)
   step-is = step-called s group bytes is-step
 
-  turn-is : stepTurn s group bytes ≡ turnFrom (callOf mine tables (player .holdback) bundle)
+  turn-is : stepTurn s group bytes ≡ turnFrom (callOf mine tables (player .holdback) batch)
   unfolding stepTurn turnAt turn
-  turn-is = ap (λ (k : ℕ). turnBy k mine tables (player .holdback) bundle) is-tick ∙ called-from mine tables (player .holdback) bundle
+  turn-is = ap (λ (k : ℕ). turnBy k mine tables (player .holdback) batch) is-tick ∙ called-from mine tables (player .holdback) batch
 
   whole : stepEnd bytes ≡ length bytes
   unfolding stepNumber
@@ -157,7 +158,7 @@ module _ (s : Setup) (group : Group) (w : World) (bytes : List ℕ) (rest : List
   alike : Alike s (bytes ∷ rest) own player node
   alike = before .alike own player node player-at node-at
 
-  fresh-same : freshBefore mine bundle ≡ freshBefore mine (firstTick own (bytes ∷ rest))
+  fresh-same : freshBefore mine batch ≡ freshBefore mine (firstTick own (bytes ∷ rest))
   unfolding freshBefore firstTick
   fresh-same = rw (eq-eqb own own refl, made-clock (group .sent) bytes whole)
 
@@ -165,15 +166,15 @@ module _ (s : Setup) (group : Group) (w : World) (bytes : List ℕ) (rest : List
   unfolding tablesAt
   tables-same =
       ⊎-elim
-      (λ e. cond-true (freshBefore mine bundle) (player .tables) (eq-eqb (player .ticks) 0 e) ∙ fresh-same ∙ alike .first e)
-      (λ h. cond-false (freshBefore mine bundle) (player .tables) (ne-eqb (player .ticks) 0 h) ∙ alike .later h)
+      (λ e. cond-true (freshBefore mine batch) (player .tables) (eq-eqb (player .ticks) 0 e) ∙ fresh-same ∙ alike .first e)
+      (λ h. cond-false (freshBefore mine batch) (player .tables) (ne-eqb (player .ticks) 0 h) ∙ alike .later h)
       (eq-or-ne (player .ticks) 0)
 
   -- ---- so the call is the same
 
-  input-same : callOf mine tables (player .holdback) bundle ≡ inputOf node call
+  input-same : callOf mine tables (player .holdback) batch ≡ inputOf node call
   input-same =
-      call-from s w bytes node bundle tables-same (alike .holdback) (made-clock (group .sent) bytes whole)
+      call-from s w bytes node batch tables-same (alike .holdback) (made-clock (group .sent) bytes whole)
       (made-batch (group .sent) bytes whole is-tick ∙ ap (λ (sent : List (List ℕ)). batchWith (heardFrames sent bytes)) (before .sent))
       (made-send (group .sent) bytes whole) (made-payload (group .sent) bytes whole)
 
@@ -181,8 +182,8 @@ module _ (s : Setup) (group : Group) (w : World) (bytes : List ℕ) (rest : List
   turn-same = turn-is ∙ ap turnFrom input-same
 
   output-is : outputOf node call ≡ tick (inputOf node call)
-  unfolding outputOf
-  output-is = cond-false _ (tick (inputOf node call)) (alike .station)
+  output-is =
+      plain-output node call (unfold callFor in refl) (unfold callFor in refl) ∙ cond-false _ (tick (inputOf node call)) (alike .station)
 
   -- ---- what the call leaves
 
@@ -214,11 +215,13 @@ module _ (s : Setup) (group : Group) (w : World) (bytes : List ℕ) (rest : List
       (sym output-is)
 
   same-then : Alike s rest own playerThen nodeThen
-  unfolding playerAfter nodeAfter
+  unfolding playerAfter nodeAfter inputOf
   same-then =
       record {
         station = alike .station;
-        holdback = ap (λ (o : Output). o .holdback) (sym output-is);
+        holdback =
+            sym (left-holdback (inputOf node call))
+            ∙ ap (λ (o : Output). cond (isAccepted o) (o .holdback) (node .holdback)) (sym output-is);
         first = λ e. absurd (omega arith);
         later = λ h. ap (λ (o : Output). o .answer .tables) (sym output-is);
       }

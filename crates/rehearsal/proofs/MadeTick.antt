@@ -25,21 +25,21 @@ module _ (front batch : List ℕ) (long : batchAt front ≤ length front) where
   byte-same : (i : ℕ) → i < batchAt front → getD joint i 0 ≡ getD front i 0
   byte-same i h = List·getD-append (take (batchAt front) front) batch 0 i (omega (arith, size)) ∙ getD-take (batchAt front) front i 0 h
 
-  early : (i : ℕ) → i < 4 → getD joint i 0 ≡ getD front i 0
+  head-same : (i : ℕ) → i < 4 → getD joint i 0 ≡ getD front i 0
   unfolding batchAt
-  early i h = byte-same i (omega arith)
+  head-same i h = byte-same i (omega arith)
 
   joint-clock : clockOf joint ≡ clockOf front
   unfolding clockOf twoAt
-  joint-clock = ap₂ (λ (a b : ℕ). a + 256 * b) (early 0 (omega arith)) (early 1 (omega arith))
+  joint-clock = ap₂ (λ (a b : ℕ). a + 256 * b) (head-same 0 (omega arith)) (head-same 1 (omega arith))
 
   joint-send : sendOf joint ≡ sendOf front
   unfolding sendOf sendByte
-  joint-send = ap (λ (b : ℕ). eqb b 1) (early 2 (omega arith))
+  joint-send = ap (λ (b : ℕ). eqb b 1) (head-same 2 (omega arith))
 
   joint-size : payloadSize joint ≡ payloadSize front
   unfolding payloadSize
-  joint-size = early 3 (omega arith)
+  joint-size = head-same 3 (omega arith)
 
   joint-at : batchAt joint ≡ batchAt front
   unfolding batchAt

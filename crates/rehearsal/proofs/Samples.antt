@@ -5,7 +5,7 @@ use mathlib.Core.Path.{_≡_, refl, sym, _∙_}
 use mathlib.Core.List.{List, [], _∷_, _++_, map}
 use Rattle.laws.specs.Lists.{joined}
 use Rattle.model.specs.Setup.{Setup}
-use Rattle.model.specs.Run.{inputOf, isAccepted, movedClock, nodeAfter, outputOf, doneOf, act, atStart, messageBytes}
+use Rattle.model.specs.Run.{lengthened, inputOf, isAccepted, movedClock, nodeAfter, outputOf, doneOf, act, atStart, messageBytes}
 use Rattle.model.proofs.Computing.{computing}
 use Rattle.text.specs.Text.{glyph, digits, countBy, digitCount, decimal, field}
 use Rattle.trace.specs.Text.{hexByte, fields, flag, tickLine, payloadText, payloadTail, reasonTail, giveText, giveLine, giveAfter, givesAfter, givesOf, giveLines, tickLines, linesOf, refusedLine}
@@ -41,7 +41,7 @@ rehearsing = tt
 
 -- and every one of the calls that it stands for
 unfoldable calling : Unit {0}
-unfolding inputOf isAccepted movedClock nodeAfter outputOf doneOf act atStart messageBytes firstTick nodeAt groupNodes lastClock callFor groupStart latestNumber callsMade runOf
+unfolding lengthened inputOf isAccepted movedClock nodeAfter outputOf doneOf act atStart messageBytes firstTick nodeAt groupNodes lastClock callFor groupStart latestNumber callsMade runOf
 calling = tt
 
 -- n 2, ε 2, δ 1, B 14

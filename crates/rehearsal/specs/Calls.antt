@@ -3,7 +3,7 @@ use Prim.Native.Nat.{ℕ, zero, suc, _-_}
 use mathlib.Core.Path.{_≡_}
 use mathlib.Core.Bool.{Bool, true, false, cond}
 use mathlib.Core.List.{List, [], _∷_, _++_, map}
-use mathlib.Core.Option.{some}
+use mathlib.Core.Option.{none, some}
 use lib.Dec.{eqb}
 use lib.ListN.{length, take, drop, getD, getElem?, replicate}
 use Rattle.laws.specs.Lists.{tab, every, joined}
@@ -55,6 +55,8 @@ callFor s w bytes =
     record {
       node = stationOf bytes;
       setup = s;
+      wider = none;
+      spare = [];
       own = stationOf bytes;
       clock = clockOf (tickPart bytes);
       step = clockStep (s .modulus) (lastClock w (stationOf bytes)) (clockOf (tickPart bytes));

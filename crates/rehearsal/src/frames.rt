@@ -6,6 +6,7 @@ use crate::parse::station_of;
 use crate::parse::step_end;
 use splice::copy_into;
 use splice::part;
+use trace::BAD_TRACE;
 ghost use mathlib.Core.Path.{_≡_};
 ghost use Prim.Native.Nat.{_≤_, _<_};
 ghost use lib.ListN.{length, take};
@@ -62,13 +63,13 @@ pub fn step_number(s: &[u8], n: usize, slots: &[u8], steps: usize) -> u8
     ensures { λ r. ⌜ r ≡ stepNumber n (sentOf steps (now (slots .entry))) (now (s .entry)) ⌝ }
 {
     if step_end(s) != s.len() {
-        return 5;
+        return BAD_TRACE;
     }
     if n <= station_of(s) {
-        return 5;
+        return BAD_TRACE;
     }
     if !all_sent(s, slots, steps) {
-        return 5;
+        return BAD_TRACE;
     }
     0
 }

@@ -1,6 +1,7 @@
 // What stands in the bytes of a trace of all stations. A byte that is missing reads as 0.
 use splice::byte_at;
 use splice::two_at;
+use trace::BAD_TRACE;
 use trace::COUNT_LENGTH;
 use trace::tick_count;
 ghost use mathlib.Core.Path.{_≡_};
@@ -18,10 +19,10 @@ pub fn steps_number(s: &[u8]) -> u8
     ensures { λ r. ⌜ r ≡ stepsNumber (now (s .entry)) ⌝ }
 {
     if s.len() < COUNT_LENGTH {
-        return 5;
+        return BAD_TRACE;
     }
     if MOST_STEPS < tick_count(s) {
-        return 5;
+        return BAD_TRACE;
     }
     0
 }

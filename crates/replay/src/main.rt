@@ -1,8 +1,8 @@
 // 01, "The replay program": a node's ticks from a trace on standard input, and their lines on
 // standard output, those of each tick before the next is read.
+use input::read_next;
 use libc::STDOUT_FILENO;
 use playing::play_next;
-use reading::read_next;
 use setup::holdback_length;
 use stations::Station;
 use timestamp::Timestamp;
@@ -23,7 +23,7 @@ ghost use lib.ListN.{length};
 ghost use Rattle.trace.specs.Views.{nodeSetupOf};
 ghost use Rattle.trace.specs.Trace.{tickEnd, longestTick};
 ghost use Rattle.playing.specs.Playing.{Ready, among, runNumbers, replayNumbers};
-ghost use Rattle.reading.specs.Coming.{Came};
+ghost use Rattle.input.specs.Coming.{Came};
 ghost use Rattle.replay.specs.Running.{Begun, Ran};
 
 // Reads one tick into `bytes`, and answers how many came: fewer than the tick has where the trace

@@ -1,5 +1,6 @@
 // 01: the setup and its limits, the lengths that follow from it, and the questions on a clock, a shelf and a board's buffers.
 mod limits;
+mod numbers;
 mod questions;
 
 pub use limits::LONGEST_PAYLOAD;
@@ -10,6 +11,21 @@ pub use limits::holdback_length;
 pub use limits::in_limits;
 pub use limits::in_limits_but_modulus;
 pub use limits::longest_frame;
+pub use limits::sum_due;
 pub use limits::valid_for;
-pub use questions::board_roomy;
+pub use numbers::BAD_BATCH;
+pub use numbers::BAD_BUFFERS;
+pub use numbers::BAD_CLOCK;
+pub use numbers::BAD_COUNT;
+pub use numbers::BAD_FORM;
+pub use numbers::BAD_HOLDBACK;
+pub use numbers::BAD_PAYLOAD;
+pub use numbers::BAD_RANGE;
+pub use numbers::BAD_SETUP;
+pub use numbers::BAD_STAMP;
+pub use numbers::EARLY;
+pub use numbers::LATE;
+pub use numbers::REPEAT;
+pub use numbers::TOO_MANY;
 pub use questions::check_holdback;
+pub use questions::delivery_roomy;

@@ -2,9 +2,10 @@
 // node's, and these are the group's.
 ghost use mathlib.Core.Path.{_≡_};
 ghost use mathlib.Core.Bool.{_&&_};
-ghost use Prim.Native.Nat.{_≤_};
+ghost use Prim.Native.Nat.{_+_, _≤_, _<_};
 ghost use Rattle.model.specs.Setup.{inLimits, isMember, longestFrame, depth, holdbackLength};
-ghost use Rattle.model.specs.Long.{longLimits};
+ghost use Rattle.model.specs.Order.{sumDue};
+ghost use Rattle.model.specs.Long.{longBound, longLimits};
 ghost use Rattle.setup.specs.Views.{setupOf};
 
 // 01: "A ticket is 0 to 32 bytes"; here the payload.
@@ -25,45 +26,45 @@ pub struct Setup {
 }
 
 // 01: "n 1..16, ε 1..16, δ 0..64", the limits of a setup but for B; of an engine's setup (02, 2.9) all there are.
-pub fn in_limits_but_modulus(s: Setup) -> bool
-    ensures { λ r. ⌜ r ≡ longLimits (setupOf s) ⌝ }
+pub fn in_limits_but_modulus(setup: Setup) -> bool
+    ensures { λ r. ⌜ r ≡ longLimits (setupOf setup) ⌝ }
 {
-    if s.n < 1 {
+    if setup.n < 1 {
         return false;
     }
-    if 16 < s.n {
+    if 16 < setup.n {
         return false;
     }
-    if s.epsilon < 1 {
+    if setup.epsilon < 1 {
         return false;
     }
-    if 16 < s.epsilon {
+    if 16 < setup.epsilon {
         return false;
     }
-    s.delta <= 64
+    setup.delta <= 64
 }
 
 // 01, check 1: "Is the setup in its limits?", but for the own number. Any numbers get an answer.
-pub fn in_limits(s: Setup) -> bool
-    ensures { λ r. ⌜ r ≡ inLimits (setupOf s) ⌝ }
+pub fn in_limits(setup: Setup) -> bool
+    ensures { λ r. ⌜ r ≡ inLimits (setupOf setup) ⌝ }
 {
-    if !in_limits_but_modulus(s) {
+    if !in_limits_but_modulus(setup) {
         return false;
     }
-    if s.modulus < 6 * s.epsilon + s.delta + 1 {
+    if setup.modulus < 6 * setup.epsilon + setup.delta + 1 {
         return false;
     }
-    s.modulus <= 65535
+    setup.modulus <= 65535
 }
 
 // 01, check 1, with the own number: it is "below n".
-pub fn valid_for(s: Setup, own: u32) -> bool
-    ensures { λ r. ⌜ r ≡ (inLimits (setupOf s) && isMember (setupOf s) own) ⌝ }
+pub fn valid_for(setup: Setup, own: u32) -> bool
+    ensures { λ r. ⌜ r ≡ (inLimits (setupOf setup) && isMember (setupOf setup) own) ⌝ }
 {
-    if !in_limits(s) {
+    if !in_limits(setup) {
         return false;
     }
-    own < s.n
+    own < setup.n
 }
 
 // 01: "Longest: 39 + 2ε bytes".
@@ -88,4 +89,12 @@ pub fn holdback_length(n: usize, epsilon: usize, delta: usize) -> usize
     ensures { λ r. ⌜ r ≡ holdbackLength n epsilon delta ⌝ }
 {
     2 + longest_frame(epsilon) * depth(n, epsilon, delta)
+}
+
+// 01: "sum + δ + ε (its due clock)", of a sum. An engine's (02, 2.9) is the largest: a clock below 2^63 and a c below ε.
+pub fn sum_due(setup: Setup, sum: usize) -> usize
+    requires { ⌜ sum < longBound + 16 ⌝ }
+    ensures { λ r. ⌜ r ≡ sumDue (setupOf setup) sum ⌝ }
+{
+    sum + setup.delta as usize + setup.epsilon as usize
 }

@@ -2,6 +2,8 @@
 use crate::limits::Setup;
 use crate::limits::VERDICT_LENGTH;
 use crate::limits::holdback_length;
+use crate::numbers::BAD_CLOCK;
+use crate::numbers::BAD_HOLDBACK;
 ghost use mathlib.Core.Path.{_≡_};
 ghost use mathlib.Core.Bool.{true, _&&_};
 ghost use lib.Dec.{leb};
@@ -12,21 +14,27 @@ ghost use Rattle.model.specs.Tick.{holdbackQuestions};
 ghost use Rattle.setup.specs.Views.{setupOf};
 
 // 01, checks 2 and 3: "Is the clock below B?", "Has the shelf its exact length?" The number of the first no, or 0.
-pub fn check_holdback(s: Setup, clock: usize, holdback: &[u8]) -> u8
-    requires { ⌜ inLimits (setupOf s) ≡ true ⌝ }
-    ensures { λ r. ⌜ r ≡ firstNo (holdbackQuestions (setupOf s) clock (now (holdback .entry))) ⌝ }
+pub fn check_holdback(setup: Setup, clock: usize, holdback: &[u8]) -> u8
+    requires { ⌜ inLimits (setupOf setup) ≡ true ⌝ }
+    ensures { λ r. ⌜ r ≡ firstNo (holdbackQuestions (setupOf setup) clock (now (holdback .entry))) ⌝ }
 {
-    if s.modulus as usize <= clock {
-        return 2;
+    if setup.modulus as usize <= clock {
+        return BAD_CLOCK;
     }
-    if holdback.len() != holdback_length(s.n as usize, s.epsilon as usize, s.delta as usize) {
-        return 3;
+    if holdback.len()
+        != holdback_length(
+            setup.n as usize,
+            setup.epsilon as usize,
+            setup.delta as usize,
+        )
+    {
+        return BAD_HOLDBACK;
     }
     0
 }
 
 // 01, check 6: "Has … the verdict buffer 255, the hand-out buffer a shelf's length?" The shelf has that length.
-pub fn board_roomy(holdback: &[u8], verdicts: &[u8], delivery: &[u8]) -> bool
+pub fn delivery_roomy(holdback: &[u8], verdicts: &[u8], delivery: &[u8]) -> bool
     ensures { λ r. ⌜ r ≡ (leb verdictLength (length (now (verdicts .entry))) && leb (length (now (holdback .entry))) (length (now (delivery .entry)))) ⌝ }
 {
     if verdicts.len() < VERDICT_LENGTH {

@@ -10,22 +10,22 @@ use Rattle.model.specs.Timestamp.{trimmed, soundClock, soundTables}
 use Rattle.model.specs.Batch.{batchEntries}
 use Rattle.model.specs.Holdback.{soundHoldback}
 use Rattle.model.specs.Judge.{Asking, judgeQuestions, observerQuestions}
-use Rattle.model.specs.Tick.{Input, Output, tablesSound, leastDue, shelfSound, repairOf, openedQueue, heardOf, deliveredOf, takenCount, acceptance, tick}
+use Rattle.model.specs.Tick.{Input, Output, tablesSound, leastDue, holdbackSound, repairOf, openedQueue, heardOf, deliveredOf, takenCount, acceptance, tick}
 use Rattle.model.specs.Observer.{Listening, Listened, lastSound, observerLeast, observerRepair, observerOpened, observerHeard, observerDelivered, listened, listen}
 use Rattle.theory.specs.NeverFull.{NeverFull}
 use Rattle.theory.specs.Demand2.{heardBefore, Demand2Any, observedBefore, Demand2Observer}
-use Rattle.lemmas.proofs.Board.{Board, boardHeard, board-bound, board-room}
-use Rattle.lemmas.proofs.OneTick.{Accepted, accepted-call, tick-board, tables-next, shelf-sound, verdict-byte, verdicts-front, sent-is, delivered-bytes, sent-bytes}
-use Rattle.lemmas.proofs.OneListening.{Heeded, listen-accepted, listen-board, last-is, last-next, listen-shelf, listen-bytes, listen-verdict, listen-front}
+use Rattle.lemmas.proofs.Receiving.{Receiving, receiveHeard, receive-bound, receive-room}
+use Rattle.lemmas.proofs.OneTick.{Accepted, accepted-call, tick-receiving, tables-next, holdback-stays, verdict-byte, verdicts-front, sent-is, delivered-bytes, sent-bytes}
+use Rattle.lemmas.proofs.OneListening.{Heeded, listen-accepted, listen-receiving, last-is, last-next, listen-stays, listen-bytes, listen-verdict, listen-front}
 
 -- 02, 2.7: by whatever is asked, the queue before each entry is never full
 never-full :
-    (s : Setup) (v least : ℕ) (asking : Asking) (holdback : List ℕ) (entries : List (List ℕ)) → Board s v least asking
-    → NeverFull s (λ k. boardHeard s v least asking holdback (take k entries))
-never-full s v least asking holdback entries board =
+    (s : Setup) (v least : ℕ) (asking : Asking) (holdback : List ℕ) (entries : List (List ℕ)) → Receiving s v least asking
+    → NeverFull s (λ k. receiveHeard s v least asking holdback (take k entries))
+never-full s v least asking holdback entries receiving =
     record {
-      spare = λ k. board-room s v least asking holdback (take k entries) board;
-      most = λ k. board-bound s v least asking holdback (take k entries) board;
+      spare = λ k. receive-room s v least asking holdback (take k entries) receiving;
+      most = λ k. receive-bound s v least asking holdback (take k entries) receiving;
     }
 
 taken-is : (i : Input) → Accepted i → tick i .answer .taken ≡ takenCount (heardOf i .verdicts)
@@ -37,7 +37,7 @@ repair-is :
     → tick i .answer .repair
     ≡ cond (soundTables (i .setup .n) (i .setup .epsilon) (i .setup .modulus) (i .clock) (trimmed (i .setup .epsilon) (i .tables))) 0 1
     + cond (soundHoldback (i .setup) (i .clock) (leastDue (i .setup) (i .clock) (i .tables)) (i .holdback)) 0 2
-unfolding acceptance repairOf tablesSound shelfSound
+unfolding acceptance repairOf tablesSound holdbackSound
 repair-is i a = ap (λ (o : Output). o .answer .repair) (a .accepted)
 
 delivered-is : (i : Input) → Accepted i → tick i .answer .delivered ≡ length (deliveredOf i)
@@ -57,10 +57,10 @@ demand2-any i h =
       sent = sent-is i a;
       outgoing = sent-bytes i a;
       bounded = λ k pos few. tables-next i k a pos few;
-      boundedQueue = λ k pos few. shelf-sound i k a few;
+      boundedQueue = λ k pos few. holdback-stays i k a few;
       neverFull =
           never-full (i .setup) (i .clock) (leastDue (i .setup) (i .clock) (i .tables)) (judgeQuestions (i .setup) (i .clock)) (i .holdback)
-          (batchEntries (i .batch)) (tick-board i a);
+          (batchEntries (i .batch)) (tick-receiving i a);
     }
 
 -- 02, 2.6: an observer's
@@ -92,8 +92,8 @@ demand2-observer i h =
       delivery = listen-bytes i a;
       last = last-is i a;
       bounded = λ k pos few. last-next i k a pos few;
-      boundedQueue = λ k pos few. listen-shelf i k a few;
+      boundedQueue = λ k pos few. listen-stays i k a few;
       neverFull =
           never-full (i .setup) (i .clock) (observerLeast i) (observerQuestions (i .setup) (i .clock)) (i .holdback) (batchEntries (i .batch))
-          (listen-board i a);
+          (listen-receiving i a);
     }

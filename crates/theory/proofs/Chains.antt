@@ -12,7 +12,7 @@ use Rattle.laws.specs.Lex.{lexCompare}
 use Rattle.laws.proofs.Numbers.{eq-or-ne}
 use Rattle.laws.proofs.Lists.{getElem?-lt}
 use Rattle.laws.proofs.Lex.{lex-trans}
-use Rattle.model.specs.Setup.{Setup}
+use Rattle.model.specs.Schedule.{Schedule}
 use Rattle.model.specs.Run.{Node, Done, isEvent}
 use Rattle.theory.specs.Demand3.{Leads, later, takes, on}
 use Rattle.theory.proofs.HearLoop.{some-inj}
@@ -39,9 +39,9 @@ module _ {A : Type 0} where
   below-take (suc j) (y ∷ l) (suc k) e = let h : k < j = below-take j l k e in omega arith
 
 -- the later of two accepted calls of a station
-module _ (s : Setup) (from : ℕ) (nodes : List Node) (past : List Done) (kept : AllKept s from past) (kinds : AllKinds nodes past) where
+module _ (g : Schedule) (from : ℕ) (nodes : List Node) (past : List Done) (kept : AllKept g from past) (kinds : AllKinds nodes past) where
   abbrev Less : Done → Done → Type 0
-  Less a b = lexCompare (eventKey s a) (eventKey s b) ≡ Ordering·lt
+  Less a b = lexCompare (eventKey g a) (eventKey g b) ≡ Ordering·lt
 
   -- an accepted call of a station and its position
   record Made : Type 0 where
@@ -61,14 +61,14 @@ module _ (s : Setup) (from : ℕ) (nodes : List Node) (past : List Done) (kept :
   not-before a b o h c l =
       elim (eq-or-ne (a .at) (b .at)) [
         | inl e ↦ subst (λ (d : Done). Less d c) (sym (same-made a b e)) l
-        | inr e ↦ lex-trans (eventKey s (a .done)) (eventKey s (b .done)) (eventKey s c) (station-order a b o (omega arith)) l
+        | inr e ↦ lex-trans (eventKey g (a .done)) (eventKey g (b .done)) (eventKey g c) (station-order a b o (omega arith)) l
       ]
 
   not-after : (a b : Made) → a .done .node ≡ b .done .node → a .at ≤ b .at → (c : Done) → Less c (a .done) → Less c (b .done)
   not-after a b o h c l =
       elim (eq-or-ne (a .at) (b .at)) [
         | inl e ↦ subst (Less c) (same-made a b e) l
-        | inr e ↦ lex-trans (eventKey s c) (eventKey s (a .done)) (eventKey s (b .done)) l (station-order a b o (omega arith))
+        | inr e ↦ lex-trans (eventKey g c) (eventKey g (a .done)) (eventKey g (b .done)) l (station-order a b o (omega arith))
       ]
 
   -- an accepted call of the first's station, not before it, comes before one of the second's station, not after it
@@ -103,7 +103,7 @@ module _ (s : Setup) (from : ℕ) (nodes : List Node) (past : List Done) (kept :
         out-after = p .out-after;
         into-before = q .into-before;
         less =
-            lex-trans (eventKey s (p .out .done)) (eventKey s (p .into .done)) (eventKey s (q .into .done)) (p .less)
+            lex-trans (eventKey g (p .out .done)) (eventKey g (p .into .done)) (eventKey g (q .into .done)) (p .less)
             (not-before (p .into) (q .out) (p .into-node ∙ (o ∙ q .out-node)) (omega (arith, p .into-before, q .out-after)) (q .into .done) (q .less));
       }
 

@@ -13,12 +13,14 @@ use borrow.Author.Tests.{ne-eqb}
 use Rattle.laws.proofs.Numbers.{eq-or-ne, true-or-false, clash, and-intro, and-left, and-right}
 use Rattle.laws.proofs.Lists.{getElem?-lt, getElem?-set-same, getElem?-set-other, getElem?-snoc-cases}
 use Rattle.model.specs.Setup.{Setup}
-use Rattle.model.specs.Published.{Message, Process, deliverableBy, buffered, advanced, eventOf, nextEvent, messageOf}
+use Rattle.model.specs.Published.{Message, Process, deliverableBy, buffered, advanced, eventOf, nextEvent, messageOf, messageDue}
 use Rattle.model.specs.Run.{Node, Call, Done, World, isAccepted, outputOf, doneOf, nodeAfter, act, runFrom, atStart, isEvent, sends}
 use Rattle.theory.specs.Premises.{goodStart, allFresh, largestClock, staleUntil, allowed, keeps, noneStale}
 use Rattle.theory.specs.Demand2.{Published, messagesHeard, outcomeOf, publishOn, publish, publishAll, publishedStart, Matched, Demand2Fresh}
 use Rattle.theory.specs.Demand3.{heardIn}
-use Rattle.theory.proofs.World.{act-is, after-at, after-other, nodesAfter, sends-event, event-accepted, event-kind, event-of, Good, Legal}
+use Rattle.theory.proofs.World.{act-is, after-at, after-other, nodesAfter, sends-event, event-accepted, event-kind, event-of, Good}
+use Rattle.model.specs.Schedule.{steady}
+use Rattle.theory.proofs.Plain.{PlainLegal}
 use Rattle.theory.proofs.Event.{done-clock}
 use Rattle.theory.proofs.HearLoop.{some-inj}
 use Rattle.theory.proofs.Refused.{refused-node, refused-good}
@@ -26,9 +28,8 @@ use Rattle.theory.proofs.Promises.{ends}
 use Rattle.theory.proofs.Invariant.{step-good}
 use Rattle.theory.proofs.Start.{allowed-fact}
 use Rattle.theory.proofs.Fresh.{settles-fresh, legal-fresh, none-stale-before, last-sent}
-use Rattle.theory.proofs.PublishedQueue.{messageDue}
 use Rattle.theory.proofs.PublishedRun.{Copies, Twin, Paired, LastAs, sent-as-snoc, ranked-snoc, twin-stays}
-use Rattle.theory.proofs.PublishedCall.{heardHere, none-overdue, frame-is, same-as, ranked-last, twin-moves}
+use Rattle.theory.proofs.PublishedCall.{heardHere, none-expired, frame-is, same-as, ranked-last, twin-moves}
 use Rattle.theory.proofs.PublishedStart.{paired-fresh}
 
 -- what the call sends in the published program
@@ -36,24 +37,24 @@ abbrev pub sentHere : Setup → List (Option Message) → Call → ℕ → Proce
 sentHere s sent call v p = cond (call .send) (some (messageOf (s .epsilon) v p (heardHere sent call) (call .payload))) none
 
 -- nothing that the process of a call holds is due before the call's clock
-abbrev pub NoneOverdue : Setup → Published → Done → Type 0
-NoneOverdue s u d =
+abbrev pub NoneExpired : Setup → Published → Done → Type 0
+NoneExpired s u d =
     (p : Process) → getElem? (u .processes) (d .node) ≡ some p
-    → (m : Message) → List·Memᴰ m (buffered p (messagesHeard (u .sent) (d .call .sources))) → d .clock ≤ messageDue s m
+    → (m : Message) → List·Memᴰ m (buffered p (messagesHeard (u .sent) (d .call .sources))) → d .clock ≤ messageDue (s .epsilon) (s .delta) m
 
 -- an accepted call and the published program as it stands before that
 abbrev pub Follows : Setup → Published → Done → Type 0
-Follows s u d = Matched deliverableBy s u d × (d .call .step ≡ 1 → NoneOverdue s u d)
+Follows s u d = Matched deliverableBy s u d × (d .call .step ≡ 1 → NoneExpired s u d)
 
 -- an accepted call of a station
-module _ (s : Setup) (w : World) (u : Published) (call : Call) (node : Node) (v : ℕ) (paired : Paired s w u) (legal : Legal s 0 w call node v)
+module _ (s : Setup) (w : World) (u : Published) (call : Call) (node : Node) (v : ℕ) (paired : Paired s w u) (legal : PlainLegal s 0 w call node v)
     (p : Process) (p-at : getElem? (u .processes) (call .node) ≡ some p) (twin : Twin s (w .past) (u .sent) (call .node) node p)
     (station : node .listens ≡ false) where
   here : isEvent (doneOf node call) ≡ true
   here = event-of (doneOf node call) (unfold doneOf in (legal .called .accepted)) (unfold doneOf in station)
 
   moved : doneOf node call .clock ≡ v
-  moved = done-clock s node call (legal .called)
+  moved = done-clock (legal .along .called)
 
   pub published :
       publish deliverableBy s u (doneOf node call)
@@ -137,17 +138,17 @@ module _ (s : Setup) (w : World) (u : Published) (call : Call) (node : Node) (v 
       elim (eq-or-ne (call .node) j) [
         | inl e ↦
             let a-is : a ≡ nodeAfter node (call .step) (outputOf node call) =
-            some-inj (sym at ∙ (ap (getElem? (world′ .nodes)) (sym e) ∙ getElem?-set-same (w .nodes) (call .node) (nodeAfter node (call .step) (outputOf node call)) (getElem?-lt (w .nodes) (call .node) (legal .at)))) in
+            some-inj (sym at ∙ (ap (getElem? (world′ .nodes)) (sym e) ∙ getElem?-set-same (w .nodes) (call .node) (nodeAfter node (call .step) (outputOf node call)) (getElem?-lt (w .nodes) (call .node) (legal .along .at)))) in
             subst (λ (i : ℕ). Paired-at i a) e (subst (Paired-at (call .node)) (sym a-is) own-twin)
         | inr e ↦ other-twin j a e (sym (getElem?-set-other (w .nodes) (call .node) j (nodeAfter node (call .step) (outputOf node call)) e) ∙ at) kind
       ]
 
   pub paired-accepted : Paired s (act w call) (publish deliverableBy s u (doneOf node call))
   paired-accepted =
-      subst (λ (y : World). Paired s y (publish deliverableBy s u (doneOf node call))) (sym (act-is w call node (legal .at)))
+      subst (λ (y : World). Paired s y (publish deliverableBy s u (doneOf node call))) (sym (act-is w call node (legal .along .at)))
       (subst (Paired s world′) (sym published)
       (record {
-        good = subst (Good s 0 0) (act-is w call node (legal .at)) (step-good s 0 0 w call node v (paired .good) legal (ends s 0 0 (settles-fresh s) w call node v (paired .good) legal));
+        good = subst (Good (steady s) 0 0) (act-is w call node (legal .along .at)) (step-good (steady s) (steady s) 0 0 w call node node v (paired .good) (legal .along) (ends (steady s) (steady s) 0 0 (settles-fresh (steady s)) w call node node v (paired .good) (legal .along)));
         sent-as = sent-as-snoc s (w .past) (u .sent) (doneOf node call) (sentHere s (u .sent) call v p) (paired .sent-as) last-as;
         ranked =
             ranked-snoc s (w .past) (u .sent) (doneOf node call) (sentHere s (u .sent) call v p) (paired .sent-as .same-length) (paired .ranked)
@@ -163,8 +164,8 @@ module _ (s : Setup) (w : World) (u : Published) (call : Call) (node : Node) (v 
     (p, p-at, same-as s w (u .sent) call node v p (paired .good) legal (paired .sent-as) (paired .ranked) twin station),
     λ one q q-at m t.
         let same : q ≡ p = some-inj (sym q-at ∙ p-at) in
-        subst (λ (n : ℕ). n ≤ messageDue s m) (sym moved)
-        (none-overdue s w (u .sent) call node v p (paired .good) legal (paired .sent-as) (paired .ranked) twin station one m
+        subst (λ (n : ℕ). n ≤ messageDue (s .epsilon) (s .delta) m) (sym moved)
+        (none-expired s w (u .sent) call node v p (paired .good) legal (paired .sent-as) (paired .ranked) twin station one m
         (subst (λ (x : Process). List·Memᴰ m (buffered x (heardHere (u .sent) call))) same t)),
   )
 
@@ -179,7 +180,7 @@ publish-idle s u d idle = rw idle (go (getElem? (u .processes) (d .node)))
 
 -- a call that is no event: it sends nothing, and leaves every station as it was
 module _ (s : Setup) (w : World) (u : Published) (call : Call) (node : Node) (paired : Paired s w u) (at : getElem? (w .nodes) (call .node) ≡ some node)
-    (idle : isEvent (doneOf node call) ≡ false) (good : Good s 0 0 (act w call))
+    (idle : isEvent (doneOf node call) ≡ false) (good : Good (steady s) 0 0 (act w call))
     (same : (j : ℕ) (a : Node) → getElem? (nodesAfter (w .nodes) call node) j ≡ some a → a .listens ≡ false
     → (getElem? (w .nodes) j ≡ some a) × ((k : ℕ) → heardIn j k (doneOf node call) ≡ false)) where
   none-sent : (m : Message) → _≡_ {A = Option Message} none (some m) → ⊥
@@ -190,7 +191,7 @@ module _ (s : Setup) (w : World) (u : Published) (call : Call) (node : Node) (pa
       subst (λ (y : World). Paired s y (publish deliverableBy s u (doneOf node call))) (sym (act-is w call node at))
       (subst (Paired s (record { nodes = nodesAfter (w .nodes) call node; past = w .past ++ (doneOf node call ∷ []) })) (sym (publish-idle s u (doneOf node call) idle))
       (record {
-        good = subst (Good s 0 0) (act-is w call node at) good;
+        good = subst (Good (steady s) 0 0) (act-is w call node at) good;
         sent-as =
             sent-as-snoc s (w .past) (u .sent) (doneOf node call) none (paired .sent-as)
             (record { each = λ h. absurd (clash (sends-event (doneOf node call) h) idle); only = λ m e. absurd (none-sent m e) });
@@ -212,7 +213,7 @@ paired-refused :
     (s : Setup) (w : World) (u : Published) (call : Call) (node : Node) → Paired s w u → getElem? (w .nodes) (call .node) ≡ some node
     → isAccepted (outputOf node call) ≡ false → Paired s (act w call) (publish deliverableBy s u (doneOf node call))
 paired-refused s w u call node paired at refused =
-    paired-idle s w u call node paired at (unfold isEvent doneOf in (rw refused refl)) (refused-good s 0 0 w call node (paired .good) at refused)
+    paired-idle s w u call node paired at (unfold isEvent doneOf in (rw refused refl)) (refused-good (steady s) 0 0 w call node (paired .good) at refused)
     (λ j a a-at kind. (same-node j a a-at, λ k. unfold heardIn doneOf in (rw refused refl)))
   where
     same-node : (j : ℕ) (a : Node) → getElem? (nodesAfter (w .nodes) call node) j ≡ some a → getElem? (w .nodes) j ≡ some a
@@ -226,16 +227,16 @@ paired-refused s w u call node paired at refused =
 
 -- and an observer's
 paired-observed :
-    (s : Setup) (w : World) (u : Published) (call : Call) (node : Node) (v : ℕ) → Paired s w u → Legal s 0 w call node v → node .listens ≡ true
+    (s : Setup) (w : World) (u : Published) (call : Call) (node : Node) (v : ℕ) → Paired s w u → PlainLegal s 0 w call node v → node .listens ≡ true
     → Paired s (act w call) (publish deliverableBy s u (doneOf node call))
 paired-observed s w u call node v paired legal listens =
-    paired-idle s w u call node paired (legal .at) (unfold isEvent doneOf in (rw (legal .called .accepted, listens) refl))
-    (step-good s 0 0 w call node v (paired .good) legal (ends s 0 0 (settles-fresh s) w call node v (paired .good) legal))
+    paired-idle s w u call node paired (legal .along .at) (unfold isEvent doneOf in (rw (legal .called .accepted, listens) refl))
+    (step-good (steady s) (steady s) 0 0 w call node node v (paired .good) (legal .along) (ends (steady s) (steady s) 0 0 (settles-fresh (steady s)) w call node node v (paired .good) (legal .along)))
     (λ j a a-at kind. let ne = other j a a-at kind in (sym (after-other (w .nodes) call node j ne) ∙ a-at, quiet j ne))
   where
     other : (j : ℕ) (a : Node) → getElem? (nodesAfter (w .nodes) call node) j ≡ some a → a .listens ≡ false → call .node ≡ j → ⊥
     other j a a-at kind e =
-        let a-is : nodeAfter node (call .step) (outputOf node call) ≡ a = some-inj (sym (after-at (w .nodes) call node (legal .at)) ∙ (ap (getElem? (nodesAfter (w .nodes) call node)) e ∙ a-at)) in
+        let a-is : nodeAfter node (call .step) (outputOf node call) ≡ a = some-inj (sym (after-at (w .nodes) call node (legal .along .at)) ∙ (ap (getElem? (nodesAfter (w .nodes) call node)) e ∙ a-at)) in
         clash (sym (ap (λ (x : Node). x .listens) a-is) ∙ (unfold nodeAfter in listens)) kind
 
     quiet : (j : ℕ) → (call .node ≡ j → ⊥) → (k : ℕ) → heardIn j k (doneOf node call) ≡ false
@@ -243,7 +244,7 @@ paired-observed s w u call node v paired legal listens =
 
 -- a station that makes an accepted call, and its process
 pub record Acting (s : Setup) (w : World) (u : Published) (call : Call) (node : Node) (v : ℕ) : Type 0 where
-  pub legal : Legal s 0 w call node v
+  pub legal : PlainLegal s 0 w call node v
   pub station : node .listens ≡ false
   pub process : Process
   pub at : getElem? (u .processes) (call .node) ≡ some process
@@ -263,7 +264,7 @@ one-more s x w u call paired ok fresh = go (allowed-fact s x (staleUntil s x + s
   where
     go :
         (node : Node) × (getElem? (w .nodes) (call .node) ≡ some node)
-        × ((isAccepted (outputOf node call) ≡ false) ⊎ Legal s (staleUntil s x + s .epsilon) w call node (doneOf node call .clock))
+        × ((isAccepted (outputOf node call) ≡ false) ⊎ PlainLegal s (staleUntil s x + s .epsilon) w call node (doneOf node call .clock))
         → OneMore s w u call
     go (node, at, inl refused) =
         record {
@@ -273,10 +274,16 @@ one-more s x w u call paired ok fresh = go (allowed-fact s x (staleUntil s x + s
           acting = λ made. absurd (clash (event-accepted (doneOf node call) made) (unfold doneOf in refused));
         }
     go (node, at, inr legal) =
-        by-kind (legal-fresh s (staleUntil s x + s .epsilon) w call node (doneOf node call .clock) legal (last-sent w call node at (legal .called .accepted) fresh))
+        by-kind
+        (record {
+          called = legal .called;
+          along =
+              legal-fresh (steady s) (steady s) (staleUntil s x + s .epsilon) w call node node (doneOf node call .clock) (legal .along) (inr (λ memory explained f m. refl))
+              (last-sent w call node at (legal .called .accepted) fresh);
+        })
         (true-or-false (node .listens))
       where
-        by-kind : Legal s 0 w call node (doneOf node call .clock) → (node .listens ≡ true) ⊎ (node .listens ≡ false) → OneMore s w u call
+        by-kind : PlainLegal s 0 w call node (doneOf node call .clock) → (node .listens ≡ true) ⊎ (node .listens ≡ false) → OneMore s w u call
         by-kind here (inl listens) =
             record {
               node = node;

@@ -1,38 +1,58 @@
--- What the theory knows of a due clock: how it is read, and where it lies beside the clock of its message. It is unfolded here alone, but for what is proved of
--- the published program and of engines, which have no other.
+-- What the theory knows of a due clock along a schedule: how a call reads it, and where it lies beside the clock of its message.
 -- Assumes nothing.
-use Prim.Native.Nat.{ℕ, _+_, _%_, _≤_, _<_}
+use Prim.Native.Nat.{ℕ, _+_, _*_, _%_, _≤_, _<_}
 use native.Mathlib.Omega.{arith}
-use mathlib.Core.Path.{_≡_}
+use mathlib.Core.Path.{_≡_, ap}
+use mathlib.Core.Logic.{inl, inr}
+use Rattle.laws.proofs.Numbers.{lt-or-ge}
 use Rattle.model.specs.Setup.{Setup}
-use Rattle.model.specs.Timestamp.{sum}
 use Rattle.model.specs.Frame.{Frame}
-use Rattle.model.specs.Order.{readingOf, due, dueNear}
-use Rattle.lemmas.proofs.Bounds.{Limits}
+use Rattle.model.specs.Schedule.{Schedule, steady, widening, limitsAt, modulusOf, dueAlong}
+use Rattle.model.specs.Wider.{widerReading}
+use Rattle.lemmas.proofs.Schedules.{Good, DueBy, old, new, due-by, limits-good, limits-modulus, limits-grow, due-window}
+use Rattle.lemmas.proofs.Agreeing.{Agrees, due-agrees}
+use Rattle.lemmas.proofs.Positions.{placeAt, Seen, reads}
 
--- of a frame whose reading near v is its true clock R, the due clock reads so too
-pub due-reads : (s : Setup) (v R : ℕ) (f : Frame) → readingOf s (v % s .modulus) f + v ≡ s .modulus + R → dueNear s (v % s .modulus) f + v ≡ s .modulus + due s R (f .stamp .c)
-unfolding dueNear due sum
-due-reads s v R f e = omega arith
+-- of a frame whose place at v is that of its true clock R, and whose sum lies in the window of v, the call reads the due clock so too
+pub due-reads :
+    (g l : Schedule) (v : ℕ) → Agrees g v l → (R : ℕ) (f : Frame) → placeAt g v f ≡ modulusOf g + R → R + f .stamp .c < v + limitsAt g v .epsilon
+    → v < R + f .stamp .c + limitsAt g v .delta + 2 * limitsAt g v .epsilon
+    → dueAlong l (widerReading l (v % modulusOf l) f + f .stamp .c) + v ≡ modulusOf l + dueAlong g (R + f .stamp .c)
+due-reads g l v agrees R f e hi lo =
+    due-agrees g v l agrees (widerReading l (v % modulusOf l) f + f .stamp .c) (R + f .stamp .c) (omega (arith, reads g l v agrees f, e, agrees .modulus)) hi lo
 
--- and where it is read at two clocks, so is the due clock
-pub due-moves :
-    (s : Setup) (v u : ℕ) (f : Frame) → readingOf s (v % s .modulus) f + v ≡ readingOf s (u % s .modulus) f + u
-    → dueNear s (v % s .modulus) f + v ≡ dueNear s (u % s .modulus) f + u
-unfolding dueNear due sum
-due-moves s v u f e = omega arith
+-- so of a frame in the window of the call
+pub due-seen :
+    (g l : Schedule) (v : ℕ) → (agrees : Agrees g v l) → (R : ℕ) (f : Frame) → placeAt g v f ≡ modulusOf g + R → Seen g l (v % modulusOf l) f
+    → dueAlong l (widerReading l (v % modulusOf l) f + f .stamp .c) + v ≡ modulusOf l + dueAlong g (R + f .stamp .c)
+due-seen g l v agrees R f stands seen =
+    let here = reads g l v agrees f in
+    let epsilon = ap (λ (s : Setup). s .epsilon) (agrees .own) in
+    let delta = ap (λ (s : Setup). s .delta) (agrees .own) in
+    due-reads g l v agrees R f stands (omega (arith, seen .hi, stands, here, agrees .modulus, epsilon)) (omega (arith, seen .lo, stands, here, agrees .modulus, epsilon, delta))
 
--- what is heard no later than δ + ε past its sending is heard no later than it is due
-pub due-heard : (s : Setup) (v R c : ℕ) → v ≤ R + s .delta + s .epsilon → v ≤ due s R c
-unfolding due sum
-due-heard s v R c h = omega arith
+-- a sum is due past itself
+pub due-after : (g : Schedule) → Good g → (x : ℕ) → x < dueAlong g x
+due-after (steady s) good x = omega (arith, good .epsilon-pos)
+due-after (widening before after change) good x = go (due-by before after change x)
+  where
+    go : DueBy before after change x (dueAlong (widening before after change) x) → x < dueAlong (widening before after change) x
+    go (old p q) = omega (arith, q, good .old .epsilon-pos)
+    go (new p q) = omega (arith, q, good .new .epsilon-pos)
 
--- what is not yet due at the clock before a call for v can be read near v
-pub due-window : (s : Setup) (last v R c : ℕ) → Limits s → c < s .epsilon → last < due s R c → v ≤ last + s .epsilon → v + s .epsilon ≤ R + s .modulus
-unfolding due sum
-due-window s last v R c limits close before step = omega (arith, limits .modulus-least)
+module _ (g : Schedule) (good : Good g) (last v : ℕ) (before : last ≤ v) (step : v ≤ last + limitsAt g v .epsilon) where
+  -- what is not yet due at the clock before a call for v has its sum in the window of v
+  due-near : (x : ℕ) → last < dueAlong g x → v < x + limitsAt g v .delta + 2 * limitsAt g v .epsilon
+  due-near x un =
+      let h : last + 1 ≤ x + limitsAt g v .delta + limitsAt g v .epsilon =
+      due-window g good v (last + 1) x (omega arith) (omega arith) in
+      omega arith
 
--- a message is due past its own clock
-pub due-after : (s : Setup) (R c : ℕ) → Limits s → R < due s R c
-unfolding due sum
-due-after s R c limits = omega (arith, limits .epsilon-pos)
+  -- and can be read near v
+  pub due-window-reads : (R c : ℕ) → c < limitsAt g R .epsilon → last < dueAlong g (R + c) → v + limitsAt g v .epsilon ≤ R + modulusOf g
+  due-window-reads R c close un =
+      let large : 6 * limitsAt g v .epsilon + limitsAt g v .delta + 1 ≤ modulusOf g = omega (arith, limits-good g good v .modulus-least, limits-modulus g good v) in
+      elim (lt-or-ge R v) [
+        | inl h ↦ omega (arith, due-near (R + c) un, limits-grow g good R v (omega arith) .0, large)
+        | inr h ↦ omega (arith, large)
+      ]

@@ -12,20 +12,20 @@ use borrow.Author.Tests.{eq-eqb, eqb-true}
 use Rattle.laws.specs.Lists.{any, foldLeft}
 use Rattle.laws.proofs.Lists.{any-append, any-mem, mem-getElem?}
 use Rattle.laws.proofs.Numbers.{clash}
-use Rattle.model.specs.Setup.{Setup}
 use Rattle.model.specs.Timestamp.{Timestamp}
-use Rattle.model.specs.Frame.{decode}
 use Rattle.model.specs.Batch.{batchEntries}
 use Rattle.model.specs.Question.{firstNo}
-use Rattle.model.specs.Judge.{Asking, Heard, hear, hearOne, judgeQuestions, absorbBy, absorbAll, absorbEach}
-use Rattle.model.specs.Tick.{openedQueue, heardOf, heardStamp, openingStamp}
+use Rattle.model.specs.Judge.{Asking, Heard, absorbEach}
+use Rattle.model.specs.Schedule.{Schedule, modulusOf}
+use Rattle.model.specs.Wider.{widerDecode, widerQuestions, widerOpeningQueue, widerOpening, widerHearOne, widerHear, widerAbsorbBy, widerAbsorbAll, widerOpeningStamp, widerOpened, widerHeardStamp}
 use Rattle.model.specs.Run.{Node, Source, sentBy, stale, Call, Done, inputOf, isAccepted, outputOf, doneOf}
 use Rattle.theory.specs.Demand3.{heardIn, isFrom}
 use Rattle.lemmas.proofs.Hearing.{numbersBy}
-use Rattle.lemmas.proofs.Board.{numbersOf, hear-verdicts, board-verdict}
-use Rattle.theory.proofs.Event.{setup-at, clock-at, opens-stamp}
-use Rattle.theory.proofs.Boards.{heardOn, verdicts-here}
-use Rattle.theory.proofs.World.{Due-call, Ticks, heardAt, askingBy, askingAt, leastAt, restAt}
+use Rattle.lemmas.proofs.Schedules.{Good as GoodSchedule}
+use Rattle.lemmas.proofs.WiderReceiving.{verdict-along}
+use Rattle.lemmas.proofs.WiderTick.{heard-numbers-along}
+use Rattle.theory.proofs.Received.{heardOn, verdicts-here}
+use Rattle.theory.proofs.World.{Called, heardAt, askingBy, leastBy, askingAt, leastAt, restAt}
 
 -- general
 or-assoc : (a b c : Bool) → (a || (b || (c || false))) ≡ ((a || b) || c)
@@ -71,89 +71,92 @@ heard-end past node call accepted e all k =
     ) refl
 
 -- one entry more
-hear-snoc : (s : Setup) (v : ℕ) (asking : Asking) (h : Heard) (xs : List (List ℕ)) (b : List ℕ) → hear s v asking h (xs ++ (b ∷ [])) ≡ hearOne s v asking (hear s v asking h xs) b
-unfolding hear foldLeft
-hear-snoc s v asking h [] b = refl
-hear-snoc s v asking h (x ∷ xs) b = hear-snoc s v asking (hearOne s v asking h x) xs b
+hear-snoc : (l : Schedule) (u : ℕ) (asking : Asking) (h : Heard) (xs : List (List ℕ)) (b : List ℕ) → widerHear l u asking h (xs ++ (b ∷ [])) ≡ widerHearOne l u asking (widerHear l u asking h xs) b
+unfolding widerHear foldLeft
+hear-snoc l u asking h [] b = refl
+hear-snoc l u asking h (x ∷ xs) b = hear-snoc l u asking (widerHearOne l u asking h x) xs b
+
+-- the verdicts' numbers
+abbrev pub numbersAlong : Schedule → ℕ → Asking → Heard → List (List ℕ) → List ℕ
+numbersAlong l u asking h entries = numbersBy asking (widerHearOne l u asking) h entries
 
 absorb-snoc :
-    (s : Setup) (v : ℕ) (asking : Asking) (h : Heard) (t : Timestamp) (xs : List (List ℕ)) (b : List ℕ)
-    → absorbAll s v t (xs ++ (b ∷ [])) (numbersOf s v asking h (xs ++ (b ∷ [])))
-    ≡ absorbBy (firstNo (asking (hear s v asking h xs .queue) b)) s v (decode (s .epsilon) b) (absorbAll s v t xs (numbersOf s v asking h xs))
-unfolding hear foldLeft absorbAll absorbEach numbersBy
-absorb-snoc s v asking h t [] b = refl
-absorb-snoc s v asking h t (x ∷ xs) b =
-    absorb-snoc s v asking (hearOne s v asking h x) (absorbBy (firstNo (asking (h .queue) x)) s v (decode (s .epsilon) x) t) xs b
+    (l : Schedule) (u : ℕ) (asking : Asking) (h : Heard) (t : Timestamp) (xs : List (List ℕ)) (b : List ℕ)
+    → widerAbsorbAll l u t (xs ++ (b ∷ [])) (numbersAlong l u asking h (xs ++ (b ∷ [])))
+    ≡ widerAbsorbBy l (firstNo (asking (widerHear l u asking h xs .queue) b)) u (widerDecode l b) (widerAbsorbAll l u t xs (numbersAlong l u asking h xs))
+unfolding widerHear foldLeft widerAbsorbAll absorbEach numbersBy
+absorb-snoc l u asking h t [] b = refl
+absorb-snoc l u asking h t (x ∷ xs) b =
+    absorb-snoc l u asking (widerHearOne l u asking h x) (widerAbsorbBy l (firstNo (asking (h .queue) x)) u (widerDecode l x) t) xs b
 
--- a node's call for v
-module _ (s : Setup) (v : ℕ) (node : Node) (call : Call) where
+-- a node's call for v, by its schedule
+module _ (l : Schedule) (v : ℕ) (found : Node) (call : Call) where
   abbrev entries : List (List ℕ)
   entries = batchEntries (call .batch)
 
+  abbrev u : ℕ
+  u = v % modulusOf l
+
   -- what hearing starts from, on the queue
   abbrev pub startHere : Heard
-  startHere = record { queue = restAt s v node; verdicts = [] }
+  startHere = record { queue = restAt l v found; verdicts = [] }
 
   -- what hearing has made of the queue before entry e
   unfoldable pub stateAt : ℕ → Heard
-  stateAt e = hear s (v % s .modulus) (askingAt s v node) startHere (take e entries)
+  stateAt e = widerHear l u (askingAt l v found) startHere (take e entries)
 
   -- and of the stamp
-  unfoldable pub stampAt : ℕ → Timestamp
-  stampAt e =
-      absorbAll s (v % s .modulus) (openingStamp s (v % s .modulus) (node .tables)) (take e entries)
-      (numbersOf s (v % s .modulus) (askingAt s v node) startHere (take e entries))
+  abbrev stampOf : List (List ℕ) → Timestamp
+  stampOf xs = widerAbsorbAll l u (widerOpeningStamp l u (found .tables)) xs (numbersAlong l u (askingAt l v found) startHere xs)
 
-  pub state-suc : (e : ℕ) → e < length entries → stateAt (suc e) ≡ hearOne s (v % s .modulus) (askingAt s v node) (stateAt e) (getD entries e [])
+  unfoldable pub stampAt : ℕ → Timestamp
+  stampAt e = stampOf (take e entries)
+
+  pub state-suc : (e : ℕ) → e < length entries → stateAt (suc e) ≡ widerHearOne l u (askingAt l v found) (stateAt e) (getD entries e [])
   unfolding stateAt
   state-suc e h =
-      ap (hear s (v % s .modulus) (askingAt s v node) startHere) (take-suc entries e [] h)
-      ∙ hear-snoc s (v % s .modulus) (askingAt s v node) startHere (take e entries) (getD entries e [])
+      ap (widerHear l u (askingAt l v found) startHere) (take-suc entries e [] h)
+      ∙ hear-snoc l u (askingAt l v found) startHere (take e entries) (getD entries e [])
 
   pub stamp-suc :
       (e : ℕ) → e < length entries
       → stampAt (suc e)
-      ≡ absorbBy (firstNo (askingAt s v node (stateAt e .queue) (getD entries e []))) s (v % s .modulus) (decode (s .epsilon) (getD entries e [])) (stampAt e)
+      ≡ widerAbsorbBy l (firstNo (askingAt l v found (stateAt e .queue) (getD entries e []))) u (widerDecode l (getD entries e [])) (stampAt e)
   unfolding stateAt stampAt
   stamp-suc e h =
-      ap (λ (l : List (List ℕ)). absorbAll s (v % s .modulus) (openingStamp s (v % s .modulus) (node .tables)) l (numbersOf s (v % s .modulus) (askingAt s v node) startHere l)) (take-suc entries e [] h)
-      ∙ absorb-snoc s (v % s .modulus) (askingAt s v node) startHere (openingStamp s (v % s .modulus) (node .tables)) (take e entries) (getD entries e [])
+      ap stampOf (take-suc entries e [] h)
+      ∙ absorb-snoc l u (askingAt l v found) startHere (widerOpeningStamp l u (found .tables)) (take e entries) (getD entries e [])
 
   -- after the last entry
-  pub state-end : heardOn s v node call ≡ stateAt (length entries)
+  pub state-end : heardOn l v found call ≡ stateAt (length entries)
   unfolding stateAt
-  state-end = ap (hear s (v % s .modulus) (askingAt s v node) startHere) (sym (take-all (length entries) entries (omega arith)))
+  state-end = ap (widerHear l u (askingAt l v found) startHere) (sym (take-all (length entries) entries (omega arith)))
 
   -- the verdict of an entry, by the state before it
   pub state-verdict :
-      Due-call s node call v → (e : ℕ) (bytes : List ℕ) → getElem? entries e ≡ some bytes
-      → getD (outputOf node call .verdicts) e 0 ≡ firstNo (askingAt s v node (stateAt e .queue) bytes)
+      (g : Schedule) (node : Node) → Called g l node found call v → (e : ℕ) (bytes : List ℕ) → getElem? entries e ≡ some bytes
+      → getD (outputOf node call .verdicts) e 0 ≡ firstNo (askingAt l v found (stateAt e .queue) bytes)
   unfolding stateAt
-  state-verdict c e bytes at =
-      ap (λ (l : List ℕ). getD l e 0) (verdicts-here s node call c)
-      ∙ board-verdict s (v % s .modulus) (leastAt s v node) (askingAt s v node) (node .holdback) entries (call .verdicts) e bytes at
+  state-verdict g node c e bytes at =
+      ap (λ (x : List ℕ). getD x e 0) (verdicts-here g l node found call c)
+      ∙ verdict-along l u (leastAt l v found) (askingAt l v found) (found .holdback) entries (call .verdicts) e bytes at
 
   -- a station's
-  module _ (c : Ticks s node call v) where
-    pub asking-is : askingAt s v node ≡ judgeQuestions s (v % s .modulus)
-    asking-is = ap (λ (b : Bool). askingBy b s (v % s .modulus)) (c .station)
+  module _ (good : GoodSchedule l) (station : found .listens ≡ false) where
+    pub asking-is : askingAt l v found ≡ widerQuestions l u
+    asking-is = ap (λ (b : Bool). askingBy b l u) station
 
-    pub heard-all : heardOf (inputOf node call) ≡ hear s (v % s .modulus) (judgeQuestions s (v % s .modulus)) startHere entries
-    unfolding heardOf openedQueue inputOf
-    heard-all = rw (c .due .setup-is, c .due .clock-is, c .station) refl
+    -- what hearing makes of the stamp, by the clock, and by who hears
+    abbrev stampBy : Bool → ℕ → Timestamp
+    stampBy b x =
+        widerAbsorbAll l x (widerOpeningStamp l x (found .tables)) entries
+        (numbersAlong l x (askingBy b l x) (widerOpening l x (widerOpeningQueue l x (leastBy b l x (found .tables)) (found .holdback))) entries)
 
-    pub absorbed-all :
-        heardStamp (inputOf node call)
-        ≡ absorbAll s (v % s .modulus) (openingStamp s (v % s .modulus) (node .tables)) entries (numbersOf s (v % s .modulus) (judgeQuestions s (v % s .modulus)) startHere entries)
-    unfolding heardStamp
-    absorbed-all =
-        rw (heard-all, hear-verdicts s (v % s .modulus) (judgeQuestions s (v % s .modulus)) startHere entries, opens-stamp s node call (c .due), setup-at s node call (c .due), clock-at s node call (c .due))
-        (unfold inputOf in refl)
-
-    pub stamp-end : heardStamp (inputOf node call) ≡ stampAt (length entries)
-    unfolding stampAt
-    stamp-end =
-        absorbed-all
-        ∙ (ap (λ (asking : Asking). absorbAll s (v % s .modulus) (openingStamp s (v % s .modulus) (node .tables)) entries (numbersOf s (v % s .modulus) asking startHere entries)) (sym asking-is)
-        ∙ ap (λ (l : List (List ℕ)). absorbAll s (v % s .modulus) (openingStamp s (v % s .modulus) (node .tables)) l (numbersOf s (v % s .modulus) (askingAt s v node) startHere l))
-        (sym (take-all (length entries) entries (omega arith))))
+    pub stamp-end : call .clock ≡ u → widerHeardStamp l (inputOf found call) ≡ stampAt (length entries)
+    stamp-end clock-is =
+        unfold widerHeardStamp widerOpened inputOf in (
+        ap (widerAbsorbAll l (call .clock) (widerOpeningStamp l (call .clock) (found .tables)) entries) (heard-numbers-along l good (inputOf found call))
+        )
+        ∙ (ap (stampBy false) clock-is
+        ∙ (ap (λ (b : Bool). stampBy b u) (sym station)
+        ∙ unfold stampAt in (ap stampOf (sym (take-all (length entries) entries (omega arith))))))

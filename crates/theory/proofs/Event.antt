@@ -1,217 +1,224 @@
--- One accepted call of a station, by itself: its stamp and its frame.
+-- One accepted call of a station, by itself: its stamp and its frame, by its schedule and by the yard's.
 -- Assumes nothing.
 use Prim.Native.Nat.{ℕ, _+_, _*_, _%_, _≤_, _<_}
 use native.Mathlib.Omega.{arith}
 use native.Mathlib.Nat.{mod-lt}
 use mathlib.Core.Path.{_≡_, refl, sym, ap, ap₂, subst, _∙_}
-use mathlib.Core.Bool.{true}
+use mathlib.Core.Bool.{Bool, true, false}
 use mathlib.Core.List.{List}
 use lib.ListN.{length, take}
-use borrow.Author.Tests.{eqb-true}
 use Rattle.laws.specs.Lists.{overlay}
-use Rattle.laws.proofs.Numbers.{and-right}
+use Rattle.laws.proofs.Numbers.{clash, and-right}
+use Rattle.laws.proofs.Lists.{take-overlay}
 use Rattle.model.specs.Setup.{Setup, width}
 use Rattle.model.specs.Timestamp.{Timestamp, trimmed, widened, countOwn}
-use Rattle.model.specs.Frame.{encode, decode}
+use Rattle.model.specs.Frame.{encode}
 use Rattle.model.specs.Order.{readingOf}
 use Rattle.model.specs.Codec.{frameOf, writeBy}
-use Rattle.model.specs.Tick.{Output, openingStamp, heardStamp, newStamp, sentBytes, tick}
-use Rattle.model.specs.Run.{Node, Call, Done, inputOf, isAccepted, outputOf, doneOf, nodeAfter, movedClock, isEvent, sends, messageBytes, messageFrame}
+use Rattle.model.specs.Tick.{Input, Output}
+use Rattle.model.specs.Schedule.{Schedule, limitsAt, modulusOf, ownLimits}
+use Rattle.model.specs.Wider.{widerDecode, widerHeardStamp, widerNewStamp, widerSent, widerAcceptance}
+use Rattle.model.specs.Run.{Node, Call, Done, inputOf, outputOf, doneOf, nodeAfter, movedClock, isEvent, sends, messageBytes, messageFrame}
 use Rattle.theory.specs.Demand3.{newTimestamp, written}
 use Rattle.lemmas.proofs.Bounds.{Limits, Sound, FrameOk}
 use Rattle.lemmas.proofs.Questions.{setup-to}
 use Rattle.lemmas.proofs.Counts.{Left, trimmed-widened, trimmed-same}
-use Rattle.lemmas.proofs.RoundTrip.{decode-encode, length-encode}
+use Rattle.lemmas.proofs.RoundTrip.{length-encode}
 use Rattle.lemmas.proofs.Queue.{reading-true}
+use Rattle.lemmas.proofs.Schedules.{Good as GoodSchedule, limits-good, limits-modulus}
+use Rattle.lemmas.proofs.WideFrames.{HasWidth, has-width, wide-decode}
+use Rattle.lemmas.proofs.WiderTick.{new-left-along}
+use Rattle.lemmas.proofs.Agreeing.{limits-half}
+use Rattle.lemmas.proofs.Positions.{placeAt}
 use Rattle.theory.proofs.Readers.{written-to}
-use Rattle.lemmas.proofs.OneTick.{Accepted, accepted-call, tables-are, sent-is, outgoing-is, new-left, new-sound, own-next, sent-bytes}
-use Rattle.theory.proofs.World.{eventFrame, Tables, CallEvent, Due-call, Ticks}
+use Rattle.theory.proofs.Outputs.{Ticked, Shows, shows, found-listens}
+use Rattle.theory.proofs.World.{eventFrame, Tables, CallEvent, Called}
 
--- a station's call is a tick
-pub output-tick : (s : Setup) (node : Node) (call : Call) {v : ℕ} → Ticks s node call v → outputOf node call ≡ tick (inputOf node call)
-unfolding outputOf
-output-tick s node call c = rw (c .station) refl
-
-pub accepted-input : (s : Setup) (node : Node) (call : Call) {v : ℕ} → Ticks s node call v → Accepted (inputOf node call)
-unfolding isAccepted
-accepted-input s node call c =
-    accepted-call (inputOf node call) (eqb-true _ _ (subst (λ (o : Output). isAccepted o ≡ true) (output-tick s node call c) (c .due .accepted)))
-
-pub setup-at : (s : Setup) (node : Node) (call : Call) {v : ℕ} → Due-call s node call v → inputOf node call .setup ≡ s
-unfolding inputOf
-setup-at s node call c = c .setup-is
-
-pub clock-at : (s : Setup) (node : Node) (call : Call) {v : ℕ} → Due-call s node call v → inputOf node call .clock ≡ v % s .modulus
-unfolding inputOf
-clock-at s node call c = c .clock-is
-
-pub done-clock : (s : Setup) (node : Node) (call : Call) {v : ℕ} → Due-call s node call v → doneOf node call .clock ≡ v
+-- the node's clock is then v
+pub done-clock : {g l : Schedule} {node found : Node} {call : Call} {v : ℕ} → Called g l node found call v → doneOf node call .clock ≡ v
 unfolding doneOf movedClock
-done-clock s node call c = rw (c .accepted) (sym (c .turn))
+done-clock c = rw (c .accepted) (sym (c .turn))
 
-pub after-clock : (s : Setup) (node : Node) (call : Call) {v : ℕ} → Due-call s node call v → nodeAfter node (call .step) (outputOf node call) .clock ≡ v
+pub after-clock : {g l : Schedule} {node found : Node} {call : Call} {v : ℕ} → Called g l node found call v → nodeAfter node (call .step) (outputOf node call) .clock ≡ v
 unfolding nodeAfter movedClock
-after-clock s node call c = rw (c .accepted) (sym (c .turn))
-
--- the interface's facts, with the one setup
-pub limits-at : (s : Setup) (node : Node) (call : Call) {v : ℕ} → Ticks s node call v → Limits s
-unfolding inputOf
-limits-at s node call c = subst (λ (t : Setup). Limits t) (c .due .setup-is) (accepted-input s node call c .limits)
-
-pub sound-at : (s : Setup) (node : Node) (call : Call) {v : ℕ} → Ticks s node call v → Sound (s .n) (s .epsilon) (newStamp (inputOf node call))
-sound-at s node call c =
-    subst (λ (t : Setup). Sound (t .n) (t .epsilon) (newStamp (inputOf node call))) (setup-at s node call (c .due))
-    (new-sound (inputOf node call) (accepted-input s node call c))
-
--- the answer's tables
-pub tables-made : (s : Setup) (node : Node) (call : Call) {v : ℕ} → Ticks s node call v → outputOf node call .answer .tables ≡ widened (newStamp (inputOf node call))
-tables-made s node call c =
-    ap (λ (o : Output). o .answer .tables) (output-tick s node call c) ∙ tables-are (inputOf node call) (accepted-input s node call c)
-
-stamp-r : (s : Setup) (node : Node) (call : Call) {v : ℕ} → Ticks s node call v → newStamp (inputOf node call) .r ≡ v % s .modulus
-unfolding newStamp countOwn
-stamp-r s node call c = clock-at s node call (c .due)
-
-tables-stamp : (s : Setup) (node : Node) (call : Call) {v : ℕ} → Ticks s node call v → newTimestamp s (doneOf node call) ≡ widened (newStamp (inputOf node call))
-unfolding newTimestamp doneOf widened
-tables-stamp s node call {v} c =
-    let a : outputOf node call .answer .tables ≡ widened (newStamp (inputOf node call)) = tables-made s node call c in
-    let b : newStamp (inputOf node call) .r ≡ v % s .modulus = stamp-r s node call c in
-    let e : movedClock (outputOf node call) (call .step) (node .clock) ≡ v = done-clock s node call (c .due) in
-    rw (e, ← b, a) refl
-
-pub event-stamp : (s : Setup) (node : Node) (call : Call) {v : ℕ} → Ticks s node call v → eventFrame s (doneOf node call) .stamp ≡ newStamp (inputOf node call)
-unfolding eventFrame frameOf
-event-stamp s node call c =
-    ap (trimmed (s .epsilon)) (tables-stamp s node call c) ∙ trimmed-widened (s .epsilon) (newStamp (inputOf node call)) (limits-at s node call c .epsilon-most) (sound-at s node call c .wide)
-
--- it is what hearing has come to, with the own event counted
-pub event-own : (s : Setup) (node : Node) (call : Call) {v : ℕ} → Ticks s node call v → eventFrame s (doneOf node call) .stamp ≡ countOwn (s .epsilon) (v % s .modulus) (heardStamp (inputOf node call))
-unfolding newStamp
-event-own s node call c =
-    event-stamp s node call c ∙ ap₂ (λ (t : Setup) (u : ℕ). countOwn (t .epsilon) u (heardStamp (inputOf node call))) (setup-at s node call (c .due)) (clock-at s node call (c .due))
-
--- the frame, with its stamp named
-event-frame :
-    (s : Setup) (node : Node) (call : Call) {v : ℕ} → Ticks s node call v
-    → eventFrame s (doneOf node call) ≡ frameOf (s .epsilon) (node .own) (newStamp (inputOf node call)) (call .payload)
-unfolding frameOf eventFrame doneOf
-event-frame s node call c =
-    ap (λ (t : Timestamp). record { station = node .own; stamp = t; payload = call .payload })
-    (event-stamp s node call c ∙ sym (trimmed-same (s .epsilon) (newStamp (inputOf node call)) (sound-at s node call c .wide)))
-
-event-sound : (s : Setup) (node : Node) (call : Call) {v : ℕ} → Ticks s node call v → Sound (s .n) (s .epsilon) (eventFrame s (doneOf node call) .stamp)
-event-sound s node call c = subst (λ (t : Timestamp). Sound (s .n) (s .epsilon) t) (sym (event-stamp s node call c)) (sound-at s node call c)
-
-sent-frame : (s : Setup) (node : Node) (call : Call) {v : ℕ} → Ticks s node call v → call .send ≡ true → sentBytes (inputOf node call) ≡ encode (eventFrame s (doneOf node call))
-unfolding sentBytes inputOf
-sent-frame s node call c e = rw (event-frame s node call c, c .due .setup-is, c .due .own-is (c .station), e) refl
+after-clock c = rw (c .accepted) (sym (c .turn))
 
 sends-send : (node : Node) (call : Call) → sends (doneOf node call) ≡ true → call .send ≡ true
 unfolding sends doneOf
 sends-send node call e = and-right (isEvent (doneOf node call)) (call .send) e
 
-event-bytes : (s : Setup) (node : Node) (call : Call) {v : ℕ} → Ticks s node call v → sends (doneOf node call) ≡ true → messageBytes (doneOf node call) ≡ encode (eventFrame s (doneOf node call))
-unfolding messageBytes doneOf
-event-bytes s node call c e =
-    ap (λ (o : Output). take (o .answer .sent) (o .outgoing)) (output-tick s node call c)
-    ∙ (sent-bytes (inputOf node call) (accepted-input s node call c)
-    ∙ sent-frame s node call c (sends-send node call e))
+-- what a tick sends
+sent-by : (l : Schedule) (i : Input) → i .send ≡ true → widerSent l i ≡ encode (frameOf (ownLimits l .epsilon) (i .own) (widerNewStamp l i) (i .payload))
+unfolding widerSent
+sent-by l i e = rw e refl
 
-event-message : (s : Setup) (node : Node) (call : Call) {v : ℕ} → Ticks s node call v → sends (doneOf node call) ≡ true → messageFrame (doneOf node call) ≡ eventFrame s (doneOf node call)
-unfolding messageFrame doneOf
-event-message s node call c e =
-    ap (λ (t : Setup). decode (t .epsilon) (messageBytes (doneOf node call))) (c .due .setup-is)
-    ∙ (ap (decode (s .epsilon)) (event-bytes s node call c e) ∙ decode-encode (s .epsilon) (eventFrame s (doneOf node call)) (event-sound s node call c .wide))
+module _ (g l : Schedule) (node found : Node) (call : Call) {v : ℕ} (good : GoodSchedule g) (c : Called g l node found call v) (station : node .listens ≡ false) where
+  -- a station's call is a tick
+  pub ticks-at : Ticked l (inputOf found call) (outputOf node call)
+  ticks-at = go (found .listens) (found-listens call node found (c .found-is) ∙ station) (shows l node found call (c .along-is) (c .found-is) (c .accepted))
+    where
+      go : (b : Bool) → b ≡ false → Shows l found call b (outputOf node call) → Ticked l (inputOf found call) (outputOf node call)
+      go true e t = absurd (clash refl e)
+      go false e t = t
 
-payload-short-at : (s : Setup) (node : Node) (call : Call) {v : ℕ} → Ticks s node call v → length (call .payload) ≤ 32
-unfolding inputOf
-payload-short-at s node call c = accepted-input s node call c .payload-short
+  limits-own : Limits (ownLimits l)
+  limits-own = limits-good l (ticks-at .good) (modulusOf l)
 
-outgoing-room-at : (s : Setup) (node : Node) (call : Call) {v : ℕ} → Ticks s node call v → 39 + 2 * s .epsilon ≤ length (call .outgoing)
-unfolding inputOf
-outgoing-room-at s node call c =
-    subst (λ (t : Setup). 39 + 2 * t .epsilon ≤ length (call .outgoing)) (c .due .setup-is) (accepted-input s node call c .outgoing-room)
+  -- the limits of the call's clock are its own
+  at-own : limitsAt g (doneOf node call .clock) ≡ ownLimits l
+  at-own = ap (limitsAt g) (done-clock c) ∙ sym (c .agrees .own)
 
-pub own-below-at : (s : Setup) (node : Node) (call : Call) {v : ℕ} → Ticks s node call v → node .own < s .n
-unfolding inputOf
-own-below-at s node call c =
-    subst (λ (o : ℕ). o < s .n) (c .due .own-is (c .station))
-    (subst (λ (t : Setup). call .own < t .n) (c .due .setup-is) (accepted-input s node call c .own-below))
+  after-own : limitsAt g (nodeAfter node (call .step) (outputOf node call) .clock) ≡ ownLimits l
+  after-own = ap (limitsAt g) (after-clock c) ∙ sym (c .agrees .own)
 
-event-ok : (s : Setup) (node : Node) (call : Call) {v : ℕ} → Ticks s node call v → FrameOk s (eventFrame s (doneOf node call))
-unfolding eventFrame frameOf trimmed newTimestamp doneOf
-event-ok s node call c =
-    let l = limits-at s node call c in
-    let pos : 0 < s .modulus = omega (arith, l .modulus-least) in
-    record {
-      station-below = own-below-at s node call c;
-      r-below = mod-lt (doneOf node call .clock) pos;
-      sound = event-sound s node call c;
-      short = payload-short-at s node call c;
-    }
+  abbrev stamp : Timestamp
+  stamp = widerNewStamp l (inputOf found call)
 
--- how its stamp opens
-pub opens-stamp : (s : Setup) (node : Node) (call : Call) {v : ℕ} → Due-call s node call v → openingStamp (inputOf node call .setup) (inputOf node call .clock) (inputOf node call .tables) ≡ openingStamp s (v % s .modulus) (node .tables)
-unfolding inputOf
-opens-stamp s node call c = rw (c .setup-is, c .clock-is) refl
+  stamp-left : Left (ownLimits l .n) (ownLimits l .epsilon) stamp
+  stamp-left = new-left-along l (ticks-at .good) (inputOf found call)
 
--- the tables that it leaves
-pub leaves-tables : (s : Setup) (node : Node) (call : Call) {v : ℕ} → Ticks s node call v → trimmed (s .epsilon) (nodeAfter node (call .step) (outputOf node call) .tables) ≡ newStamp (inputOf node call)
-unfolding nodeAfter
-leaves-tables s node call c =
-    ap (λ (o : Output). trimmed (s .epsilon) (o .answer .tables)) (output-tick s node call c)
-    ∙ (ap (λ (t : Setup). trimmed (t .epsilon) (tick (inputOf node call) .answer .tables)) (sym (setup-at s node call (c .due)))
-    ∙ own-next (inputOf node call) (accepted-input s node call c))
+  stamp-r : stamp .r ≡ v % modulusOf l
+  unfolding widerNewStamp countOwn inputOf
+  stamp-r = c .clock-is
 
-pub tables-left : (s : Setup) (node : Node) (call : Call) {v : ℕ} → Ticks s node call v → Tables s (nodeAfter node (call .step) (outputOf node call))
-tables-left s node call c =
-    rw (leaves-tables s node call c)
-    (subst (λ (t : Setup). Left (t .n) (t .epsilon) (newStamp (inputOf node call))) (setup-at s node call (c .due))
-    (new-left (inputOf node call) (accepted-input s node call c)))
+  -- the answer's tables
+  tables-made : outputOf node call .answer .tables ≡ widened stamp
+  unfolding widerAcceptance
+  tables-made = ap (λ (o : Output). o .answer .tables) (ticks-at .is)
 
-written-is :
-    (s : Setup) (node : Node) (call : Call) {v : ℕ} → Ticks s node call v
-    → written s (doneOf node call) ≡ writeBy 0 (eventFrame s (doneOf node call)) (call .outgoing)
-unfolding written eventFrame doneOf width
-written-is s node call c =
-    written-to s (node .own) (eventFrame s (doneOf node call)) (call .outgoing)
-    (setup-to s (node .own) (limits-at s node call c) (own-below-at s node call c)) ok
-    (omega (arith, length-encode (eventFrame s (doneOf node call)), ok .short, ok .sound .wide, outgoing-room-at s node call c))
-  where
-    ok : FrameOk s (eventFrame s (doneOf node call))
-    ok = event-ok s node call c
+  tables-stamp : newTimestamp (limitsAt g (doneOf node call .clock)) (doneOf node call) ≡ widened stamp
+  unfolding newTimestamp widened
+  tables-stamp =
+      let r-is : doneOf node call .clock % limitsAt g (doneOf node call .clock) .modulus ≡ stamp .r =
+      ap (λ (s : Setup). doneOf node call .clock % s .modulus) at-own
+      ∙ (ap₂ (λ (x y : ℕ). x % y) (done-clock c) (limits-modulus l (ticks-at .good) (modulusOf l)) ∙ sym stamp-r) in
+      let made : doneOf node call .output .answer .tables ≡ widened stamp = unfold doneOf in tables-made in
+      λ i. record { r = r-is i; c = ap (λ (t : Timestamp). t .c) made i; kn = ap (λ (t : Timestamp). t .kn) made i }
 
-sent-length : (s : Setup) (node : Node) (call : Call) {v : ℕ} → Ticks s node call v → call .send ≡ true → doneOf node call .output .answer .sent ≡ length (encode (eventFrame s (doneOf node call)))
-unfolding doneOf
-sent-length s node call c e =
-    ap (λ (o : Output). o .answer .sent) (output-tick s node call c) ∙ (sent-is (inputOf node call) (accepted-input s node call c) ∙ ap length (sent-frame s node call c e))
+  pub event-stamp : eventFrame g (doneOf node call) .stamp ≡ widerNewStamp l (inputOf found call)
+  unfolding eventFrame frameOf
+  event-stamp =
+      (λ i. trimmed (at-own i .epsilon) (tables-stamp i))
+      ∙ trimmed-widened (ownLimits l .epsilon) stamp (limits-own .epsilon-most) (stamp-left .sound .wide)
 
-sent-outgoing : (s : Setup) (node : Node) (call : Call) {v : ℕ} → Ticks s node call v → call .send ≡ true → doneOf node call .output .outgoing ≡ overlay (encode (eventFrame s (doneOf node call))) (call .outgoing)
-unfolding doneOf inputOf
-sent-outgoing s node call c e =
-    ap (λ (o : Output). o .outgoing) (output-tick s node call c)
-    ∙ (outgoing-is (inputOf node call) (accepted-input s node call c) ∙ ap (λ (l : List ℕ). overlay l (call .outgoing)) (sent-frame s node call c e))
+  -- it is what hearing has come to, with the own event counted
+  pub event-own : eventFrame g (doneOf node call) .stamp ≡ countOwn (limitsAt g v .epsilon) (v % modulusOf l) (widerHeardStamp l (inputOf found call))
+  event-own =
+      event-stamp
+      ∙ unfold widerNewStamp in (
+      ap₂ (λ (s : Setup) (u : ℕ). countOwn (s .epsilon) u (widerHeardStamp l (inputOf found call))) (c .agrees .own)
+      (let e : inputOf found call .clock ≡ v % modulusOf l = unfold inputOf in (c .clock-is) in e)
+      )
 
-pub writer-made :
-    (s : Setup) (node : Node) (call : Call) {v : ℕ} → Ticks s node call v → sends (doneOf node call) ≡ true
-    → (written s (doneOf node call) .number ≡ 0) × (doneOf node call .output .answer .sent ≡ written s (doneOf node call) .size)
-    × (doneOf node call .output .outgoing ≡ written s (doneOf node call) .buffer)
-writer-made s node call c e =
-    let send : call .send ≡ true = sends-send node call e in
-    rw (written-is s node call c) (refl, sent-length s node call c send, sent-outgoing s node call c send)
+  own-below : node .own < ownLimits l .n
+  unfolding inputOf
+  own-below = subst (λ (o : ℕ). o < ownLimits l .n) (c .own-is station) (ticks-at .own-below)
 
-pub event-made : (s : Setup) (node : Node) (call : Call) {v : ℕ} → Ticks s node call v → CallEvent s (doneOf node call)
-unfolding eventFrame frameOf trimmed newTimestamp
-event-made s node call c =
-    record {
-      frame = event-ok s node call c;
-      r-is = refl;
-      bytes = event-bytes s node call c;
-      message = event-message s node call c;
-      writer = writer-made s node call c;
-    }
+  frame-own : FrameOk (ownLimits l) (eventFrame g (doneOf node call))
+  frame-own =
+      let pos : 0 < modulusOf l = omega (arith, ticks-at .clock-below) in
+      record {
+        station-below = unfold eventFrame frameOf doneOf in own-below;
+        r-below = omega (arith, ap (λ (t : Timestamp). t .r) event-stamp, stamp-r, mod-lt v pos, limits-modulus l (ticks-at .good) (modulusOf l));
+        sound = subst (λ (t : Timestamp). Sound (ownLimits l .n) (ownLimits l .epsilon) t) (sym event-stamp) (stamp-left .sound);
+        short = unfold eventFrame frameOf doneOf in (let h : length (call .payload) ≤ 32 = unfold inputOf in (ticks-at .payload-short) in h);
+      }
+
+  frame-ok : FrameOk (limitsAt g (doneOf node call .clock)) (eventFrame g (doneOf node call))
+  frame-ok = subst (λ (s : Setup). FrameOk s (eventFrame g (doneOf node call))) (sym at-own) frame-own
+
+  -- the frame, with its stamp named
+  event-frame : frameOf (ownLimits l .epsilon) (call .own) stamp (call .payload) ≡ eventFrame g (doneOf node call)
+  unfolding eventFrame frameOf doneOf
+  event-frame =
+      let stamps : trimmed (ownLimits l .epsilon) stamp ≡ eventFrame g (doneOf node call) .stamp =
+      trimmed-same (ownLimits l .epsilon) stamp (stamp-left .sound .wide) ∙ sym event-stamp in
+      λ i. record { station = c .own-is station i; stamp = stamps i; payload = call .payload }
+
+  sent-frame : call .send ≡ true → widerSent l (inputOf found call) ≡ encode (eventFrame g (doneOf node call))
+  sent-frame e =
+      let send : inputOf found call .send ≡ true = unfold inputOf in e in
+      let frame : frameOf (ownLimits l .epsilon) (inputOf found call .own) stamp (inputOf found call .payload) ≡ eventFrame g (doneOf node call) = unfold inputOf in event-frame in
+      sent-by l (inputOf found call) send ∙ ap encode frame
+
+  event-bytes : sends (doneOf node call) ≡ true → messageBytes (doneOf node call) ≡ encode (eventFrame g (doneOf node call))
+  event-bytes e =
+      unfold messageBytes doneOf widerAcceptance in (ap (λ (o : Output). take (o .answer .sent) (o .outgoing)) (ticks-at .is))
+      ∙ (take-overlay (widerSent l (inputOf found call)) (inputOf found call .outgoing) ∙ sent-frame (sends-send node call e))
+
+  event-wide : HasWidth l (eventFrame g (doneOf node call))
+  event-wide = has-width l (ownLimits l .epsilon) (eventFrame g (doneOf node call)) (limits-half l (modulusOf l)) (frame-own .sound .wide) .1
+
+  event-message : sends (doneOf node call) ≡ true → messageFrame (doneOf node call) ≡ eventFrame g (doneOf node call)
+  event-message e =
+      unfold messageFrame doneOf in (ap (λ (h : Schedule). widerDecode h (messageBytes (doneOf node call))) (c .along-is))
+      ∙ (ap (widerDecode l) (event-bytes e) ∙ wide-decode l (eventFrame g (doneOf node call)) event-wide)
+
+  -- the tables that it leaves
+  pub leaves-tables :
+      trimmed (limitsAt g (nodeAfter node (call .step) (outputOf node call) .clock) .epsilon) (nodeAfter node (call .step) (outputOf node call) .tables)
+      ≡ widerNewStamp l (inputOf found call)
+  leaves-tables =
+      let made : nodeAfter node (call .step) (outputOf node call) .tables ≡ widened stamp = unfold nodeAfter in tables-made in
+      (λ i. trimmed (after-own i .epsilon) (made i))
+      ∙ trimmed-widened (ownLimits l .epsilon) stamp (limits-own .epsilon-most) (stamp-left .sound .wide)
+
+  pub tables-left : Tables g (nodeAfter node (call .step) (outputOf node call))
+  tables-left =
+      rw leaves-tables (subst (λ (s : Setup). Left (s .n) (s .epsilon) stamp) (sym after-own) stamp-left)
+
+  outgoing-room : 39 + 2 * ownLimits l .epsilon ≤ length (call .outgoing)
+  unfolding inputOf
+  outgoing-room = ticks-at .outgoing-room
+
+  event-fits : length (encode (eventFrame g (doneOf node call))) ≤ length (doneOf node call .call .outgoing)
+  unfolding width doneOf
+  event-fits = omega (arith, length-encode (eventFrame g (doneOf node call)), frame-own .short, frame-own .sound .wide, outgoing-room)
+
+  written-is :
+      written (limitsAt g (doneOf node call .clock)) (doneOf node call) ≡ writeBy 0 (eventFrame g (doneOf node call)) (call .outgoing)
+  unfolding written eventFrame doneOf
+  written-is =
+      written-to (limitsAt g (doneOf node call .clock)) (node .own) (eventFrame g (doneOf node call)) (call .outgoing)
+      (setup-to (limitsAt g (doneOf node call .clock)) (node .own) (limits-good g good (doneOf node call .clock)) (subst (λ (s : Setup). node .own < s .n) (sym at-own) own-below))
+      frame-ok event-fits
+
+  sent-length : call .send ≡ true → doneOf node call .output .answer .sent ≡ length (encode (eventFrame g (doneOf node call)))
+  sent-length e =
+      unfold doneOf widerAcceptance in (ap (λ (o : Output). o .answer .sent) (ticks-at .is)) ∙ ap length (sent-frame e)
+
+  sent-outgoing : call .send ≡ true → doneOf node call .output .outgoing ≡ overlay (encode (eventFrame g (doneOf node call))) (call .outgoing)
+  sent-outgoing e =
+      unfold doneOf widerAcceptance inputOf in (ap (λ (o : Output). o .outgoing) (ticks-at .is))
+      ∙ ap (λ (x : List ℕ). overlay x (call .outgoing)) (sent-frame e)
+
+  writer-made :
+      sends (doneOf node call) ≡ true
+      → (written (limitsAt g (doneOf node call .clock)) (doneOf node call) .number ≡ 0)
+      × (doneOf node call .output .answer .sent ≡ written (limitsAt g (doneOf node call .clock)) (doneOf node call) .size)
+      × (doneOf node call .output .outgoing ≡ written (limitsAt g (doneOf node call .clock)) (doneOf node call) .buffer)
+  writer-made e =
+      let send : call .send ≡ true = sends-send node call e in
+      rw written-is (refl, sent-length send, sent-outgoing send)
+
+  pub event-made : CallEvent g (doneOf node call)
+  event-made =
+      record {
+        frame = frame-ok;
+        r-is = ap (λ (t : Timestamp). t .r) event-stamp ∙ (stamp-r ∙ ap₂ (λ (x y : ℕ). x % y) (sym (done-clock c)) (c .agrees .modulus));
+        bytes = event-bytes;
+        message = event-message;
+        fits = λ sent. event-fits;
+        writer = writer-made;
+      }
 
 -- a call's frame reads at its true clock, where that is less than ε ahead of v and at most B − ε behind
-pub event-reads : (s : Setup) (v : ℕ) (m : Done) → Limits s → CallEvent s m → m .clock < v + s .epsilon → v + s .epsilon ≤ m .clock + s .modulus → readingOf s (v % s .modulus) (eventFrame s m) + v ≡ s .modulus + m .clock
-event-reads s v m limits event hi lo = reading-true s v (m .clock) (eventFrame s m) limits (event .r-is) hi lo
+pub event-reads :
+    (g : Schedule) (v : ℕ) (m : Done) → GoodSchedule g → CallEvent g m → m .clock < v + limitsAt g v .epsilon → v + limitsAt g v .epsilon ≤ m .clock + modulusOf g
+    → placeAt g v (eventFrame g m) ≡ modulusOf g + m .clock
+event-reads g v m good event hi lo =
+    let s : Setup = limitsAt g v in
+    let same : s .modulus ≡ modulusOf g = limits-modulus g good v in
+    let reads : readingOf s (v % s .modulus) (eventFrame g m) + v ≡ s .modulus + m .clock =
+    reading-true s v (m .clock) (eventFrame g m) (limits-good g good v) (event .r-is ∙ ap (λ (B : ℕ). m .clock % B) (sym same)) hi (omega arith) in
+    ap (λ (B : ℕ). readingOf s (v % B) (eventFrame g m) + v) (sym same) ∙ (reads ∙ ap (λ (B : ℕ). B + m .clock) same)

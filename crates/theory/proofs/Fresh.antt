@@ -2,33 +2,35 @@
 -- Assumes nothing.
 use Prim.Native.Nat.{ℕ, _+_, _%_, _≤_}
 use native.Mathlib.Omega.{arith}
-use mathlib.Core.Path.{_≡_, refl, sym, ap, subst}
-use mathlib.Core.Logic.{inl, inr}
+use mathlib.Core.Path.{_≡_, refl, sym, ap, ap₂, subst, _∙_}
+use mathlib.Core.Logic.{_⊎_, inl, inr}
 use mathlib.Core.Bool.{Bool, true, false, _&&_, _||_, not, cond}
-use mathlib.Core.List.{List, [], _∷_, List·Memᴰ, List·Memᴰ·not-nil}
+use mathlib.Core.List.{List, [], _∷_, _++_, List·Memᴰ, List·Memᴰ·not-nil}
 use mathlib.Core.Option.{Option, none, some}
 use lib.Dec.{leb, eqb}
-use lib.ListN.{length, getElem?}
+use lib.ListN.{length, drop, getElem?}
 use borrow.Author.Tests.{le-leb, eqb-true}
-use Rattle.laws.specs.Lists.{every, any, sameList}
+use Rattle.laws.specs.Lists.{every, any, joined, sameList}
 use Rattle.laws.proofs.Numbers.{eq-or-ne, clash, and-intro, and-left, and-right, or-cases, false-of-not, not-of-false}
 use Rattle.laws.proofs.Lists.{countOf, index-of-mem, every-mem, every-append-left, every-append-right, sameList-true, mem-select, getElem?-mem, getElem?-lt}
 use Rattle.model.specs.Setup.{Setup, width}
 use Rattle.model.specs.Timestamp.{Timestamp, countAt, trimmed, fresh, replaced, countOwn}
-use Rattle.model.specs.Frame.{Frame, twoAt}
-use Rattle.model.specs.Holdback.{cutFrames, cutBy, heldBytes, held}
+use Rattle.model.specs.Frame.{twoBytes, twoAt}
+use Rattle.model.specs.Holdback.{encodeFrames}
+use Rattle.model.specs.Schedule.{Schedule, steady, limitsAt}
 use Rattle.model.specs.Run.{Node, Source, sentBy, stale, Call, Done, World, isAccepted, outputOf, doneOf, act, actOn, runFrom, atStart}
 use Rattle.theory.specs.Premises.{goodStart, sameTimestamp, isFresh, allFresh, isSent, noneStale}
 use Rattle.lemmas.proofs.Bounds.{Limits}
 use Rattle.lemmas.proofs.Counts.{opened-replaced, fresh-own, fresh-left, replaced-count}
-use Rattle.lemmas.proofs.Queue.{left-none}
-use Rattle.theory.proofs.World.{Memory, Tables, reached, Bounded, heardAt, Group, Good, Legal, EntryOk, act-is}
+use Rattle.lemmas.proofs.Schedules.{Good as GoodSchedule, limits-good, limits-modulus}
+use Rattle.lemmas.proofs.Positions.{placed-none}
+use Rattle.theory.proofs.World.{Memory, Tables, reached, Bounded, heardAt, Untouched, AsWide, Group, Good, Legal, EntryOk, act-is}
 use Rattle.theory.proofs.Stamps.{own-elsewhere, own-there}
 use Rattle.theory.proofs.HearLoop.{Settles}
-use Rattle.theory.proofs.Start.{group-start}
+use Rattle.theory.proofs.Start.{group-start, exact-start}
 
-pub settles-fresh : (s : Setup) → Settles s 0 0
-settles-fresh s = (omega arith, λ v R h k. omega arith)
+pub settles-fresh : (g : Schedule) → Settles g 0 0
+settles-fresh g = (omega arith, λ v R h k. omega arith)
 
 -- a station has reached its own clock
 reached-own : (nodes : List Node) (i : ℕ) (node : Node) → getElem? nodes i ≡ some node → node .listens ≡ false → 1 ≤ reached nodes (node .clock)
@@ -57,7 +59,7 @@ pub record FreshNode (s : Setup) (node : Node) : Type 0 where
   pub last : node .tables .r ≡ node .clock % s .modulus
   pub empty : twoAt (node .holdback) 0 ≡ 0
 
-fresh-node : (s : Setup) (node : Node) → isFresh s node ≡ true → FreshNode s node
+pub fresh-node : (s : Setup) (node : Node) → isFresh s node ≡ true → FreshNode s node
 unfolding isFresh
 fresh-node s node h =
     let right = cond (node .listens) (eqb (node .tables .r) (node .clock % s .modulus)) (sameTimestamp (trimmed (s .epsilon) (node .tables)) (fresh (s .epsilon) (node .clock % s .modulus))) in
@@ -74,22 +76,37 @@ fresh-node s node h =
     go true e t = ((λ station. absurd (clash e station)), eqb-true (node .tables .r) (node .clock % s .modulus) t)
     go false e t = ((λ station. stamp t), unfold trimmed fresh in (ap (λ (x : Timestamp). x .r) (stamp t)))
 
-module _ (s : Setup) (node : Node) (limits : Limits s) (is-fresh : FreshNode s node) where
-  pub queue-empty : held (s .epsilon) (node .holdback) ≡ []
-  unfolding held heldBytes cutFrames cutBy
-  queue-empty = rw (is-fresh .empty) refl
+-- an empty shelf of two bytes or more
+empty-front : (bytes : List ℕ) → 2 ≤ length bytes → twoAt bytes 0 ≡ 0 → bytes ≡ encodeFrames [] ++ drop 2 bytes
+unfolding twoAt encodeFrames twoBytes joined
+empty-front [] long empty = absurd (omega arith)
+empty-front (x ∷ []) long empty = absurd (omega arith)
+empty-front (x ∷ y ∷ bytes) long empty =
+    let a : x ≡ 0 = omega arith in
+    let b : y ≡ 0 = omega arith in
+    ap₂ (λ (p q : ℕ). p ∷ q ∷ bytes) a b
+
+-- with the limits of its clock
+module _ (g : Schedule) (node : Node) (good : GoodSchedule g) (is-fresh : FreshNode (limitsAt g (node .clock)) node) where
+  abbrev s : Setup
+  s = limitsAt g (node .clock)
+
+  limits : Limits s
+  limits = limits-good g good (node .clock)
 
   -- its memory is what a call leaves
-  pub memory-fresh : Memory s node
-  memory-fresh =
+  pub memory-fresh : 2 ≤ length (node .holdback) → Memory g node
+  memory-fresh long =
       record {
-        r-is = is-fresh .last;
-        passed = unfold heldBytes cutFrames cutBy every in (rw (is-fresh .empty) refl);
-        queue = rw queue-empty (left-none s (node .clock % s .modulus) 0);
+        r-is = is-fresh .last ∙ ap (λ (B : ℕ). node .clock % B) (limits-modulus g good (node .clock));
+        queue = [];
+        rest = drop 2 (node .holdback);
+        bytes = empty-front (node .holdback) long (is-fresh .empty);
+        placed = placed-none g (node .clock);
       }
 
   module _ (station : node .listens ≡ false) where
-    tables-fresh : Tables s node
+    tables-fresh : Tables g node
     tables-fresh = rw (is-fresh .tables station) (fresh-left (s .n) (s .epsilon) (node .clock % s .modulus) (limits .n-pos) (limits .epsilon-pos))
 
     pub fresh-bounded : (nodes : List Node) (i : ℕ) → getElem? nodes i ≡ some node → Bounded (s .epsilon) 0 nodes (node .clock) (fresh (s .epsilon) (node .clock % s .modulus) .kn)
@@ -120,59 +137,67 @@ module _ (s : Setup) (node : Node) (limits : Limits s) (is-fresh : FreshNode s n
         wide = opened-replaced (s .n) (s .epsilon) x (limits .n-pos) (limits .epsilon-pos) .wide
 
 -- all of them
-module _ (s : Setup) (nodes : List Node) (start : goodStart s nodes ≡ true) (all-fresh : allFresh s nodes ≡ true) where
-  group : Group s nodes
-  group = group-start s nodes start
+nothing : {A : Type 0} (k : ℕ) (x : A) → _≡_ {A = Option A} (getElem? [] k) (some x) → ⊥
+nothing {A} k x e = omega (arith, getElem?-lt {A = A} [] k e)
 
+pub good-fresh :
+    (g : Schedule) (nodes : List Node) → Group g nodes
+    → ((i : ℕ) (node : Node) → getElem? nodes i ≡ some node → FreshNode (limitsAt g (node .clock)) node × (2 ≤ length (node .holdback)))
+    → Good g 0 0 (atStart nodes)
+unfolding atStart heardAt any memory-fresh
+good-fresh g nodes group fresh-node-at =
+    record {
+      group = group;
+      node = λ i node at.
+          let is-fresh = fresh-node-at i node at .0 in
+          let good = group .limits i node at in
+          inr (record {
+            memory = memory-fresh g node good is-fresh (fresh-node-at i node at .1);
+            members = λ f m. absurd (List·Memᴰ·not-nil m);
+            waiting = λ k m e. absurd (nothing k m e);
+            stamp = λ station.
+                record {
+                  tables = tables-fresh g node good is-fresh station;
+                  bounded = subst (λ (t : Timestamp). Bounded (limitsAt g (node .clock) .epsilon) 0 nodes (node .clock) (t .kn)) (sym (is-fresh .tables station)) (fresh-bounded g node good is-fresh station nodes i at);
+                  passed-on = λ k d e. absurd (nothing k d e);
+                };
+          });
+      calls = λ k d e. absurd (nothing k d e);
+      unique = λ k l a b e. absurd (nothing k a e);
+      kinds = λ k d e. absurd (nothing k d e);
+      heard-before = λ i k e. absurd (clash e refl);
+    }
+
+-- with one setup
+module _ (s : Setup) (nodes : List Node) (start : goodStart s nodes ≡ true) (all-fresh : allFresh s nodes ≡ true) where
   pub fresh-at : (i : ℕ) (node : Node) → getElem? nodes i ≡ some node → FreshNode s node
   unfolding allFresh
   fresh-at i node at = fresh-node s node (every-mem (isFresh s) all-fresh (getElem?-mem nodes i at))
 
-  nothing : {A : Type 0} (k : ℕ) (x : A) → _≡_ {A = Option A} (getElem? [] k) (some x) → ⊥
-  nothing {A} k x e = omega (arith, getElem?-lt {A = A} [] k e)
-
-  pub good-fresh : Good s 0 0 (atStart nodes)
-  unfolding atStart heardAt any
-  good-fresh =
-      record {
-        group = group;
-        node = λ i node at.
-            let is-fresh = fresh-at i node at in
-            let limits = group .limits i node at in
-            inr (record {
-              memory = memory-fresh s node limits is-fresh;
-              members = λ f m. absurd (List·Memᴰ·not-nil (subst (λ (l : List Frame). List·Memᴰ f l) (queue-empty s node limits is-fresh) m));
-              waiting = λ k m e. absurd (nothing k m e);
-              stamp = λ station.
-                  record {
-                    tables = tables-fresh s node limits is-fresh station;
-                    bounded = subst (λ (t : Timestamp). Bounded (s .epsilon) 0 nodes (node .clock) (t .kn)) (sym (is-fresh .tables station)) (fresh-bounded s node limits is-fresh station nodes i at);
-                    passed-on = λ k d e. absurd (nothing k d e);
-                  };
-            });
-        calls = λ k d e. absurd (nothing k d e);
-        unique = λ k l a b e. absurd (nothing k a e);
-        kinds = λ k d e. absurd (nothing k d e);
-        heard-before = λ i k e. absurd (clash e refl);
-      }
+  pub fresh-plain : Good (steady s) 0 0 (atStart nodes)
+  fresh-plain =
+      good-fresh (steady s) nodes (group-start s nodes start) (λ i node at. (fresh-at i node at, exact-start s nodes start node (getElem?-mem nodes i at)))
 
 -- without older frames nothing is left out
 sent-entry :
-    (s : Setup) (floor : ℕ) (past : List Done) (nodes : List Node) (v : ℕ) (bytes : List ℕ) (o : Source) → isSent o ≡ true
-    → EntryOk s floor past nodes v bytes o → EntryOk s 0 past nodes v bytes o
+    (g : Schedule) (floor : ℕ) (past : List Done) (nodes : List Node) (v : ℕ) (bytes : List ℕ) (o : Source) → isSent o ≡ true
+    → EntryOk g floor past nodes v bytes o → EntryOk g 0 past nodes v bytes o
 unfolding isSent
-sent-entry s floor past nodes v bytes (sentBy k) h entry = entry
-sent-entry s floor past nodes v bytes stale h entry = absurd (clash h refl)
+sent-entry g floor past nodes v bytes (sentBy k) h entry = entry
+sent-entry g floor past nodes v bytes stale h entry = absurd (clash h refl)
 
-pub legal-fresh : (s : Setup) (floor : ℕ) (w : World) (call : Call) (node : Node) (v : ℕ) → Legal s floor w call node v → every isSent (call .sources) ≡ true → Legal s 0 w call node v
-legal-fresh s floor w call node v legal all-sent =
+pub legal-fresh :
+    (g l : Schedule) (floor : ℕ) (w : World) (call : Call) (node found : Node) (v : ℕ) → Legal g l floor w call node found v
+    → Untouched g 0 w (call .node) node ⊎ AsWide g l 0 w (call .node) node → every isSent (call .sources) ≡ true → Legal g l 0 w call node found v
+legal-fresh g l floor w call node found v legal widths all-sent =
     record {
       at = legal .at;
       called = legal .called;
+      widths = widths;
       together = legal .together;
       lengths = legal .lengths;
       entry = λ e bytes o at o-at.
-          sent-entry s floor (w .past) (act w call .nodes) v bytes o (every-mem isSent all-sent (getElem?-mem (call .sources) e o-at))
+          sent-entry g floor (w .past) (act w call .nodes) v bytes o (every-mem isSent all-sent (getElem?-mem (call .sources) e o-at))
           (legal .entry e bytes o at o-at);
     }
 

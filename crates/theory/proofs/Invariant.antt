@@ -10,28 +10,29 @@ use mathlib.Core.Option.{some}
 use lib.Dec.{eqb}
 use lib.ListN.{length, getElem?, length-append}
 use borrow.Author.Tests.{ne-eqb}
-use Rattle.laws.specs.Lists.{any, select}
+use Rattle.laws.specs.Lists.{any}
 use Rattle.laws.proofs.Numbers.{eq-or-ne, and-right, or-cases, not-of-false}
 use Rattle.laws.proofs.Lists.{countOf, countOf-set-same, any-append, getElem?-lt, getElem?-getD, getElem?-append, getElem?-snoc-cases, mem-of-select, mem-select}
 use Rattle.model.specs.Setup.{Setup}
-use Rattle.model.specs.Timestamp.{trimmed, Timestamp}
+use Rattle.model.specs.Timestamp.{sum, trimmed, countOwn, Timestamp}
 use Rattle.model.specs.Frame.{Frame}
-use Rattle.model.specs.Order.{due, dueNear}
-use Rattle.model.specs.Holdback.{held}
-use Rattle.model.specs.Tick.{heardStamp, dueNow}
+use Rattle.model.specs.Schedule.{Schedule, limitsAt, modulusOf, ownLimits, dueAlong}
+use Rattle.model.specs.Wider.{widerReading, widerDue, widerDueNow, widerHeardStamp}
 use Rattle.model.specs.Run.{Node, Call, Done, World, inputOf, isAccepted, outputOf, doneOf, nodeAfter, act, isEvent}
 use Rattle.theory.specs.Demand3.{covered, heardIn, isFrom}
+use Rattle.lemmas.proofs.Schedules.{limits-good}
+use Rattle.lemmas.proofs.Positions.{seen-in}
 use Rattle.theory.proofs.Event.{done-clock, after-clock, event-stamp, event-made, leaves-tables, tables-left, event-own}
-use Rattle.theory.proofs.Boards.{heardOn, leaves-queue, memory-left}
+use Rattle.theory.proofs.Received.{heardOn, keptOn, memory-left}
 use Rattle.theory.proofs.Entries.{from-entry}
 use Rattle.theory.proofs.Reach.{isStation, reached-grows, reached-gains}
 use Rattle.theory.proofs.Stamps.{bounded-grows, own-bounded}
-use Rattle.theory.proofs.Due.{due-reads}
+use Rattle.theory.proofs.Due.{due-seen}
 use Rattle.theory.proofs.HearLoop.{some-inj, covered-sends}
-use Rattle.theory.proofs.World.{AllWaiting, LeftStamp, LeftAt, eventFrame, reached, Bounded, heardAt, Explained, AllExplained, Maker, Settled, Passed-on, NodeOk, Group, AllKinds, Good, Ticks, Legal, act-is, event-kind, event-of, nodesAfter, after-at, after-other, after-together}
+use Rattle.theory.proofs.World.{AllWaiting, Memory, LeftStamp, LeftAt, eventFrame, eventDue, reached, Bounded, Under, heardAt, Explained, AllExplained, CallEvent, Maker, Settled, Passed-on, NodeOk, Group, AllKinds, Good, Legal, act-is, event-kind, event-of, nodesAfter, after-at, after-other, after-together}
 use Rattle.theory.proofs.Promises.{Ends, waiting-reads}
 
-module _ (s : Setup) (floor from : ℕ) (w : World) (call : Call) (node : Node) (v : ℕ) (good : Good s floor from w) (legal : Legal s floor w call node v) (ends : Ends s floor from w call node v) where
+module _ (g l : Schedule) (floor from : ℕ) (w : World) (call : Call) (node found : Node) (v : ℕ) (good : Good g floor from w) (legal : Legal g l floor w call node found v) (ends : Ends g l floor from w call node found v) where
   -- the nodes and calls after it
   abbrev node′ : Node
   node′ = nodeAfter node (call .step) (outputOf node call)
@@ -46,7 +47,7 @@ module _ (s : Setup) (floor from : ℕ) (w : World) (call : Call) (node : Node) 
   world′ = record { nodes = nodes′; past = past′ }
 
   clock′ : node′ .clock ≡ v
-  clock′ = after-clock s node call (legal .called)
+  clock′ = after-clock (legal .called)
 
   own′ : node′ .own ≡ node .own
   unfolding nodeAfter
@@ -74,7 +75,7 @@ module _ (s : Setup) (floor from : ℕ) (w : World) (call : Call) (node : Node) 
       countOf-set-same isStation (w .nodes) (call .node) node′ node
       (rw (getElem?-getD (w .nodes) (call .node) node (legal .at)) (ap not (sym kind′)))
 
-  group′ : Group s nodes′
+  group′ : Group g nodes′
   group′ =
       record {
         limits = λ j a at. let r = was j a at in good .group .limits j (r .0) (r .1);
@@ -82,7 +83,7 @@ module _ (s : Setup) (floor from : ℕ) (w : World) (call : Call) (node : Node) 
             let x = was i a p in
             let y = was j b q in
             good .group .distinct i j (x .0) (y .0) (x .1) (y .1) (sym (x .3) ∙ x-is) (sym (y .3) ∙ y-is) (sym (x .2) ∙ (e ∙ y .2));
-        together = after-together s floor w call node v legal;
+        together = after-together g l floor w call node found v legal;
         few = omega (arith, stations, good .group .few);
       }
 
@@ -113,8 +114,8 @@ module _ (s : Setup) (floor from : ℕ) (w : World) (call : Call) (node : Node) 
   known-at i k m at hd = sym (getElem?-append (w .past) (doneOf node call ∷ []) k (heard-known i k hd)) ∙ at
 
   explained-on :
-      (v j : ℕ) (heard : ℕ → Bool) (f : Frame) → ((k : ℕ) → heard k ≡ true → heardAt past′ j k ≡ true) → Explained s floor (w .past) heard v f
-      → Explained s floor past′ (heardAt past′ j) v f
+      (v j : ℕ) (heard : ℕ → Bool) (f : Frame) → ((k : ℕ) → heard k ≡ true → heardAt past′ j k ≡ true) → Explained g floor (w .past) heard v f
+      → Explained g floor past′ (heardAt past′ j) v f
   explained-on v j heard f more (inl h) = inl h
   explained-on v j heard f more (inr x) = inr (x .0, x .1, old-at (x .0) (x .1) (x .2), x .3, more (x .0) (x .4), x .5, x .6)
 
@@ -170,33 +171,37 @@ module _ (s : Setup) (floor from : ℕ) (w : World) (call : Call) (node : Node) 
         at = unfold doneOf in (after-at (w .nodes) call node (legal .at));
         kind-is = unfold doneOf in kind′;
         own-is = unfold doneOf in own′;
-        clock-is = omega (arith, clock′, done-clock s node call (legal .called));
+        clock-is = omega (arith, clock′, done-clock (legal .called));
       }
 
   -- a station's call
   module _ (station : node .listens ≡ false) where
-    ticks : Ticks s node call v
-    ticks = record { due = legal .called; station = station }
-
     -- it has reached v, one station more
     gains : reached nodes′ v ≡ suc (reached (w .nodes) v)
     gains =
         reached-gains (w .nodes) v (call .node) node node′ (legal .at) (kind′ ∙ station)
         (omega (arith, legal .called .turn, legal .called .step-pos)) (omega (arith, clock′))
 
-    -- the new counts
-    bounded′ : Bounded (s .epsilon) floor nodes′ v (eventFrame s (doneOf node call) .stamp .kn)
-    bounded′ =
-        subst (λ (t : Timestamp). Bounded (s .epsilon) floor nodes′ v (t .kn)) (sym (event-own s node call ticks))
-        (own-bounded (s .epsilon) floor (w .nodes) nodes′ v (v % s .modulus) (heardStamp (inputOf node call)) (ends .stamp station .absorbing .opened .wide)
-        (ends .limits .epsilon-pos) grows gains (ends .stamp station .bounded))
+    event : CallEvent g (doneOf node call)
+    event = event-made g l node found call (ends .limits) (legal .called) station
 
-    new-settled : Settled s floor nodes′ (doneOf node call)
+    own-epsilon : ownLimits l .epsilon ≡ limitsAt g v .epsilon
+    own-epsilon = ap (λ (s : Setup). s .epsilon) (legal .called .agrees .own)
+
+    -- the new counts
+    bounded′ : Bounded (limitsAt g v .epsilon) floor nodes′ v (eventFrame g (doneOf node call) .stamp .kn)
+    bounded′ =
+        subst (λ (t : Timestamp). Bounded (limitsAt g v .epsilon) floor nodes′ v (t .kn)) (sym (event-own g l node found call (ends .limits) (legal .called) station))
+        (subst (λ (e : ℕ). Bounded e floor nodes′ v (countOwn e (v % modulusOf l) (widerHeardStamp l (inputOf found call)) .kn)) own-epsilon
+        (own-bounded (ownLimits l .epsilon) floor (w .nodes) nodes′ v (v % modulusOf l) (widerHeardStamp l (inputOf found call)) (ends .stamp station .opened .wide)
+        (limits-good l (ends .good) (modulusOf l) .epsilon-pos) grows gains (ends .stamp station .bounded)))
+
+    new-settled : Settled g floor nodes′ (doneOf node call)
     new-settled =
         record {
-          event = event-made s node call ticks;
+          event = event;
           maker = new-maker;
-          bounded = subst (λ (v : ℕ). Bounded (s .epsilon) floor nodes′ v (eventFrame s (doneOf node call) .stamp .kn)) (sym (done-clock s node call (legal .called))) bounded′;
+          bounded = subst (λ (x : ℕ). Bounded (limitsAt g x .epsilon) floor nodes′ x (eventFrame g (doneOf node call) .stamp .kn)) (sym (done-clock (legal .called))) bounded′;
         }
 
     -- no call of this station was for this clock before
@@ -214,7 +219,7 @@ module _ (s : Setup) (floor from : ℕ) (w : World) (call : Call) (node : Node) 
   unfolding doneOf
   last-kind d e made = sym (ap (λ (x : Done). x .listens) e) ∙ event-kind d made
 
-  calls′ : (k : ℕ) (d : Done) → getElem? past′ k ≡ some d → isEvent d ≡ true → Settled s floor nodes′ d
+  calls′ : (k : ℕ) (d : Done) → getElem? past′ k ≡ some d → isEvent d ≡ true → Settled g floor nodes′ d
   calls′ k d at made =
       elim (getElem?-snoc-cases (w .past) (doneOf node call) k at) [
         | inl q ↦
@@ -222,9 +227,9 @@ module _ (s : Setup) (floor from : ℕ) (w : World) (call : Call) (node : Node) 
             record {
               event = st .event;
               maker = maker′ d (st .maker);
-              bounded = bounded-grows (s .epsilon) floor (w .nodes) nodes′ (d .clock) (eventFrame s d .stamp .kn) grows (st .bounded);
+              bounded = bounded-grows (limitsAt g (d .clock) .epsilon) floor (w .nodes) nodes′ (d .clock) (eventFrame g d .stamp .kn) grows (st .bounded);
             }
-        | inr q ↦ subst (Settled s floor nodes′) (sym (q .1)) (new-settled (last-kind d (q .1) made))
+        | inr q ↦ subst (Settled g floor nodes′) (sym (q .1)) (new-settled (last-kind d (q .1) made))
       ]
 
   unique′ : (k l : ℕ) (a b : Done) → getElem? past′ k ≡ some a → getElem? past′ l ≡ some b → isEvent a ≡ true → isEvent b ≡ true → a .own ≡ b .own → a .clock ≡ b .clock → k ≡ l
@@ -233,17 +238,17 @@ module _ (s : Setup) (floor from : ℕ) (w : World) (call : Call) (node : Node) 
         | inl p′ ↦ elim (getElem?-snoc-cases (w .past) (doneOf node call) l q) [
           | inl q′ ↦ good .unique k l a b p′ q′ x y o c
           | inr q′ ↦
-              absurd (first-at (last-kind b (q′ .1) y) k a p′ x (o ∙ (ap (λ (d : Done). d .own) (q′ .1) ∙ unfold doneOf in refl)) (c ∙ (ap (λ (d : Done). d .clock) (q′ .1) ∙ done-clock s node call (legal .called))))
+              absurd (first-at (last-kind b (q′ .1) y) k a p′ x (o ∙ (ap (λ (d : Done). d .own) (q′ .1) ∙ unfold doneOf in refl)) (c ∙ (ap (λ (d : Done). d .clock) (q′ .1) ∙ done-clock (legal .called))))
         ]
         | inr p′ ↦ elim (getElem?-snoc-cases (w .past) (doneOf node call) l q) [
           | inl q′ ↦
-              absurd (first-at (last-kind a (p′ .1) x) l b q′ y (sym o ∙ (ap (λ (d : Done). d .own) (p′ .1) ∙ unfold doneOf in refl)) (sym c ∙ (ap (λ (d : Done). d .clock) (p′ .1) ∙ done-clock s node call (legal .called))))
+              absurd (first-at (last-kind a (p′ .1) x) l b q′ y (sym o ∙ (ap (λ (d : Done). d .own) (p′ .1) ∙ unfold doneOf in refl)) (sym c ∙ (ap (λ (d : Done). d .clock) (p′ .1) ∙ done-clock (legal .called))))
           | inr q′ ↦ p′ .0 ∙ sym (q′ .0)
         ]
       ]
 
   -- the other nodes
-  other-ok : (j : ℕ) (a : Node) → (call .node ≡ j → ⊥) → NodeOk s floor from w j a → NodeOk s floor from world′ j a
+  other-ok : (j : ℕ) (a : Node) → (call .node ≡ j → ⊥) → NodeOk g floor from w j a → NodeOk g floor from world′ j a
   other-ok j a ne (inl u) =
       inl (record {
         early = u .early;
@@ -263,7 +268,7 @@ module _ (s : Setup) (floor from : ℕ) (w : World) (call : Call) (node : Node) 
             let t = l .stamp station in
             record {
               tables = t .tables;
-              bounded = bounded-grows (s .epsilon) floor (w .nodes) nodes′ (a .clock) (trimmed (s .epsilon) (a .tables) .kn) grows (t .bounded);
+              bounded = bounded-grows (limitsAt g (a .clock) .epsilon) floor (w .nodes) nodes′ (a .clock) (trimmed (limitsAt g (a .clock) .epsilon) (a .tables) .kn) grows (t .bounded);
               passed-on = λ k d at made same.
                   elim (getElem?-snoc-cases (w .past) (doneOf node call) k at) [
                     | inl q ↦ t .passed-on k d q made same
@@ -273,74 +278,86 @@ module _ (s : Setup) (floor from : ℕ) (w : World) (call : Call) (node : Node) 
       })
 
   -- what the call leaves at its node, at its clock
-  queue-here : held (s .epsilon) (node′ .holdback) ≡ select (λ f. not (dueNow s (v % s .modulus) f)) (heardOn s v node call .queue)
-  queue-here = leaves-queue s node call (legal .called)
+  abbrev memory : Memory g node′
+  memory = memory-left g l node found call (legal .called)
 
-  members′ : AllExplained s floor past′ (heardAt past′ (call .node)) v (held (s .epsilon) (node′ .holdback))
+  abbrev u : ℕ
+  u = v % modulusOf l
+
+  members′ : AllExplained g floor past′ (heardAt past′ (call .node)) v (keptOn l v found call)
   members′ f mem =
-      let r = mem-of-select (λ g. not (dueNow s (v % s .modulus) g)) (heardOn s v node call .queue) (subst (λ (q : List Frame). List·Memᴰ f q) queue-here mem) in
+      let r = mem-of-select (λ b. not (widerDueNow l u b)) (heardOn l v found call .queue) mem in
       explained-on v (call .node) (heardAt past′ (call .node)) f (λ k h. h) (ends .queue .members f (r .0))
 
-  -- a covered message that is due later is not delivered
-  not-due : (k : ℕ) (m : Done) → getElem? (w .past) k ≡ some m → covered from m ≡ true → v < due s (m .clock) (eventFrame s m .stamp .c)
-      → dueNow s (v % s .modulus) (eventFrame s m) ≡ false
-  unfolding dueNow
-  not-due k m at fol un =
-      ne-eqb (dueNear s (v % s .modulus) (eventFrame s m)) (s .modulus)
+  -- a covered message on the queue that is due later is not delivered
+  not-due : (k : ℕ) (m : Done) → getElem? (w .past) k ≡ some m → covered from m ≡ true → List·Memᴰ (eventFrame g m) (heardOn l v found call .queue) → v < eventDue g m
+      → widerDueNow l u (eventFrame g m) ≡ false
+  unfolding widerDueNow widerDue sum
+  not-due k m at fol there un =
+      let f : Frame = eventFrame g m in
+      let stands = waiting-reads g l floor from w call node found v good legal k m at (covered-sends from m fol) (omega (arith, un, legal .called .turn, legal .called .step-pos)) in
+      let seen =
+      seen-in g l v (legal .called .agrees) (modulusOf l) (heardOn l v found call .queue) (ends .good)
+      (omega (arith, limits-good l (ends .good) (modulusOf l) .epsilon-pos)) (ends .queue .sound) f there in
+      ne-eqb (dueAlong l (widerReading l u f + f .stamp .c)) (modulusOf l)
       (λ e. omega (
         arith,
         un,
-        due-reads s v (m .clock) (eventFrame s m)
-            (waiting-reads s floor from w call node v good legal k m at (covered-sends from m fol) (omega (arith, un, legal .called .turn, legal .called .step-pos))),
+        due-seen g l v (legal .called .agrees) (m .clock) f stands seen,
       ))
 
-  waiting′ : AllWaiting s from past′ (heardAt past′ (call .node)) v (held (s .epsilon) (node′ .holdback))
+  waiting′ : AllWaiting g from past′ (heardAt past′ (call .node)) v (keptOn l v found call)
   waiting′ k m at fol hd un =
       let old : getElem? (w .past) k ≡ some m = known-at (call .node) k m at hd in
-      subst (λ (q : List Frame). List·Memᴰ (eventFrame s m) q) (sym queue-here)
-      (mem-select (λ g. not (dueNow s (v % s .modulus) g)) (ends .queue .present k m old fol hd (omega arith)) (not-of-false (not-due k m old fol un)))
+      let there = ends .queue .present k m old fol hd (omega arith) in
+      mem-select (λ b. not (widerDueNow l u b)) there (not-of-false (not-due k m old fol there un))
 
   -- a station's stamp
   module _ (station : node .listens ≡ false) where
-    tables-here : trimmed (s .epsilon) (node′ .tables) ≡ eventFrame s (doneOf node call) .stamp
-    tables-here = leaves-tables s node call (ticks station) ∙ sym (event-stamp s node call (ticks station))
+    tables-here : trimmed (limitsAt g (node′ .clock) .epsilon) (node′ .tables) ≡ eventFrame g (doneOf node call) .stamp
+    tables-here =
+        leaves-tables g l node found call (ends .limits) (legal .called) station ∙ sym (event-stamp g l node found call (ends .limits) (legal .called) station)
 
-    passes-on : (k : ℕ) (d : Done) → getElem? past′ k ≡ some d → isEvent d ≡ true → d .node ≡ call .node → Passed-on s d v (eventFrame s (doneOf node call) .stamp)
+    passes-on : (k : ℕ) (d : Done) → getElem? past′ k ≡ some d → isEvent d ≡ true → d .node ≡ call .node → Passed-on g d v (eventFrame g (doneOf node call) .stamp)
     passes-on k d at made same =
+        let here : doneOf node call .clock ≡ v = done-clock (legal .called) in
         record {
           last = doneOf node call;
-          sound = event-made s node call (ticks station) .frame .sound;
+          sound = event station .frame .sound;
           comes =
               elim (getElem?-snoc-cases (w .past) (doneOf node call) k at) [
                 | inl q ↦ inr (ends .kept .later (event-of (doneOf node call) (unfold doneOf in (legal .called .accepted)) (unfold doneOf in station)) k d q made (unfold doneOf in same))
                 | inr q ↦ inl (q .1)
               ];
-          under = rw (done-clock s node call (legal .called)) (record { sums = omega arith; counts = λ u h. omega arith });
+          under =
+              subst (λ (x : ℕ). Under (limitsAt g x .epsilon) x (eventFrame g (doneOf node call) .stamp) (limitsAt g v .epsilon) v (eventFrame g (doneOf node call) .stamp)) (sym here)
+              (record { sums = omega arith; counts = λ x h. omega arith });
         }
 
-    stamp-ok : LeftStamp s floor world′ (call .node) node′
+    stamp-ok : LeftStamp g floor world′ (call .node) node′
     stamp-ok =
         record {
-          tables = tables-left s node call (ticks station);
+          tables = tables-left g l node found call (ends .limits) (legal .called) station;
           bounded =
-              subst (λ (x : ℕ). Bounded (s .epsilon) floor nodes′ x (trimmed (s .epsilon) (node′ .tables) .kn)) (sym clock′)
-              (subst (λ (t : Timestamp). Bounded (s .epsilon) floor nodes′ v (t .kn)) (sym tables-here) (bounded′ station));
+              subst (λ (x : ℕ). Bounded (limitsAt g x .epsilon) floor nodes′ x (trimmed (limitsAt g (node′ .clock) .epsilon) (node′ .tables) .kn)) (sym clock′)
+              (subst (λ (t : Timestamp). Bounded (limitsAt g v .epsilon) floor nodes′ v (t .kn)) (sym tables-here) (bounded′ station));
           passed-on = λ k d at made same.
-              subst (λ (x : ℕ). Passed-on s d x (trimmed (s .epsilon) (node′ .tables))) (sym clock′)
-              (subst (λ (t : Timestamp). Passed-on s d v t) (sym tables-here) (passes-on k d at made same));
+              subst (λ (x : ℕ). Passed-on g d x (trimmed (limitsAt g (node′ .clock) .epsilon) (node′ .tables))) (sym clock′)
+              (subst (λ (t : Timestamp). Passed-on g d v t) (sym tables-here) (passes-on k d at made same));
         }
 
-  here-ok : LeftAt s floor from world′ (call .node) node′
+  here-ok : LeftAt g floor from world′ (call .node) node′
+  unfolding memory-left
   here-ok =
       record {
-        memory = memory-left s node call (legal .called);
-        members = subst (λ (x : ℕ). AllExplained s floor past′ (heardAt past′ (call .node)) x (held (s .epsilon) (node′ .holdback))) (sym clock′) members′;
-        waiting = subst (λ (x : ℕ). AllWaiting s from past′ (heardAt past′ (call .node)) x (held (s .epsilon) (node′ .holdback))) (sym clock′) waiting′;
+        memory = memory;
+        members = subst (λ (x : ℕ). AllExplained g floor past′ (heardAt past′ (call .node)) x (keptOn l v found call)) (sym clock′) members′;
+        waiting = subst (λ (x : ℕ). AllWaiting g from past′ (heardAt past′ (call .node)) x (keptOn l v found call)) (sym clock′) waiting′;
         stamp = λ station. stamp-ok (sym kind′ ∙ station);
       }
 
-  pub step-good : Good s floor from (act w call)
-  step-good = subst (Good s floor from) (sym (act-is w call node (legal .at)))
+  pub step-good : Good g floor from (act w call)
+  step-good = subst (Good g floor from) (sym (act-is w call node (legal .at)))
       (record {
         group = group′;
         node = node-ok;
@@ -350,11 +367,11 @@ module _ (s : Setup) (floor from : ℕ) (w : World) (call : Call) (node : Node) 
         heard-before = λ i k h. omega (arith, heard-known i k h, length-append (w .past) (doneOf node call ∷ []));
       })
     where
-      node-ok : (j : ℕ) (a : Node) → getElem? nodes′ j ≡ some a → NodeOk s floor from world′ j a
+      node-ok : (j : ℕ) (a : Node) → getElem? nodes′ j ≡ some a → NodeOk g floor from world′ j a
       node-ok j a at =
           elim (eq-or-ne (call .node) j) [
             | inl q ↦
                 let e : a ≡ node′ = some-inj (sym at ∙ (ap (getElem? nodes′) (sym q) ∙ (after-at (w .nodes) call node (legal .at)))) in
-                subst (λ (x : ℕ). NodeOk s floor from world′ x a) q (subst (λ (x : Node). NodeOk s floor from world′ (call .node) x) (sym e) (inr here-ok))
+                subst (λ (x : ℕ). NodeOk g floor from world′ x a) q (subst (λ (x : Node). NodeOk g floor from world′ (call .node) x) (sym e) (inr here-ok))
             | inr q ↦ other-ok j a q (good .node j a (sym (after-other (w .nodes) call node j q) ∙ at))
           ]

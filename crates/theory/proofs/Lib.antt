@@ -1,3 +1,4 @@
+pub mod Steadily
 pub mod Cause
 pub mod Readers
 pub mod LongReaders
@@ -7,13 +8,16 @@ pub mod AnyState
 pub mod World
 pub mod Reach
 pub mod Stamps
-pub mod Due
+pub mod Outputs
 pub mod Event
-pub mod Boards
+pub mod Writing
+pub mod Due
+pub mod Received
 pub mod HearLoop
 pub mod Delivery
-pub mod Opening
 pub mod Entries
+pub mod Opening
+pub mod Plain
 pub mod Refused
 pub mod Promises
 pub mod Invariant
@@ -33,6 +37,9 @@ pub mod PublishedStart
 pub mod Demand2
 pub mod LongClocks
 pub mod OneProgram
+pub mod Along
 pub mod Demand3
+pub mod Changeover
+pub mod Through
 pub mod WiderAny
 pub mod WiderReaders

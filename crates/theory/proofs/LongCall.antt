@@ -24,24 +24,24 @@ use Rattle.model.specs.Holdback.{sameOrigin, notEarly, held, encodeFrames}
 use Rattle.model.specs.Question.{firstNo}
 use Rattle.model.specs.Judge.{Heard, judgeQuestions, absorbAll}
 use Rattle.model.specs.Tick.{Input, Output, openingStamp, openedQueue, heardOf, takenCount, acceptedWith}
-use Rattle.model.specs.Published.{Message, Process, rank, sameMessage, nextEvent, eventOf, deliverableBy, inOrder, buffered, deliveredAt, advanced, messageOf}
+use Rattle.model.specs.Published.{Message, Process, rank, sameMessage, nextEvent, eventOf, deliverableBy, inOrder, buffered, deliveredAt, advanced, messageOf, messageDue}
 use Rattle.model.specs.Run.{Node, Call, World, inputOf, doneOf}
-use Rattle.model.specs.Long.{longBound, plainly, longLimits, askLongSetup, lowFirst, longEncode, longestLong, longMost, longHoldbackSize, longHeldBytes, longHeld, longPasses, longNotEarly, longNotOverdue, longDue, longSoundHoldback, longEncodeFrames, longEncodeHoldback, longHear, longAbsorbAll, longCallQuestions, longClockSound, longTablesSound, longLeastDue, longShelfSound, longRepair, longOpeningStamp, longOpened, longBefore, longDueBy, longHeard, longNewStamp, longSent, longDelivered, longKept, longAcceptance, longTickBy, longTick}
+use Rattle.model.specs.Long.{longBound, plainly, longLimits, askLongSetup, lowFirst, longEncode, longestLong, longMost, longHoldbackSize, longHeldBytes, longHeld, longPasses, longNotEarly, longNotExpired, longDue, longSoundHoldback, longEncodeFrames, longEncodeHoldback, longHear, longAbsorbAll, longCallQuestions, longClockSound, longTablesSound, longLeastDue, longHoldbackSound, longRepair, longOpeningStamp, longOpened, longBefore, longDueBy, longHeard, longNewStamp, longSent, longDelivered, longKept, longAcceptance, longTickBy, longTick}
 use Rattle.theory.specs.Demand2.{reduced, reducedFrame, verdictsOn, Outcome, outcomeOf, SameAs}
 use Rattle.theory.specs.LongClocks.{Engine, longEntry, longBatch, longInput, reducedStamp, reducedLong, rewritten, narrowed, narrowedDelivery, SameLong}
 use Rattle.lemmas.proofs.Bounds.{Limits, Sound, FrameOk}
 use Rattle.lemmas.proofs.Counts.{Left, left-beside, trimmed-widened, trimmed-same}
 use Rattle.lemmas.proofs.Queue.{early-from}
-use Rattle.lemmas.proofs.LongFrames.{number-low, clock-fits, long-decode-encode, long-passes-encode, long-held-bytes, long-held-frames, long-size, long-count, bundle-ends, bundle-entries}
+use Rattle.lemmas.proofs.LongFrames.{number-low, clock-fits, long-decode-encode, long-passes-encode, long-held-bytes, long-held-frames, long-size, long-count, batch-ends, batch-entries}
 use Rattle.lemmas.proofs.LongStamps.{atClock, step-moved, own-moved}
-use Rattle.lemmas.proofs.Board.{numbersOf, hear-verdicts, hear-length, board-opened, board-small}
-use Rattle.theory.proofs.World.{askingAt, leastAt as stationLeast, openedAt, Good, Ticks, Legal}
-use Rattle.theory.proofs.Event.{accepted-input, done-clock, sound-at, own-below-at}
-use Rattle.theory.proofs.Boards.{board-at}
-use Rattle.theory.proofs.Entries.{startHere, heard-all}
+use Rattle.lemmas.proofs.Receiving.{numbersOf, hear-verdicts, hear-length, receive-opened, receive-small}
+use Rattle.model.specs.Schedule.{steady}
+use Rattle.theory.proofs.World.{Good, Ticks}
+use Rattle.theory.proofs.Event.{done-clock}
+use Rattle.theory.proofs.Plain.{PlainLegal, accepted-input, sound-at, own-below-at, leastPlain, openedPlain, startPlain, receive-at, heard-all}
 use Rattle.theory.proofs.Readers.{held-delivery}
 use Rattle.theory.proofs.PublishedEvent.{ReadsTrue, event-wide}
-use Rattle.theory.proofs.PublishedQueue.{messageDue, SameMembers, order-same}
+use Rattle.theory.proofs.PublishedQueue.{SameMembers, order-same}
 use Rattle.theory.proofs.PublishedRun.{SentAs, RankedSent, Twin, one-rank, copied-ok}
 use Rattle.theory.proofs.PublishedCall.{heardHere, newHere, ticks, limits, tables-sound, open-stamp, open-queue, next, news-here, all-reads, all-sent, all-ranked, rest-queue, heard-event, taken-are, verdicts-heard, delivered-is, same-as, stamp-is as station-stamp}
 use Rattle.theory.proofs.LongHear.{plainStamp, plainFrame, longBytes, plain-sound, plain-ok, longEntries, long-hears, long-absorbs}
@@ -88,7 +88,7 @@ narrow-delivery s queue old ok =
     (ap (joined (narrowed (s .modulus))) (long-held-bytes s queue ok rest) ∙ narrow-frames (s .modulus) queue (λ f t. ok f t .r-below))
 
 module _ (s : Setup) (w : World) (sent : List (Option Message)) (call : Call) (node : Node) (v : ℕ) (p : Process)
-    (good : Good s 0 0 w) (legal : Legal s 0 w call node v) (sent-as : SentAs s (w .past) sent) (ranked : RankedSent s (w .past) sent)
+    (good : Good (steady s) 0 0 w) (legal : PlainLegal s 0 w call node v) (sent-as : SentAs s (w .past) sent) (ranked : RankedSent s (w .past) sent)
     (twin : Twin s (w .past) sent (call .node) node p) (station : node .listens ≡ false)
     (now-below : v < longBound) (below : (k : ℕ) (m : Message) → getElem? sent k ≡ some (some m) → m .event .r < longBound)
     (few : length (openedQueue (inputOf node call)) + takenCount (heardOf (inputOf node call) .verdicts) ≤ longMost) where
@@ -120,7 +120,7 @@ module _ (s : Setup) (w : World) (sent : List (Option Message)) (call : Call) (n
   input-is engines =
       let setup-is : doneOf node call .call .setup ≡ s = unfold doneOf in (legal .called .setup-is) in
       let own : doneOf node call .call .own ≡ p .number = unfold doneOf in own-is in
-      let clock-is : doneOf node call .clock ≡ v = done-clock s node call (legal .called) in
+      let clock-is : doneOf node call .clock ≡ v = done-clock (legal .along .called) in
       let sources : doneOf node call .call .sources ≡ call .sources = unfold doneOf in refl in
       let send : doneOf node call .call .send ≡ call .send = unfold doneOf in refl in
       let payload : doneOf node call .call .payload ≡ call .payload = unfold doneOf in refl in
@@ -162,15 +162,15 @@ module _ (s : Setup) (w : World) (sent : List (Option Message)) (call : Call) (n
       one-rank s w sent good sent-as ranked k l m m′ at at′ e
 
   -- as many frames are on the station's shelf as messages in the buffer
-  opened-sorted : Sorted (keyNear s (v % s .modulus)) (openedAt s v node)
+  opened-sorted : Sorted (keyNear s (v % s .modulus)) (openedPlain s v node)
   unfolding before compareFrames
   opened-sorted =
-      sorted-of-chained (keyNear s (v % s .modulus)) (openedAt s v node)
-      (board-opened s (v % s .modulus) (stationLeast s v node) (askingAt s v node) (node .holdback) (batchEntries (call .batch)) (board-at s node call (legal .called)) .ordered)
+      sorted-of-chained (keyNear s (v % s .modulus)) (openedPlain s v node)
+      (receive-opened s (v % s .modulus) (leastPlain s v node) (judgeQuestions s (v % s .modulus)) (node .holdback) (batchEntries (call .batch)) (receive-at s node call (ticks s w sent call node v p good legal sent-as ranked twin station)) .ordered)
 
-  opened-same : openedQueue (inputOf node call) ≡ openedAt s v node
+  opened-same : openedQueue (inputOf node call) ≡ openedPlain s v node
   unfolding openedQueue inputOf
-  opened-same = rw (legal .called .setup-is, legal .called .clock-is, station) refl
+  opened-same = rw (legal .called .setup-is, legal .called .clock-is) refl
 
   opened-length : length (openedQueue (inputOf node call)) ≡ length (p .buffer)
   unfolding inOrder
@@ -179,8 +179,8 @@ module _ (s : Setup) (w : World) (sent : List (Option Message)) (call : Call) (n
       let frames =
       order-same s v (p .buffer) (λ m t. messages-read m (Memᴰ·append-left (newHere sent call p) t)) (twin .single)
       (λ m m′ t t′ e. all-ranked s w sent call node v p good legal sent-as ranked twin station m m′ (Memᴰ·append-left (newHere sent call p) t) (Memᴰ·append-left (newHere sent call p) t′) e)
-      (λ (m : Message). true) (openedAt s v node) opened-sorted
-      (subst (λ (l : List Message). SameMembers (s .modulus) (openedAt s v node) l) (sym every-one) (open-queue s w sent call node v p good legal sent-as ranked twin station)) in
+      (λ (m : Message). true) (openedPlain s v node) opened-sorted
+      (subst (λ (l : List Message). SameMembers (s .modulus) (openedPlain s v node) l) (sym every-one) (open-queue s w sent call node v p good legal sent-as ranked twin station)) in
       ap length (opened-same ∙ frames)
       ∙ (length-map (inOrder (s .epsilon) (select (λ (m : Message). true) (p .buffer))) (reducedFrame (s .modulus))
       ∙ (length-sortBy _ (select (λ (m : Message). true) (p .buffer)) ∙ ap length every-one))
@@ -211,7 +211,7 @@ module _ (s : Setup) (w : World) (sent : List (Option Message)) (call : Call) (n
   -- no question gets a no
   entries-are : batchEntries (here .batch) ≡ longEntries sent (call .sources)
   unfolding batchEntries longBatch
-  entries-are = bundle-entries (longEntry (map longBytes sent)) (call .sources)
+  entries-are = batch-entries (longEntry (map longBytes sent)) (call .sources)
 
   payload-short : length (call .payload) ≤ 32
   payload-short = unfold inputOf in (accepted-input s node call ticking .payload-short)
@@ -224,9 +224,9 @@ module _ (s : Setup) (w : World) (sent : List (Option Message)) (call : Call) (n
       (and-intro (within-intro (in-limits .epsilon-pos) (in-limits .epsilon-most)) (le-leb (s .delta) 64 (in-limits .delta-most))))
       (lt-ltb (p .number) (s .n) (rw (twin .number) (own-below-at s node call ticking)))
 
-  bundle-exact : exactBatch (here .batch) ≡ true
+  batch-exact : exactBatch (here .batch) ≡ true
   unfolding exactBatch longBatch
-  bundle-exact = bundle-ends (longEntry (map longBytes sent)) (call .sources)
+  batch-exact = batch-ends (longEntry (map longBytes sent)) (call .sources)
 
   accepted : firstNo (longCallQuestions here) ≡ 0
   unfolding longCallQuestions askLongSetup askPayload firstNo
@@ -236,7 +236,7 @@ module _ (s : Setup) (w : World) (sent : List (Option Message)) (call : Call) (n
         lt-ltb v longBound now-below,
         eq-eqb (length (here .holdback)) (longHoldbackSize s) (long-size s (map plainFrame (p .buffer)) frames-ok (omega (arith, held-few, length-map (p .buffer) plainFrame))),
         le-leb (length (call .payload)) longestPayload payload-short,
-        bundle-exact,
+        batch-exact,
         le-leb (longestLong (s .epsilon)) (length (here .outgoing)) (omega (arith, length-replicate {A = ℕ} (longestLong (s .epsilon)) 0)),
         le-leb (longHoldbackSize s) (length (here .delivery)) (omega (arith, length-replicate {A = ℕ} (longHoldbackSize s) 0)),
       ) refl
@@ -293,17 +293,17 @@ module _ (s : Setup) (w : World) (sent : List (Option Message)) (call : Call) (n
   unfolding longNotEarly sum readingOf reducedFrame reduced
   not-early m t =
       let there = open-queue s w sent call node v p good legal sent-as ranked twin station .back m t in
-      let opened = board-opened s (v % s .modulus) (stationLeast s v node) (askingAt s v node) (node .holdback) (batchEntries (call .batch)) (board-at s node call (legal .called)) in
+      let opened = receive-opened s (v % s .modulus) (leastPlain s v node) (judgeQuestions s (v % s .modulus)) (node .holdback) (batchEntries (call .batch)) (receive-at s node call (ticks s w sent call node v p good legal sent-as ranked twin station)) in
       let early = early-from s (v % s .modulus) (reducedFrame (s .modulus) m) (every-mem (notEarly s (v % s .modulus)) (opened .early) there) in
       le-leb (m .event .r + m .event .c) (v + (s .epsilon - 1))
       (omega (arith, early, messages-read m (Memᴰ·append-left (newHere sent call p) t)))
 
-  not-overdue : (m : Message) → List·Memᴰ m (p .buffer) → longNotOverdue s (longLeastDue s v (here .tables)) (plainFrame m) ≡ true
-  unfolding longNotOverdue longLeastDue longDue due sum widened
-  not-overdue m t =
-      let later : node .clock < m .event .r + m .event .c + s .delta + s .epsilon = unfold messageDue in (twin .undue m t) in
+  not-expired : (m : Message) → List·Memᴰ m (p .buffer) → longNotExpired s (longLeastDue s v (here .tables)) (plainFrame m) ≡ true
+  unfolding longNotExpired longLeastDue longDue due sum widened
+  not-expired m t =
+      let later : node .clock < messageDue (s .epsilon) (s .delta) m = twin .undue m t in
       rw sound-here
-      (le-leb (v + 1 - (v - p .last .r)) (m .event .r + m .event .c + s .delta + s .epsilon)
+      (le-leb (v + 1 - (v - p .last .r)) (messageDue (s .epsilon) (s .delta) m)
       (omega (arith, step-is, later, twin .clock-is, next s w sent call node v p good legal sent-as ranked twin station)))
 
   apart-here : apart sameOrigin (map plainFrame (p .buffer)) ≡ true
@@ -319,30 +319,30 @@ module _ (s : Setup) (w : World) (sent : List (Option Message)) (call : Call) (n
   all-held : (test : Frame → Bool) → ((m : Message) → List·Memᴰ m (p .buffer) → test (plainFrame m) ≡ true) → every test (longHeld (s .epsilon) (here .holdback)) ≡ true
   all-held test each = rw held-is (every-map test plainFrame (p .buffer) ∙ every-of-mem (λ (m : Message). test (plainFrame m)) (p .buffer) each)
 
-  shelf-sound : longShelfSound here ≡ true
-  unfolding longShelfSound longSoundHoldback
-  shelf-sound =
+  holdback-stays : longHoldbackSound here ≡ true
+  unfolding longHoldbackSound longSoundHoldback
+  holdback-stays =
       let single-here : apart sameOrigin (longHeld (s .epsilon) (here .holdback)) ≡ true = rw held-is apart-here in
       and-intro (le-leb (twoAt (here .holdback) 0) longMost (omega (arith, count-is, held-few, length-map (p .buffer) plainFrame)))
       (and-intro all-pass
       (and-intro single-here
-      (and-intro (all-held (longNotEarly s v) not-early) (all-held (longNotOverdue s (longLeastDue s v (here .tables))) not-overdue))))
+      (and-intro (all-held (longNotEarly s v) not-early) (all-held (longNotExpired s (longLeastDue s v (here .tables))) not-expired))))
 
   opened-is : longOpened here ≡ map plainFrame (p .buffer)
   unfolding longOpened
-  opened-is = cond-true (longHeld (s .epsilon) (here .holdback)) [] shelf-sound ∙ held-is
+  opened-is = cond-true (longHeld (s .epsilon) (here .holdback)) [] holdback-stays ∙ held-is
 
   repair-is : longRepair here ≡ 0
   unfolding longRepair
-  repair-is = rw (sound-here, shelf-sound) refl
+  repair-is = rw (sound-here, holdback-stays) refl
 
   -- what is heard
   numbers-are :
-      numbersOf s (v % s .modulus) (judgeQuestions s (v % s .modulus)) (startHere s v node call) (batchEntries (call .batch))
+      numbersOf s (v % s .modulus) (judgeQuestions s (v % s .modulus)) (startPlain s v node) (batchEntries (call .batch))
       ≡ verdictsOn (p .received) (heardHere sent call)
   numbers-are =
-      sym (hear-verdicts s (v % s .modulus) (judgeQuestions s (v % s .modulus)) (startHere s v node call) (batchEntries (call .batch)))
-      ∙ (sym (ap (λ (h : Heard). h .verdicts) (heard-all s v node call ticking)) ∙ verdicts-heard s w sent call node v p good legal sent-as ranked twin station)
+      sym (hear-verdicts s (v % s .modulus) (judgeQuestions s (v % s .modulus)) (startPlain s v node) (batchEntries (call .batch)))
+      ∙ (sym (ap (λ (h : Heard). h .verdicts) (heard-all s node call ticking)) ∙ verdicts-heard s w sent call node v p good legal sent-as ranked twin station)
 
   heard-is : longHeard here ≡ record { queue = map plainFrame (p .buffer ++ newHere sent call p); verdicts = verdictsOn (p .received) (heardHere sent call) }
   unfolding longHeard
@@ -362,7 +362,7 @@ module _ (s : Setup) (w : World) (sent : List (Option Message)) (call : Call) (n
       ∙ (ap (longAbsorbAll s v (atClock v (openingStamp s (v % s .modulus) (node .tables))) (longEntries sent (call .sources)))
       (ap (λ (h : Heard). h .verdicts) heard-is ∙ sym numbers-are)
       ∙ long-absorbs s v sent in-limits below (openingStamp s (v % s .modulus) (node .tables)) (news-here s w sent call node v p good legal sent-as ranked twin station)))
-      ∙ (own-moved (s .epsilon) v (v % s .modulus) v (absorbAll s (v % s .modulus) (openingStamp s (v % s .modulus) (node .tables)) (batchEntries (call .batch)) (numbersOf s (v % s .modulus) (judgeQuestions s (v % s .modulus)) (startHere s v node call) (batchEntries (call .batch))))
+      ∙ (own-moved (s .epsilon) v (v % s .modulus) v (absorbAll s (v % s .modulus) (openingStamp s (v % s .modulus) (node .tables)) (batchEntries (call .batch)) (numbersOf s (v % s .modulus) (judgeQuestions s (v % s .modulus)) (startPlain s v node) (batchEntries (call .batch))))
       ∙ ap (atClock v) (heard-event s w sent call node v p good legal sent-as ranked twin station))
 
   sent-is : longSent here ≡ cond (call .send) (longEncode (plainFrame (messageOf (s .epsilon) v p (heardHere sent call) (call .payload)))) []
@@ -405,17 +405,17 @@ module _ (s : Setup) (w : World) (sent : List (Option Message)) (call : Call) (n
       (mem-of-select (deliverableBy (s .epsilon) (s .delta) v) (p .buffer ++ newHere sent call p)
       (mem-of-sortBy _ (select (deliverableBy (s .epsilon) (s .delta) v) (p .buffer ++ newHere sent call p)) t) .0)
 
-  handed-ok : (f : Frame) → List·Memᴰ f (map plainFrame delivered) → FrameOk (plainly s) f
-  handed-ok f t =
+  given-ok : (f : Frame) → List·Memᴰ f (map plainFrame delivered) → FrameOk (plainly s) f
+  given-ok f t =
       let (m, there, e) = mem-of-map plainFrame delivered t in
       subst (λ (g : Frame). FrameOk (plainly s) g) (sym e) (delivered-ok m there)
 
   verdicts-long : length (verdictsOn (p .received) (heardHere sent call)) ≡ length (call .sources)
   verdicts-long =
       ap length (sym (verdicts-heard s w sent call node v p good legal sent-as ranked twin station))
-      ∙ (ap (λ (h : Heard). length (h .verdicts)) (heard-all s v node call ticking)
-      ∙ (hear-length s (v % s .modulus) (judgeQuestions s (v % s .modulus)) (startHere s v node call) (batchEntries (call .batch))
-      ∙ (zero-add (length (batchEntries (call .batch))) ∙ legal .lengths)))
+      ∙ (ap (λ (h : Heard). length (h .verdicts)) (heard-all s node call ticking)
+      ∙ (hear-length s (v % s .modulus) (judgeQuestions s (v % s .modulus)) (startPlain s v node) (batchEntries (call .batch))
+      ∙ (zero-add (length (batchEntries (call .batch))) ∙ legal .along .lengths)))
 
   front-same : (old old′ : List ℕ) (k : ℕ) (l : List ℕ) → length l ≡ k → take k (overlay l old) ≡ take k (overlay l old′)
   front-same old old′ k l e =
@@ -448,30 +448,30 @@ module _ (s : Setup) (w : World) (sent : List (Option Message)) (call : Call) (n
         short = payload-short;
       }
 
-  handed-station :
+  given-station :
       (old : List ℕ)
       → held (s .epsilon) (overlay (encodeFrames (map (reducedFrame (s .modulus)) (deliveredAt deliverableBy (s .epsilon) (s .delta) v p (heardHere sent call)))) old)
       ≡ map (reducedFrame (s .modulus)) (deliveredAt deliverableBy (s .epsilon) (s .delta) v p (heardHere sent call))
   unfolding reducedFrame reduced
-  handed-station old =
+  given-station old =
       held-delivery (s .epsilon) (map (reducedFrame (s .modulus)) delivered) old
       (λ f t.
       let (m, there, e) = mem-of-map (reducedFrame (s .modulus)) delivered t in
       subst (λ (g : Frame). length (g .stamp .kn) ≡ width (s .epsilon)) (sym e) (delivered-ok m there .sound .wide))
       (subst (λ (l : List Frame). length l < 65536) (delivered-is s w sent call node v p good legal sent-as ranked twin station)
-      (board-small s (v % s .modulus) (stationLeast s v node) (askingAt s v node) (node .holdback) (batchEntries (call .batch)) (board-at s node call (legal .called))))
+      (receive-small s (v % s .modulus) (leastPlain s v node) (judgeQuestions s (v % s .modulus)) (node .holdback) (batchEntries (call .batch)) (receive-at s node call (ticks s w sent call node v p good legal sent-as ranked twin station))))
 
-  handed-engine :
+  given-engine :
       (old : List ℕ)
       → longHeld (s .epsilon) (overlay (longEncodeFrames (map plainFrame (deliveredAt deliverableBy (s .epsilon) (s .delta) v p (heardHere sent call)))) old)
       ≡ map plainFrame (deliveredAt deliverableBy (s .epsilon) (s .delta) v p (heardHere sent call))
   unfolding overlay
-  handed-engine old =
-      long-held-frames s (map plainFrame delivered) handed-ok (drop (length (longEncodeFrames (map plainFrame delivered))) old)
+  given-engine old =
+      long-held-frames s (map plainFrame delivered) given-ok (drop (length (longEncodeFrames (map plainFrame delivered))) old)
 
   same-here : SameAs s (outcomeOf deliverableBy s sent p v call) (doneOf node call)
   same-here =
-      subst (λ (n : ℕ). SameAs s (outcomeOf deliverableBy s sent p n call) (doneOf node call)) (done-clock s node call (legal .called))
+      subst (λ (n : ℕ). SameAs s (outcomeOf deliverableBy s sent p n call) (doneOf node call)) (done-clock (legal .along .called))
       (same-as s w sent call node v p good legal sent-as ranked twin station)
 
   pub same-long : SameLong s (doneOf node call) (longOutcome s here outcome)
@@ -505,12 +505,12 @@ module _ (s : Setup) (w : World) (sent : List (Option Message)) (call : Call) (n
         frames = station-sent ∙ (narrowed-back message message-ok (call .send) ∙ ap (narrowed (s .modulus)) (sym (take-overlay engine-bytes (here .outgoing))));
         framesRead = station-sent ∙ (rewritten-back message message-ok (call .send) ∙ ap (rewritten s) (sym (take-overlay engine-bytes (here .outgoing))));
         delivered = length-map delivered plainFrame ∙ sym (same .delivered);
-        handouts =
+        deliveries =
             same .delivery
             ∙ ap (λ (l : List ℕ). overlay l (d .call .delivery))
-            (ap encodeFrames (sym narrow-again) ∙ sym (narrow-delivery s (map plainFrame delivered) (here .delivery) handed-ok));
-        handedOut =
+            (ap encodeFrames (sym narrow-again) ∙ sym (narrow-delivery s (map plainFrame delivered) (here .delivery) given-ok));
+        deliveredFrames =
             ap (held (s .epsilon)) (same .delivery)
-            ∙ (handed-station (d .call .delivery)
-            ∙ (sym narrow-again ∙ ap (map (reducedLong (s .modulus))) (sym (handed-engine (here .delivery)))));
+            ∙ (given-station (d .call .delivery)
+            ∙ (sym narrow-again ∙ ap (map (reducedLong (s .modulus))) (sym (given-engine (here .delivery)))));
       }

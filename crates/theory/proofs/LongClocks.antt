@@ -21,7 +21,7 @@ use Rattle.model.specs.Tick.{Input, Output, openedQueue, heardOf, takenCount}
 use Rattle.model.specs.Long.{longBound, longMost, longEncode, longHoldbackSize, longEncodeHoldback, longTick}
 use Rattle.theory.specs.Premises.{largestClock, allowed, keeps, noneStale}
 use Rattle.theory.specs.Demand2.{Published, reduced, outcomeOf, publish, publishAll, publishedStart}
-use Rattle.theory.specs.LongClocks.{Engine, LongYard, longOutput, longAfter, longOf, longActed, longAll, longFresh, longStart, endsBelow, fewIn, holdsFew, LongMatched, LongClocks}
+use Rattle.theory.specs.LongClocks.{Engine, LongGroup, longOutput, longAfter, longOf, longActed, longAll, longFresh, longStart, endsBelow, fewIn, holdsFew, LongMatched, LongClocks}
 use Rattle.lemmas.proofs.LongStamps.{atClock}
 use Rattle.theory.proofs.World.{act-is}
 use Rattle.theory.proofs.Fresh.{every-before, none-stale-before}
@@ -34,7 +34,7 @@ use Rattle.theory.proofs.LongHear.{plainStamp, plainFrame, longBytes}
 use Rattle.theory.proofs.LongCall.{engineOf, longOutcome, here, input-is, long-tick, same-long}
 
 -- the engines that do what the published program does
-abbrev imageOf : Setup → Published → LongYard
+abbrev imageOf : Setup → Published → LongGroup
 imageOf s u = record { engines = map (engineOf s) (u .processes); sent = map longBytes (u .sent) }
 
 -- a call that is no event is made of no engine
@@ -56,7 +56,7 @@ module _ (s : Setup) (w : World) (u : Published) (call : Call) (node : Node) (pa
   p = acting .process
 
   past-is : act w call .past ≡ w .past ++ (doneOf node call ∷ [])
-  past-is = ap (λ (y : World). y .past) (act-is w call node (acting .legal .at))
+  past-is = ap (λ (y : World). y .past) (act-is w call node (acting .legal .along .at))
 
   clock-below : (k : ℕ) (d : Done) → getElem? (w .past ++ (doneOf node call ∷ [])) k ≡ some d → d .clock < longBound
   unfolding endsBelow
@@ -77,7 +77,7 @@ module _ (s : Setup) (w : World) (u : Published) (call : Call) (node : Node) (pa
   few =
       let held : ℕ = length (openedQueue (inputOf node call)) + takenCount (heardOf (inputOf node call) .verdicts) in
       let test : (not (isAccepted (outputOf node call)) || (node .listens || leb held longMost)) ≡ true =
-      subst (λ (o : Option Node). fewIn call o ≡ true) (acting .legal .at) holds in
+      subst (λ (o : Option Node). fewIn call o ≡ true) (acting .legal .along .at) holds in
       elim (or-cases (not (isAccepted (outputOf node call))) (node .listens || leb held longMost) test) [
         | inl q ↦ absurd (clash (acting .legal .called .accepted) (false-of-not (isAccepted (outputOf node call)) q))
         | inr q ↦
@@ -148,19 +148,19 @@ module _ (s : Setup) (w : World) (u : Published) (call : Call) (node : Node) (pa
       ∙ (ap₂ (λ (es : List Engine) (l : List (List ℕ)). record { engines = es; sent = l }) engines-are sent-are ∙ ap (imageOf s) (sym publishes))
 
 -- the engines beside the published program, after the calls made
-pub record Alongside (s : Setup) (start : Published) (engines : LongYard) (w : World) : Type 0 where
+pub record Alongside (s : Setup) (start : Published) (engines : LongGroup) (w : World) : Type 0 where
   paired : Paired s w (publishAll deliverableBy s start (w .past))
   image : longAll engines (w .past) ≡ imageOf s (publishAll deliverableBy s start (w .past))
   matching : EachEvent (λ l d. LongMatched s (longAll engines l) d) (w .past)
 
-long-snoc : (past : List Done) (yard : LongYard) (d : Done) → longAll yard (past ++ (d ∷ [])) ≡ longActed (longAll yard past) d
+long-snoc : (past : List Done) (workbench : LongGroup) (d : Done) → longAll workbench (past ++ (d ∷ [])) ≡ longActed (longAll workbench past) d
 unfolding longAll
-long-snoc [] yard d = refl
-long-snoc (a ∷ past) yard d = long-snoc past (longActed yard a) d
+long-snoc [] workbench d = refl
+long-snoc (a ∷ past) workbench d = long-snoc past (longActed workbench a) d
 
 -- one call more
 one-alongside :
-    (s : Setup) (x : ℕ) (start : Published) (engines : LongYard) (w : World) (call : Call) → Alongside s start engines w → allowed s x w call ≡ true
+    (s : Setup) (x : ℕ) (start : Published) (engines : LongGroup) (w : World) (call : Call) → Alongside s start engines w → allowed s x w call ≡ true
     → noneStale (act w call .past) ≡ true → endsBelow (act w call .past) ≡ true → fewIn call (getElem? (w .nodes) (call .node)) ≡ true
     → Alongside s start engines (act w call)
 one-alongside s x start engines w call before ok none-old ends holds =
@@ -187,11 +187,11 @@ one-alongside s x start engines w call before ok none-old ends holds =
           image =
               ap (longAll engines) past-is
               ∙ (long-snoc (w .past) engines d
-              ∙ (ap (λ (y : LongYard). longActed y d) (before .image) ∙ (image ∙ ap (imageOf s) (sym published-is))));
+              ∙ (ap (λ (y : LongGroup). longActed y d) (before .image) ∙ (image ∙ ap (imageOf s) (sym published-is))));
           matching =
               subst (EachEvent (λ l e. LongMatched s (longAll engines l) e)) (sym past-is)
               (each-snoc (λ l e. LongMatched s (longAll engines l) e) (w .past) d (before .matching)
-              (λ made. subst (λ (y : LongYard). LongMatched s y d) (sym (before .image)) (last made)));
+              (λ made. subst (λ (y : LongGroup). LongMatched s y d) (sym (before .image)) (last made)));
         }
 
     by-kind : (isEvent (doneOf (more .node) call) ≡ true) ⊎ (isEvent (doneOf (more .node) call) ≡ false) → Alongside s start engines (act w call)
@@ -207,7 +207,7 @@ unfolding endsBelow
 ends-before calls w h = every-before (λ (d : Done). ltb (d .clock) longBound) calls w h
 
 all-alongside :
-    (s : Setup) (x : ℕ) (start : Published) (engines : LongYard) (calls : List Call) (w : World) → Alongside s start engines w → keeps s x w calls ≡ true
+    (s : Setup) (x : ℕ) (start : Published) (engines : LongGroup) (calls : List Call) (w : World) → Alongside s start engines w → keeps s x w calls ≡ true
     → noneStale (runFrom w calls .past) ≡ true → endsBelow (runFrom w calls .past) ≡ true → holdsFew w calls ≡ true
     → Alongside s start engines (runFrom w calls)
 unfolding runFrom keeps holdsFew

@@ -21,7 +21,7 @@ use Rattle.model.specs.Order.{readingOf}
 use Rattle.model.specs.Question.{Question, firstNo}
 use Rattle.model.specs.Holdback.{sameOrigin, notEarly}
 use Rattle.model.specs.Judge.{Heard, askLate, askEarly, askCounts, askRepeat, placeQuestions, judgeQuestions, hearOne, placeFor, absorbBy, absorbAll, absorbEach}
-use Rattle.model.specs.Published.{Event, Message, sameMessage}
+use Rattle.model.specs.Published.{Event, Message, sameMessage, messageDue}
 use Rattle.model.specs.Run.{Source, sentBy}
 use Rattle.model.specs.Long.{longBound, plainly, longEncode, longDecode, longMost, longNotEarly, askLongEarly, askHeld, longPlaceQuestions, longQuestions, longJudge, longHearOne, longHear, longAbsorbBy, longAbsorbAll}
 use Rattle.theory.specs.Demand2.{reduced, reducedFrame}
@@ -34,10 +34,10 @@ use Rattle.lemmas.proofs.RoundTrip.{decode-encode, frame-passes}
 use Rattle.lemmas.proofs.LongFrames.{long-decode-encode, long-frame-passes}
 use Rattle.lemmas.proofs.LongStamps.{atClock, absorb-moved}
 use Rattle.lemmas.proofs.Hearing.{numbersBy}
-use Rattle.lemmas.proofs.Board.{numbersOf}
-use Rattle.theory.proofs.HearLoop.{hear-refused}
+use Rattle.lemmas.proofs.Receiving.{numbersOf}
+use Rattle.theory.proofs.Plain.{hear-refused}
 use Rattle.theory.proofs.PublishedEvent.{ReadsTrue}
-use Rattle.theory.proofs.PublishedQueue.{messageDue, SameMembers}
+use Rattle.theory.proofs.PublishedQueue.{SameMembers}
 use Rattle.theory.proofs.PublishedHear.{Incoming, News, none-left, again, new, decoded, take-queue, members-insert}
 use Rattle.theory.proofs.PublishedRun.{same-parts}
 
@@ -65,13 +65,13 @@ plain-ok s m ok below =
 
 -- what of it is not due before v
 abbrev pub remaining : Setup → ℕ → List Message → List Message
-remaining s v l = select (λ m. not (ltb (messageDue s m) v)) l
+remaining s v l = select (λ m. not (ltb (messageDue (s .epsilon) (s .delta) m) v)) l
 
-remaining-snoc : (s : Setup) (v : ℕ) (l : List Message) (m : Message) → v ≤ messageDue s m → remaining s v (l ++ (m ∷ [])) ≡ remaining s v l ++ (m ∷ [])
+remaining-snoc : (s : Setup) (v : ℕ) (l : List Message) (m : Message) → v ≤ messageDue (s .epsilon) (s .delta) m → remaining s v (l ++ (m ∷ [])) ≡ remaining s v l ++ (m ∷ [])
 unfolding select
 remaining-snoc s v l m h =
-    select-append (λ x. not (ltb (messageDue s x) v)) l (m ∷ [])
-    ∙ ap (λ (r : List Message). remaining s v l ++ r) (select-yes (λ x. not (ltb (messageDue s x) v)) m [] (not-of-false (le-ltb (messageDue s m) v h)))
+    select-append (λ x. not (ltb (messageDue (s .epsilon) (s .delta) x) v)) l (m ∷ [])
+    ∙ ap (λ (r : List Message). remaining s v l ++ r) (select-yes (λ x. not (ltb (messageDue (s .epsilon) (s .delta) x) v)) m [] (not-of-false (le-ltb (messageDue (s .epsilon) (s .delta) m) v h)))
 
 -- a call for v: what is held reads true
 module _ (s : Setup) (v : ℕ) where
@@ -96,8 +96,7 @@ module _ (s : Setup) (v : ℕ) where
   -- an engine holds what is due before v beside what a station's queue has: what passes 13 is no repeat of that
   module _ (m : Message) (queue : List Frame) (buffer : List Message) (true-here : Reads m) (not-late : v ≤ m .event .r + s .delta + s .epsilon)
       (reads : (x : Message) → List·Memᴰ x buffer → Reads x) (members : SameMembers (s .modulus) queue (remaining s v buffer)) where
-    not-before : (x : Message) → sameMessage m x ≡ true → v ≤ messageDue s x
-    unfolding messageDue
+    not-before : (x : Message) → sameMessage m x ≡ true → v ≤ messageDue (s .epsilon) (s .delta) x
     not-before x same = omega (arith, same-parts m x same .1)
 
     repeat-alike : any (sameOrigin (reducedFrame (s .modulus) m)) queue ≡ any (sameOrigin (plainFrame m)) (map plainFrame buffer)
@@ -107,12 +106,12 @@ module _ (s : Setup) (v : ℕ) where
         (λ h.
         let (f, there, same) = any-mem (sameOrigin (reducedFrame (s .modulus) m)) queue h in
         let (x, left, e) = members .into f there in
-        let held = mem-of-select (λ y. not (ltb (messageDue s y) v)) buffer left .0 in
+        let held = mem-of-select (λ y. not (ltb (messageDue (s .epsilon) (s .delta) y) v)) buffer left .0 in
         any-of-mem (sameMessage m) held (sym (origin-alike m x true-here (reads x held)) ∙ (ap (sameOrigin (reducedFrame (s .modulus) m)) (sym e) ∙ same)))
         (λ h.
         let (x, held, same) = any-mem (sameMessage m) buffer h in
         any-of-mem (sameOrigin (reducedFrame (s .modulus) m))
-        (members .back x (mem-select (λ y. not (ltb (messageDue s y) v)) held (not-of-false (le-ltb (messageDue s x) v (not-before x same)))))
+        (members .back x (mem-select (λ y. not (ltb (messageDue (s .epsilon) (s .delta) y) v)) held (not-of-false (le-ltb (messageDue (s .epsilon) (s .delta) x) v (not-before x same)))))
         (origin-alike m x true-here (reads x held) ∙ same))
         ∙ sym (any-map (sameOrigin (plainFrame m)) plainFrame buffer)
 
@@ -246,7 +245,7 @@ module _ (s : Setup) (v : ℕ) (sent : List (Option Message)) (limits : Limits s
       ∙ (long-hears (buffer ++ (m ∷ [])) (numbers ++ (0 ∷ [])) rest
       (subst (λ (q : List Frame). SameMembers (s .modulus) q (remaining s v (buffer ++ (m ∷ [])))) (sym (take-queue s (v % s .modulus) h bytes m (decoded s v sent k m bytes a) e))
       (subst (λ (l : List Message). SameMembers (s .modulus) (insertAt (placeFor s (v % s .modulus) (h .queue) (reducedFrame (s .modulus) m)) (reducedFrame (s .modulus) m) (h .queue)) l)
-      (sym (remaining-snoc s v buffer m (unfold messageDue in (omega (arith, a .not-late)))))
+      (sym (remaining-snoc s v buffer m (omega (arith, a .not-late))))
       (members-insert (s .modulus) (placeFor s (v % s .modulus) (h .queue) (reducedFrame (s .modulus) m)) m (h .queue) (remaining s v buffer) same)))
       (λ x t.
       elim (List·Memᴰ·append-cases buffer t) [

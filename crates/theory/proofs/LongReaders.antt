@@ -54,11 +54,11 @@ unfolding longEncodeFrames longHeld longHeldBytes
 frames-front epsilon bytes long below all =
     front-by (longFrameEnd epsilon) (longFormed epsilon) (longDecode epsilon) longEncode (long-encode-decode epsilon) bytes long below all
 
-shelf-front :
+long-holdback-front :
     (s : Setup) (v least : ℕ) (bytes : List ℕ) → 2 ≤ length bytes → every (λ b. ltb b 256) bytes ≡ true → longSoundHoldback s v least bytes ≡ true
     → overlay (longEncodeFrames (longHeld (s .epsilon) bytes)) bytes ≡ bytes
 unfolding longSoundHoldback
-shelf-front s v least bytes long below h =
+long-holdback-front s v least bytes long below h =
     let all = and-left (every (longPasses s) (longHeldBytes (s .epsilon) bytes)) _ (and-right (leb (twoAt bytes 0) longMost) _ h) in
     frames-front (s .epsilon) bytes long below
     (every-mono (longPasses s) (longFormed (s .epsilon)) (longHeldBytes (s .epsilon) bytes) (λ b p. long-passes-formed s b p) all)
@@ -72,7 +72,7 @@ demand2-long-codec s own =
       frameWritten = written-read (plainly s) valid (longFormed (s .epsilon)) (longDecode (s .epsilon)) longEncode (long-coding s own);
       holdbackRead = λ size queue fits few. held-fitting (s .epsilon) queue (replicate (size - length (longEncodeFrames queue)) 0) fits;
       holdbackWritten = λ v least bytes size below h zeros.
-          whole-by (longHoldbackSize s) (longEncodeFrames (longHeld (s .epsilon) bytes)) bytes (shelf-front s v least bytes (omega arith) below h) zeros;
+          whole-by (longHoldbackSize s) (longEncodeFrames (longHeld (s .epsilon) bytes)) bytes (long-holdback-front s v least bytes (omega arith) below h) zeros;
       deliveryRead = λ queue old fits few. held-fitting (s .epsilon) queue (drop (length (longEncodeFrames queue)) old) fits;
       deliveryWritten = frames-front (s .epsilon);
     }

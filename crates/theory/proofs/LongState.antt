@@ -19,7 +19,7 @@ use Rattle.model.specs.Batch.{batchEntries}
 use Rattle.model.specs.Question.{firstNo}
 use Rattle.model.specs.Codec.{frameOf}
 use Rattle.model.specs.Tick.{Input, Output, takenCount}
-use Rattle.model.specs.Long.{plainly, longLimits, askLongSetup, longEncode, longDecode, longFormed, longFrameQuestions, longRead, longestLong, longHoldbackSize, longHeldBytes, longHeld, longEncodeFrames, longEncodeHoldback, longQuestions, longHearOne, longHear, longShelfSound, longRepair, longOpened, longHeard, longNewStamp, longSent, longDelivered, longKept, longAcceptance, longTick}
+use Rattle.model.specs.Long.{plainly, longLimits, askLongSetup, longEncode, longDecode, longFormed, longFrameQuestions, longRead, longestLong, longHoldbackSize, longHeldBytes, longHeld, longEncodeFrames, longEncodeHoldback, longQuestions, longHearOne, longHear, longHoldbackSound, longRepair, longOpened, longHeard, longNewStamp, longSent, longDelivered, longKept, longAcceptance, longTick}
 use Rattle.theory.specs.Demand2.{areBytes}
 use Rattle.theory.specs.LongAny.{longHeardBefore, Overlaid, Demand2Long}
 use Rattle.lemmas.proofs.Bounds.{FrameOk}
@@ -167,7 +167,7 @@ module _ (i : Input) (p : LongPassed i) (accepted : longTick i ≡ longAcceptanc
   delivery-fits = omega (arith, long-fits (i .setup) (longDelivered i) (delivered-ok i pos) (delivered-few i pos), p .delivery-room)
 
 pub demand2-long : Demand2Long
-unfolding longRepair longShelfSound
+unfolding longRepair longHoldbackSound
 demand2-long i h =
     let z = sym (demand1-long i .number) ∙ h in
     let p = long-passed i z in
@@ -179,7 +179,7 @@ demand2-long i h =
       taken = taken-is i p a ∙ ap takenCount (sym (verdicts-front i p a));
       delivered = delivered-is i p a;
       delivery = delivered-bytes i p a;
-      handedOut = delivered-frames i p a;
+      deliveredFrames = delivered-frames i p a;
       due = delivered-of i first;
       allDue = delivered-all i first;
       ordered = delivered-ordered i first;
@@ -191,10 +191,10 @@ demand2-long i h =
       boundedQueue = λ k one few. rw (holdback-is i p a) (kept-sound i first k);
       few = few-before i p a;
       fewLeft = rw (left-is i p a) (kept-holds i first .few);
-      shelf = holdback-is i p a ∙ ap (longEncodeHoldback (longHoldbackSize (i .setup))) (sym (left-is i p a));
-      shelfSize =
+      holdback = holdback-is i p a ∙ ap (longEncodeHoldback (longHoldbackSize (i .setup))) (sym (left-is i p a));
+      holdbackSized =
           ap length (holdback-is i p a)
-          ∙ (long-size (i .setup) (longKept i) (kept-holds i first .frames) (kept-holds i first .few) ∙ sym (p .shelf-size));
+          ∙ (long-size (i .setup) (longKept i) (kept-holds i first .frames) (kept-holds i first .few) ∙ sym (p .holdback-sized));
       outgoingKept = rw (sent-is i p a, outgoing-is i p a) (overlaid (longSent i) (i .outgoing) (sent-fits i p a));
       deliveryKept = rw (delivery-is i p a) (overlaid (longEncodeFrames (longDelivered i)) (i .delivery) (delivery-fits i p a));
       verdictsKept = λ bytes.

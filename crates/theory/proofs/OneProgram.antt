@@ -13,24 +13,23 @@ use borrow.Author.Tests.{le-leb, lt-leb, eq-eqb, ne-eqb, eqb-true}
 use Rattle.laws.proofs.Numbers.{eq-or-ne, clash, or-cases, false-of-not}
 use Rattle.laws.proofs.Lists.{select-ext, every-mem, getElem?-mem}
 use Rattle.model.specs.Setup.{Setup}
-use Rattle.model.specs.Published.{Message, Process, deliverable, deliverableBy, inOrder, buffered, deliveredAt, advanced}
+use Rattle.model.specs.Published.{Message, Process, deliverable, deliverableBy, inOrder, buffered, deliveredAt, advanced, messageDue}
 use Rattle.model.specs.Run.{Call, Done, isEvent, runFrom, atStart}
 use Rattle.theory.specs.Premises.{stepsOfOne}
 use Rattle.theory.specs.Demand2.{messagesHeard, Published, Outcome, outcomeOf, publishOn, publish, publishAll, publishedStart, SameAs, Matched, OneProgram, Demand2Ones}
-use Rattle.theory.proofs.PublishedQueue.{messageDue}
-use Rattle.theory.proofs.Demand2.{NoneOverdue, fresh-follow}
+use Rattle.theory.proofs.Demand2.{NoneExpired, fresh-follow}
 
 -- of a message that is not due before v both conditions say the same
-condition-alike : (s : Setup) (v : ℕ) (m : Message) → v ≤ messageDue s m → deliverable (s .epsilon) (s .delta) v m ≡ deliverableBy (s .epsilon) (s .delta) v m
-unfolding deliverable deliverableBy messageDue
+condition-alike : (s : Setup) (v : ℕ) (m : Message) → v ≤ messageDue (s .epsilon) (s .delta) m → deliverable (s .epsilon) (s .delta) v m ≡ deliverableBy (s .epsilon) (s .delta) v m
+unfolding deliverable deliverableBy
 condition-alike s v m h =
-    elim (eq-or-ne v (messageDue s m)) [
-      | inl q ↦ eq-eqb v (messageDue s m) q ∙ sym (le-leb (messageDue s m) v (omega arith))
-      | inr q ↦ ne-eqb v (messageDue s m) q ∙ sym (lt-leb (messageDue s m) v (omega (arith, q)))
+    elim (eq-or-ne v (messageDue (s .epsilon) (s .delta) m)) [
+      | inl q ↦ eq-eqb v (messageDue (s .epsilon) (s .delta) m) q ∙ sym (le-leb (messageDue (s .epsilon) (s .delta) m) v (omega arith))
+      | inr q ↦ ne-eqb v (messageDue (s .epsilon) (s .delta) m) q ∙ sym (lt-leb (messageDue (s .epsilon) (s .delta) m) v (omega (arith, q)))
     ]
 
 -- so where a process holds no message that is due before v, it does the same at v by either
-module _ (s : Setup) (v : ℕ) (p : Process) (messages : List Message) (undue : (m : Message) → List·Memᴰ m (buffered p messages) → v ≤ messageDue s m) where
+module _ (s : Setup) (v : ℕ) (p : Process) (messages : List Message) (undue : (m : Message) → List·Memᴰ m (buffered p messages) → v ≤ messageDue (s .epsilon) (s .delta) m) where
   delivered-alike : deliveredAt deliverable (s .epsilon) (s .delta) v p messages ≡ deliveredAt deliverableBy (s .epsilon) (s .delta) v p messages
   unfolding deliveredAt
   delivered-alike =
@@ -52,7 +51,7 @@ module _ (s : Setup) (v : ℕ) (p : Process) (messages : List Message) (undue : 
 
 outcome-alike :
     (s : Setup) (sent : List (Option Message)) (p : Process) (v : ℕ) (call : Call)
-    → ((m : Message) → List·Memᴰ m (buffered p (messagesHeard sent (call .sources))) → v ≤ messageDue s m)
+    → ((m : Message) → List·Memᴰ m (buffered p (messagesHeard sent (call .sources))) → v ≤ messageDue (s .epsilon) (s .delta) m)
     → outcomeOf deliverable s sent p v call ≡ outcomeOf deliverableBy s sent p v call
 unfolding outcomeOf
 outcome-alike s sent p v call undue =
@@ -70,7 +69,7 @@ outcome-alike s sent p v call undue =
     }
 
 -- one call
-publish-alike : (s : Setup) (u : Published) (d : Done) → (isEvent d ≡ true → NoneOverdue s u d) → publish deliverable s u d ≡ publish deliverableBy s u d
+publish-alike : (s : Setup) (u : Published) (d : Done) → (isEvent d ≡ true → NoneExpired s u d) → publish deliverable s u d ≡ publish deliverableBy s u d
 unfolding publish outcomeOf
 publish-alike s u d undue = go (isEvent d) (getElem? (u .processes) (d .node)) refl refl
   where

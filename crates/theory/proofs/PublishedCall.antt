@@ -12,7 +12,7 @@ use mathlib.Core.Option.{Option, some}
 use lib.Dec.{leb, ltb}
 use lib.ListN.{length, getElem?, length-map}
 use borrow.Author.Tests.{leb-false, eq-eqb}
-use Rattle.laws.specs.Lists.{any, select, apart, overlay, foldLeft}
+use Rattle.laws.specs.Lists.{any, select, apart, overlay}
 use Rattle.laws.proofs.Numbers.{clash, true-or-false, or-left, or-right, or-cases, false-of-no, false-of-not}
 use Rattle.laws.proofs.Lists.{getElem?-lt, getElem?-append, getElem?-snoc-cases, mem-of-map, mem-of-select}
 use Rattle.laws.proofs.Sorted.{lessBy, Sorted, sorted-of-chained, sorted-select, apart-append, apart-select}
@@ -23,26 +23,25 @@ use Rattle.model.specs.Order.{keyNear, compareFrames, before}
 use Rattle.model.specs.Codec.{frameOf}
 use Rattle.model.specs.Batch.{batchEntries}
 use Rattle.model.specs.Holdback.{encodeFrames, encodeHoldback}
-use Rattle.model.specs.Judge.{Asking, Heard, hear, judgeQuestions, absorbAll}
-use Rattle.model.specs.Tick.{Output, holdbackSize, openingStamp, openedQueue, earlyOf, repairOf, heardOf, newStamp, sentBytes, dueBefore, dueNow, deliveredOf, takenCount, acceptance}
-use Rattle.model.specs.Published.{Event, Message, Process, known, rank, sameMessage, newOnes, nextEvent, eventOf, deliverableBy, inOrder, buffered, deliveredAt, advanced, messageOf}
+use Rattle.model.specs.Judge.{Heard, judgeQuestions, absorbAll}
+use Rattle.model.specs.Tick.{Output, holdbackSize, openingStamp, openedQueue, overdueOf, repairOf, heardOf, newStamp, sentBytes, dueBefore, dueNow, deliveredOf, takenCount, acceptance}
+use Rattle.model.specs.Published.{Event, Message, Process, known, rank, sameMessage, newOnes, nextEvent, eventOf, deliverableBy, inOrder, buffered, deliveredAt, advanced, messageOf, messageDue}
 use Rattle.model.specs.Run.{Node, Call, Done, World, inputOf, outputOf, doneOf, nodeAfter}
 use Rattle.theory.specs.Demand2.{reduced, reducedFrame, messagesHeard, verdictsOn, outcomeOf, SameAs}
 use Rattle.theory.specs.Demand3.{isFrom, heardIn}
 use Rattle.lemmas.proofs.Counts.{trimmed-same}
 use Rattle.lemmas.proofs.Bounds.{Limits, Sound}
-use Rattle.lemmas.proofs.Board.{numbersOf, board-heard}
+use Rattle.lemmas.proofs.Receiving.{numbersOf, receive-heard}
 use Rattle.lemmas.proofs.OneTick.{tables-are, outgoing-is, sent-is, verdicts-are}
-use Rattle.theory.proofs.World.{askingAt, leastAt, openedAt, restAt, Memory, Tables, LeftAt, NodeOk, eventFrame, heardAt, Good, Ticks, Legal}
-use Rattle.theory.proofs.Event.{output-tick, accepted-input, setup-at, clock-at, done-clock, after-clock, sound-at, leaves-tables}
-use Rattle.theory.proofs.Boards.{heardOn, deliveredOn, keptOn, board-at, delivery-here, holdback-here, delivers-sorted, leaves-queue}
-use Rattle.theory.proofs.Event as event
-use Rattle.theory.proofs.Opening.{opens-tables, opens-shelf, opens-calm}
-use Rattle.theory.proofs.Entries.{heardTo, startHere, stateAt, asking-is, heard-all, absorbed-all}
+use Rattle.model.specs.Schedule.{steady}
+use Rattle.theory.proofs.World.{Memory, Tables, LeftAt, NodeOk, eventFrame, heardAt, Good, Ticks}
+use Rattle.theory.proofs.Event.{done-clock, after-clock}
+use Rattle.theory.proofs.Entries.{heardTo}
+use Rattle.theory.proofs.Plain.{PlainLegal, output-tick, accepted-input, setup-at, clock-at, sound-at, leaves-tables, event-stamp as plain-event-stamp, leastPlain, openedPlain, startPlain, heardPlain, deliveredPlain, keptPlain, receive-at, heard-all, absorbed-all, delivery-here, holdback-here, delivers-sorted, leaves-queue, opens-tables, opens-holdback, opens-calm, start-plain}
 use Rattle.theory.proofs.Fresh.{settles-fresh}
 use Rattle.theory.proofs.Promises.{around, unreached, entry-at, queue-at}
 use Rattle.theory.proofs.PublishedEvent.{ReadsTrue, absorbEvents, event-stamp, event-wide, Knows, knows-refl, knows-trans, next-knows, next-more}
-use Rattle.theory.proofs.PublishedQueue.{messageDue, before-same, SameMembers, members-select, delivered-members, kept-members, order-same, rank-before}
+use Rattle.theory.proofs.PublishedQueue.{before-same, SameMembers, members-select, delivered-members, kept-members, order-same, rank-before}
 use Rattle.theory.proofs.PublishedHear.{SeenIs, News, same-self, news-stamp, news-queue, news-taken, news-from, news-all, news-sent, news-apart, news-verdicts}
 use Rattle.theory.proofs.PublishedRun.{SentAs, RankedSent, Waits, Twin, heard-snoc, grown-at, waits-reads, waits-next, told, one-rank, copied-ok, news-of}
 
@@ -62,36 +61,36 @@ seen-same sent heard heard′ seen same is =
     }
 
 module _ (s : Setup) (w : World) (sent : List (Option Message)) (call : Call) (node : Node) (v : ℕ) (p : Process)
-    (good : Good s 0 0 w) (legal : Legal s 0 w call node v) (sent-as : SentAs s (w .past) sent) (ranked : RankedSent s (w .past) sent)
+    (good : Good (steady s) 0 0 w) (legal : PlainLegal s 0 w call node v) (sent-as : SentAs s (w .past) sent) (ranked : RankedSent s (w .past) sent)
     (twin : Twin s (w .past) sent (call .node) node p) (station : node .listens ≡ false) where
   pub ticks : Ticks s node call v
   ticks = record { due = legal .called; station = station }
 
   pub limits : Limits s
-  limits = good .group .limits (call .node) node (legal .at)
+  limits = good .group .limits (call .node) node (legal .along .at)
 
   -- no node is as it was before its first call
-  left-here : LeftAt s 0 0 w (call .node) node
-  left-here = go (good .node (call .node) node (legal .at))
+  left-here : LeftAt (steady s) 0 0 w (call .node) node
+  left-here = go (good .node (call .node) node (legal .along .at))
     where
-      go : NodeOk s 0 0 w (call .node) node → LeftAt s 0 0 w (call .node) node
+      go : NodeOk (steady s) 0 0 w (call .node) node → LeftAt (steady s) 0 0 w (call .node) node
       go (inl old) = absurd (omega (arith, old .early, limits .epsilon-pos))
       go (inr left) = left
 
-  memory : Memory s node
+  memory : Memory (steady s) node
   memory = left-here .memory
 
-  pub tables-sound : node .listens ≡ false → Tables s node
+  pub tables-sound : node .listens ≡ false → Tables (steady s) node
   tables-sound x = left-here .stamp x .tables
 
   -- the node and its process at v
   pub open-stamp : openingStamp s (v % s .modulus) (node .tables) ≡ step (call .step) (v % s .modulus) (reduced (s .modulus) (p .last))
   open-stamp =
-      opens-tables s node v (call .step) limits memory (legal .called .turn) (legal .called .step-pos) (legal .called .step-few) (tables-sound station)
+      opens-tables s node call ticks memory (tables-sound station)
       ∙ ap (step (call .step) (v % s .modulus)) (twin .stamp)
 
-  pub open-queue : SameMembers (s .modulus) (openedAt s v node) (p .buffer)
-  open-queue = rw (opens-shelf s node v (call .step) limits memory (legal .called .turn) (legal .called .step-pos) (legal .called .step-few) tables-sound) (twin .queue)
+  pub open-queue : SameMembers (s .modulus) (openedPlain s v node) (p .buffer)
+  open-queue = rw (opens-holdback s node call ticks memory (tables-sound station)) (twin .queue)
 
   open-waits : (m : Message) → List·Memᴰ m (p .buffer) → Waits s v m
   open-waits m t =
@@ -105,18 +104,16 @@ module _ (s : Setup) (w : World) (sent : List (Option Message)) (call : Call) (n
   unfolding any
   heard-start k = or-false (heardAt (w .past) (call .node) k)
 
-  pub news-here : News s v sent (heardTo (w .past) call 0) (startHere s v node call) (batchEntries (call .batch)) (call .sources) (newHere sent call p)
-  unfolding stateAt hear foldLeft
+  pub news-here : News s v sent (heardTo (w .past) call 0) (startPlain s v node) (batchEntries (call .batch)) (call .sources) (newHere sent call p)
   news-here =
-      news-of s w sent good sent-as v (around s 0 0 (settles-fresh s) w call node v good legal) (unreached s 0 0 (settles-fresh s) w call node v good legal station)
-      (batchEntries (call .batch)) (call .sources) (heardTo (w .past) call 0) (startHere s v node call) (p .received)
-      (queue-at s 0 0 (settles-fresh s) w call node v good legal 0 (omega arith))
-      (seen-same sent (heardAt (w .past) (call .node)) (heardTo (w .past) call 0) (p .received) heard-start (twin .received)) (legal .lengths)
-      (entry-at s 0 0 (settles-fresh s) w call node v good legal)
+      news-of s w sent good sent-as v (around (steady s) (steady s) 0 0 (settles-fresh (steady s)) w call node node v good (legal .along)) (unreached (steady s) (steady s) 0 0 (settles-fresh (steady s)) w call node node v good (legal .along) station)
+      (batchEntries (call .batch)) (call .sources) (heardTo (w .past) call 0) (startPlain s v node) (p .received)
+      (start-plain s node call ticks 0 0 (w .past) (heardTo (w .past) call 0) (queue-at (steady s) (steady s) 0 0 (settles-fresh (steady s)) w call node node v good (legal .along) 0 (omega arith)))
+      (seen-same sent (heardAt (w .past) (call .node)) (heardTo (w .past) call 0) (p .received) heard-start (twin .received)) (legal .along .lengths)
+      (entry-at (steady s) (steady s) 0 0 (settles-fresh (steady s)) w call node node v good (legal .along))
 
   -- the new messages
-  new-undue : (m : Message) → List·Memᴰ m (newHere sent call p) → v ≤ messageDue s m
-  unfolding messageDue
+  new-undue : (m : Message) → List·Memᴰ m (newHere sent call p) → v ≤ messageDue (s .epsilon) (s .delta) m
   new-undue m t =
       let (k, bytes, a, first, there) = news-from s v sent news-here m t in
       omega (arith, a .not-late)
@@ -135,9 +132,9 @@ module _ (s : Setup) (w : World) (sent : List (Option Message)) (call : Call) (n
   all-waits m t = elim (List·Memᴰ·append-cases (p .buffer) t) [ inl q ↦ open-waits m q | inr q ↦ new-waits m q ]
 
   -- after a step of one nothing that the process holds is due before v
-  pub none-overdue : call .step ≡ 1 → (m : Message) → List·Memᴰ m (buffered p (heardHere sent call)) → v ≤ messageDue s m
+  pub none-expired : call .step ≡ 1 → (m : Message) → List·Memᴰ m (buffered p (heardHere sent call)) → v ≤ messageDue (s .epsilon) (s .delta) m
   unfolding buffered
-  none-overdue one m t =
+  none-expired one m t =
       elim (List·Memᴰ·append-cases (p .buffer) t) [
         | inl q ↦ omega (arith, twin .undue m q, legal .called .turn, one)
         | inr q ↦ new-undue m q
@@ -175,7 +172,7 @@ module _ (s : Setup) (w : World) (sent : List (Option Message)) (call : Call) (n
   -- what hearing makes of the stamp, with the own event counted, is the new event
   pub heard-event :
       countOwn (s .epsilon) (v % s .modulus)
-      (absorbAll s (v % s .modulus) (openingStamp s (v % s .modulus) (node .tables)) (batchEntries (call .batch)) (numbersOf s (v % s .modulus) (judgeQuestions s (v % s .modulus)) (startHere s v node call) (batchEntries (call .batch))))
+      (absorbAll s (v % s .modulus) (openingStamp s (v % s .modulus) (node .tables)) (batchEntries (call .batch)) (numbersOf s (v % s .modulus) (judgeQuestions s (v % s .modulus)) (startPlain s v node) (batchEntries (call .batch))))
       ≡ reduced (s .modulus) (eventOf (s .epsilon) v p (heardHere sent call))
   unfolding eventOf
   heard-event =
@@ -198,55 +195,52 @@ module _ (s : Setup) (w : World) (sent : List (Option Message)) (call : Call) (n
   pub stamp-is : newStamp (inputOf node call) ≡ reduced (s .modulus) (eventOf (s .epsilon) v p (heardHere sent call))
   unfolding newStamp
   stamp-is =
-      ap (countOwn (inputOf node call .setup .epsilon) (inputOf node call .clock)) (absorbed-all s v node call ticks)
+      ap (countOwn (inputOf node call .setup .epsilon) (inputOf node call .clock)) (absorbed-all s node call ticks)
       ∙ (ap₂ (λ (t : Setup) (u : ℕ). countOwn (t .epsilon) u
-      (absorbAll s (v % s .modulus) (openingStamp s (v % s .modulus) (node .tables)) (batchEntries (call .batch)) (numbersOf s (v % s .modulus) (judgeQuestions s (v % s .modulus)) (startHere s v node call) (batchEntries (call .batch)))))
+      (absorbAll s (v % s .modulus) (openingStamp s (v % s .modulus) (node .tables)) (batchEntries (call .batch)) (numbersOf s (v % s .modulus) (judgeQuestions s (v % s .modulus)) (startPlain s v node) (batchEntries (call .batch)))))
       (setup-at s node call (legal .called)) (clock-at s node call (legal .called))
       ∙ heard-event)
 
-  pub rest-queue : SameMembers (s .modulus) (restAt s v node) (select (λ m. not (ltb (messageDue s m) v)) (p .buffer))
+  pub rest-queue : SameMembers (s .modulus) (startPlain s v node .queue) (select (λ m. not (ltb (messageDue (s .epsilon) (s .delta) m) v)) (p .buffer))
   rest-queue =
-      members-select (s .modulus) (λ f. not (dueBefore s (v % s .modulus) f)) (λ m. not (ltb (messageDue s m) v)) (openedAt s v node) (p .buffer) open-queue
+      members-select (s .modulus) (λ f. not (dueBefore s (v % s .modulus) f)) (λ m. not (ltb (messageDue (s .epsilon) (s .delta) m) v)) (openedPlain s v node) (p .buffer) open-queue
       (λ m t. ap not (before-same s v m (all-reads m (Memᴰ·append-left (newHere sent call p) t))))
 
-  queue-is : SameMembers (s .modulus) (heardOn s v node call .queue) (select (λ m. not (ltb (messageDue s m) v)) (p .buffer) ++ newHere sent call p)
+  queue-is : SameMembers (s .modulus) (heardPlain s v node call .queue) (select (λ m. not (ltb (messageDue (s .epsilon) (s .delta) m) v)) (p .buffer) ++ newHere sent call p)
   queue-is =
-      subst
-      (λ (asking : Asking). SameMembers (s .modulus) (hear s (v % s .modulus) asking (startHere s v node call) (batchEntries (call .batch)) .queue)
-      (select (λ m. not (ltb (messageDue s m) v)) (p .buffer) ++ newHere sent call p))
-      (sym (asking-is s v node call ticks)) (news-queue s v sent (select (λ m. not (ltb (messageDue s m) v)) (p .buffer)) news-here rest-queue)
+      (news-queue s v sent (select (λ m. not (ltb (messageDue (s .epsilon) (s .delta) m) v)) (p .buffer)) news-here rest-queue)
 
-  queue-sorted : Sorted (keyNear s (v % s .modulus)) (heardOn s v node call .queue)
+  queue-sorted : Sorted (keyNear s (v % s .modulus)) (heardPlain s v node call .queue)
   unfolding before compareFrames
   queue-sorted =
-      sorted-of-chained (keyNear s (v % s .modulus)) (heardOn s v node call .queue)
-      (board-heard s (v % s .modulus) (leastAt s v node) (askingAt s v node) (node .holdback) (batchEntries (call .batch)) (board-at s node call (legal .called)) .ordered)
+      sorted-of-chained (keyNear s (v % s .modulus)) (heardPlain s v node call .queue)
+      (receive-heard s (v % s .modulus) (leastPlain s v node) (judgeQuestions s (v % s .modulus)) (node .holdback) (batchEntries (call .batch)) (receive-at s node call ticks) .ordered)
 
   pub delivered-is :
-      deliveredOn s v node call ≡ map (reducedFrame (s .modulus)) (deliveredAt deliverableBy (s .epsilon) (s .delta) v p (heardHere sent call))
+      deliveredPlain s v node call ≡ map (reducedFrame (s .modulus)) (deliveredAt deliverableBy (s .epsilon) (s .delta) v p (heardHere sent call))
   unfolding deliveredAt buffered
   delivered-is =
-      order-same s v all all-reads all-single all-ranked (deliverableBy (s .epsilon) (s .delta) v) (deliveredOn s v node call) (delivers-sorted s node call (legal .called))
-      (delivered-members s v (openedAt s v node) (heardOn s v node call .queue) (p .buffer) (newHere sent call p) all-reads new-undue open-queue queue-is)
+      order-same s v all all-reads all-single all-ranked (deliverableBy (s .epsilon) (s .delta) v) (deliveredPlain s v node call) (delivers-sorted s node call ticks)
+      (delivered-members s v (openedPlain s v node) (heardPlain s v node call .queue) (p .buffer) (newHere sent call p) all-reads new-undue open-queue queue-is)
 
-  kept-is : SameMembers (s .modulus) (keptOn s v node call) (select (λ m. not (deliverableBy (s .epsilon) (s .delta) v m)) all)
-  kept-is = kept-members s v (openedAt s v node) (heardOn s v node call .queue) (p .buffer) (newHere sent call p) all-reads new-undue open-queue queue-is
+  kept-is : SameMembers (s .modulus) (keptPlain s v node call) (select (λ m. not (deliverableBy (s .epsilon) (s .delta) v m)) all)
+  kept-is = kept-members s v (openedPlain s v node) (heardPlain s v node call .queue) (p .buffer) (newHere sent call p) all-reads new-undue open-queue queue-is
 
   pub kept-are :
-      keptOn s v node call
+      keptPlain s v node call
       ≡ map (reducedFrame (s .modulus)) (inOrder (s .epsilon) (advanced deliverableBy (s .epsilon) (s .delta) v p (heardHere sent call) .buffer))
   unfolding advanced buffered
   kept-are =
-      order-same s v all all-reads all-single all-ranked (λ m. not (deliverableBy (s .epsilon) (s .delta) v m)) (keptOn s v node call)
-      (sorted-select (keyNear s (v % s .modulus)) (λ f. not (dueNow s (v % s .modulus) f)) (heardOn s v node call .queue) queue-sorted) kept-is
+      order-same s v all all-reads all-single all-ranked (λ m. not (deliverableBy (s .epsilon) (s .delta) v m)) (keptPlain s v node call)
+      (sorted-select (keyNear s (v % s .modulus)) (λ f. not (dueNow s (v % s .modulus) f)) (heardPlain s v node call .queue) queue-sorted) kept-is
 
   -- the message is the frame
   pub frame-is :
-      reducedFrame (s .modulus) (messageOf (s .epsilon) v p (heardHere sent call) (call .payload)) ≡ eventFrame s (doneOf node call)
+      reducedFrame (s .modulus) (messageOf (s .epsilon) v p (heardHere sent call) (call .payload)) ≡ eventFrame (steady s) (doneOf node call)
   unfolding reducedFrame messageOf eventFrame frameOf doneOf
   frame-is =
-      let stamps : reduced (s .modulus) (eventOf (s .epsilon) v p (heardHere sent call)) ≡ eventFrame s (doneOf node call) .stamp =
-      sym stamp-is ∙ sym (event.event-stamp s node call ticks) in
+      let stamps : reduced (s .modulus) (eventOf (s .epsilon) v p (heardHere sent call)) ≡ eventFrame (steady s) (doneOf node call) .stamp =
+      sym stamp-is ∙ sym (plain-event-stamp s node call ticks) in
       λ i. record { station = twin .number i; stamp = stamps i; payload = call .payload }
 
   -- what is sent
@@ -269,23 +263,23 @@ module _ (s : Setup) (w : World) (sent : List (Option Message)) (call : Call) (n
 
   no-repair : repairOf (inputOf node call .setup) (inputOf node call .clock) (inputOf node call .tables) (inputOf node call .holdback) ≡ 0
   unfolding inputOf
-  no-repair = rw (legal .called .setup-is, legal .called .clock-is) (opens-calm s node v (call .step) limits memory (legal .called .turn) (legal .called .step-pos) (legal .called .step-few) tables-sound station)
+  no-repair = rw (legal .called .setup-is, legal .called .clock-is) (opens-calm s node call ticks memory (tables-sound station))
 
   pub taken-are : takenCount (heardOf (inputOf node call) .verdicts) ≡ length (newHere sent call p)
   unfolding takenCount select
   taken-are =
-      ap (λ (h : Heard). takenCount (h .verdicts)) (heard-all s v node call ticks)
+      ap (λ (h : Heard). takenCount (h .verdicts)) (heard-all s node call ticks)
       ∙ (news-taken s v sent news-here ∙ zero-add (length (newHere sent call p)))
 
   pub verdicts-heard : heardOf (inputOf node call) .verdicts ≡ verdictsOn (p .received) (heardHere sent call)
   verdicts-heard =
-      ap (λ (h : Heard). h .verdicts) (heard-all s v node call ticks)
+      ap (λ (h : Heard). h .verdicts) (heard-all s node call ticks)
       ∙ news-verdicts s v sent (p .received) (told s w sent good sent-as) news-here
       (seen-same sent (heardAt (w .past) (call .node)) (heardTo (w .past) call 0) (p .received) heard-start (twin .received))
 
-  delivered-length : length (deliveredOf (inputOf node call)) ≡ length (deliveredOn s v node call)
-  unfolding deliveredOf earlyOf heardOf openedQueue inputOf
-  delivered-length = rw (legal .called .setup-is, legal .called .clock-is, station) refl
+  delivered-length : length (deliveredOf (inputOf node call)) ≡ length (deliveredPlain s v node call)
+  unfolding deliveredOf overdueOf heardOf openedQueue inputOf
+  delivered-length = rw (legal .called .setup-is, legal .called .clock-is) refl
 
   pub same-as : SameAs s (outcomeOf deliverableBy s sent p (doneOf node call .clock) call) (doneOf node call)
   unfolding outcomeOf doneOf acceptance inputOf
@@ -293,16 +287,16 @@ module _ (s : Setup) (w : World) (sent : List (Option Message)) (call : Call) (n
       let i = inputOf node call in
       let a = accepted-input s node call ticks in
       let out = output-tick s node call ticks in
-      subst (λ (n : ℕ). SameAs s (outcomeOf deliverableBy s sent p n call) (doneOf node call)) (sym (done-clock s node call (legal .called)))
+      subst (λ (n : ℕ). SameAs s (outcomeOf deliverableBy s sent p n call) (doneOf node call)) (sym (done-clock (legal .along .called)))
       (record {
         tables = ap (λ (o : Output). o .answer .tables) out ∙ (tables-are i a ∙ ap widened stamp-is);
         repair = ap (λ (o : Output). o .answer .repair) (out ∙ a .accepted) ∙ no-repair;
         taken = ap (λ (o : Output). o .answer .taken) (out ∙ a .accepted) ∙ taken-are;
         verdicts = ap (λ (o : Output). o .verdicts) out ∙ (verdicts-are i a ∙ ap (λ (l : List ℕ). overlay l (call .verdicts)) verdicts-heard);
-        holdback = holdback-here s node call (legal .called) ∙ ap (encodeHoldback (holdbackSize s)) kept-are;
+        holdback = holdback-here s node call ticks ∙ ap (encodeHoldback (holdbackSize s)) kept-are;
         outgoing = ap (λ (o : Output). o .outgoing) out ∙ (outgoing-is i a ∙ ap (λ (l : List ℕ). overlay l (call .outgoing)) sent-are);
         sent = ap (λ (o : Output). o .answer .sent) out ∙ (sent-is i a ∙ ap length sent-are);
-        delivery = delivery-here s node call (legal .called) ∙ ap (λ (l : List Frame). overlay (encodeFrames l) (call .delivery)) delivered-is;
+        delivery = delivery-here s node call ticks ∙ ap (λ (l : List Frame). overlay (encodeFrames l) (call .delivery)) delivered-is;
         delivered =
             ap (λ (o : Output). o .answer .delivered) (out ∙ a .accepted)
             ∙ (delivered-length ∙ (ap length delivered-is ∙ length-map (deliveredAt deliverableBy (s .epsilon) (s .delta) v p (heardHere sent call)) (reducedFrame (s .modulus))));
@@ -383,10 +377,10 @@ module _ (s : Setup) (w : World) (sent : List (Option Message)) (call : Call) (n
             | inr e ↦ Memᴰ·append-right (p .received) (news-all s v sent news-here k m at-old (heard-start k ∙ e) h)
           ]
 
-  kept-later : (m : Message) → List·Memᴰ m (select (λ m. not (deliverableBy (s .epsilon) (s .delta) v m)) all) → v < messageDue s m
-  unfolding deliverableBy messageDue
+  kept-later : (m : Message) → List·Memᴰ m (select (λ m. not (deliverableBy (s .epsilon) (s .delta) v m)) all) → v < messageDue (s .epsilon) (s .delta) m
+  unfolding deliverableBy
   kept-later m t =
-      leb-false (messageDue s m) v (false-of-not (leb (messageDue s m) v) (mem-of-select (λ m. not (deliverableBy (s .epsilon) (s .delta) v m)) all t .1))
+      leb-false (messageDue (s .epsilon) (s .delta) m) v (false-of-not (leb (messageDue (s .epsilon) (s .delta) m) v) (mem-of-select (λ m. not (deliverableBy (s .epsilon) (s .delta) v m)) all t .1))
 
   kept-waits : (m : Message) → List·Memᴰ m (select (λ m. not (deliverableBy (s .epsilon) (s .delta) v m)) all) → Waits s v m
   kept-waits m t = all-waits m (mem-of-select (λ m. not (deliverableBy (s .epsilon) (s .delta) v m)) all t .0)
@@ -408,15 +402,15 @@ module _ (s : Setup) (w : World) (sent : List (Option Message)) (call : Call) (n
   twin-moves x x-is =
       record {
         number = unfold nodeAfter in (twin .number);
-        clock-is = new-clock ∙ sym (after-clock s node call (legal .called));
+        clock-is = new-clock ∙ sym (after-clock (legal .along .called));
         wide = unfold eventOf in (event-wide (s .epsilon) v (p .last ∷ map (λ (m : Message). m .event) (newHere sent call p)));
         stamp = leaves-tables s node call ticks ∙ stamp-is;
         queue =
             subst (λ (l : List Frame). SameMembers (s .modulus) l (select (λ m. not (deliverableBy (s .epsilon) (s .delta) v m)) all))
-            (sym (leaves-queue s node call (legal .called))) kept-is;
+            (sym (leaves-queue s node call ticks)) kept-is;
         single = apart-select sameMessage (λ m. not (deliverableBy (s .epsilon) (s .delta) v m)) all all-single;
-        waiting = λ m t. subst (λ (n : ℕ). Waits s n m) (sym (after-clock s node call (legal .called))) (kept-waits m t);
-        undue = λ m t. subst (λ (n : ℕ). n < messageDue s m) (sym (after-clock s node call (legal .called))) (kept-later m t);
+        waiting = λ m t. subst (λ (n : ℕ). Waits s n m) (sym (after-clock (legal .along .called))) (kept-waits m t);
+        undue = λ m t. subst (λ (n : ℕ). n < messageDue (s .epsilon) (s .delta) m) (sym (after-clock (legal .along .called))) (kept-later m t);
         from-received = kept-received;
         received = seen-next x;
         knows = λ k m d at d-at here.

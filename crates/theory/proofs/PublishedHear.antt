@@ -30,9 +30,10 @@ use Rattle.theory.specs.Demand3.{isFrom}
 use Rattle.lemmas.proofs.Bounds.{FrameOk}
 use Rattle.lemmas.proofs.RoundTrip.{decode-encode}
 use Rattle.lemmas.proofs.Hearing.{numbersBy}
-use Rattle.lemmas.proofs.Board.{numbersOf, hear-one-verdict}
+use Rattle.lemmas.proofs.Receiving.{numbersOf, hear-one-verdict}
 use Rattle.lemmas.proofs.OneTick.{taken-more}
-use Rattle.theory.proofs.HearLoop.{some-inj, hear-taken, hear-refused}
+use Rattle.theory.proofs.HearLoop.{some-inj}
+use Rattle.theory.proofs.Plain.{hear-taken, hear-refused}
 use Rattle.theory.proofs.PublishedEvent.{absorbEvents}
 use Rattle.theory.proofs.PublishedQueue.{SameMembers}
 

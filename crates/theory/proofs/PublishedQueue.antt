@@ -23,7 +23,7 @@ use Rattle.model.specs.Timestamp.{countAt, sum}
 use Rattle.model.specs.Frame.{Frame}
 use Rattle.model.specs.Order.{readingOf, keyBy, key, keyNear, countsDown, due, dueNear}
 use Rattle.model.specs.Tick.{dueBefore, dueNow}
-use Rattle.model.specs.Published.{Event, Message, known, rank, less, deliverableBy, inOrder, sameMessage}
+use Rattle.model.specs.Published.{Event, Message, known, rank, less, deliverableBy, inOrder, sameMessage, messageDue}
 use Rattle.theory.specs.Demand2.{reduced, reducedFrame}
 use Rattle.lemmas.proofs.Bounds.{Sound}
 use Rattle.lemmas.proofs.Counts.{length-down, down-places}
@@ -72,31 +72,27 @@ unfolding keyNear readingOf reducedFrame reduced
 less-frames s v m m′ t t′ h =
     less-keys s v (s .modulus) (readingOf s (v % s .modulus) (reducedFrame (s .modulus) m)) (readingOf s (v % s .modulus) (reducedFrame (s .modulus) m′)) m m′ t t′ h
 
--- when a message is due
-unfoldable pub messageDue : Setup → Message → ℕ
-messageDue s m = m .event .r + m .event .c + s .delta + s .epsilon
-
 -- due before v, and at v, both ways of saying it
-due-reads : (s : Setup) (v : ℕ) (m : Message) → ReadsTrue (s .epsilon) (s .modulus) v (m .event .r) → dueNear s (v % s .modulus) (reducedFrame (s .modulus) m) + v ≡ s .modulus + messageDue s m
-unfolding dueNear due sum readingOf reducedFrame reduced messageDue
+due-reads : (s : Setup) (v : ℕ) (m : Message) → ReadsTrue (s .epsilon) (s .modulus) v (m .event .r) → dueNear s (v % s .modulus) (reducedFrame (s .modulus) m) + v ≡ s .modulus + messageDue (s .epsilon) (s .delta) m
+unfolding dueNear due sum readingOf reducedFrame reduced
 due-reads s v m t = omega arith
 
-pub before-same : (s : Setup) (v : ℕ) (m : Message) → ReadsTrue (s .epsilon) (s .modulus) v (m .event .r) → dueBefore s (v % s .modulus) (reducedFrame (s .modulus) m) ≡ ltb (messageDue s m) v
+pub before-same : (s : Setup) (v : ℕ) (m : Message) → ReadsTrue (s .epsilon) (s .modulus) v (m .event .r) → dueBefore s (v % s .modulus) (reducedFrame (s .modulus) m) ≡ ltb (messageDue (s .epsilon) (s .delta) m) v
 unfolding dueBefore
 before-same s v m t =
-    elim (lt-or-ge (messageDue s m) v) [
-      | inl q ↦ lt-ltb (dueNear s (v % s .modulus) (reducedFrame (s .modulus) m)) (s .modulus) (omega (arith, due-reads s v m t)) ∙ sym (lt-ltb (messageDue s m) v q)
-      | inr q ↦ le-ltb (dueNear s (v % s .modulus) (reducedFrame (s .modulus) m)) (s .modulus) (omega (arith, due-reads s v m t)) ∙ sym (le-ltb (messageDue s m) v q)
+    elim (lt-or-ge (messageDue (s .epsilon) (s .delta) m) v) [
+      | inl q ↦ lt-ltb (dueNear s (v % s .modulus) (reducedFrame (s .modulus) m)) (s .modulus) (omega (arith, due-reads s v m t)) ∙ sym (lt-ltb (messageDue (s .epsilon) (s .delta) m) v q)
+      | inr q ↦ le-ltb (dueNear s (v % s .modulus) (reducedFrame (s .modulus) m)) (s .modulus) (omega (arith, due-reads s v m t)) ∙ sym (le-ltb (messageDue (s .epsilon) (s .delta) m) v q)
     ]
 
-pub now-same : (s : Setup) (v : ℕ) (m : Message) → ReadsTrue (s .epsilon) (s .modulus) v (m .event .r) → dueNow s (v % s .modulus) (reducedFrame (s .modulus) m) ≡ eqb (messageDue s m) v
+pub now-same : (s : Setup) (v : ℕ) (m : Message) → ReadsTrue (s .epsilon) (s .modulus) v (m .event .r) → dueNow s (v % s .modulus) (reducedFrame (s .modulus) m) ≡ eqb (messageDue (s .epsilon) (s .delta) m) v
 unfolding dueNow
 now-same s v m t =
-    elim (eq-or-ne (messageDue s m) v) [
-      | inl q ↦ eq-eqb (dueNear s (v % s .modulus) (reducedFrame (s .modulus) m)) (s .modulus) (omega (arith, due-reads s v m t)) ∙ sym (eq-eqb (messageDue s m) v q)
+    elim (eq-or-ne (messageDue (s .epsilon) (s .delta) m) v) [
+      | inl q ↦ eq-eqb (dueNear s (v % s .modulus) (reducedFrame (s .modulus) m)) (s .modulus) (omega (arith, due-reads s v m t)) ∙ sym (eq-eqb (messageDue (s .epsilon) (s .delta) m) v q)
       | inr q ↦
           ne-eqb (dueNear s (v % s .modulus) (reducedFrame (s .modulus) m)) (s .modulus) (λ z. q (omega (arith, due-reads s v m t)))
-          ∙ sym (ne-eqb (messageDue s m) v q)
+          ∙ sym (ne-eqb (messageDue (s .epsilon) (s .delta) m) v q)
     ]
 
 -- the queue holds the frames of the buffered messages and no others
@@ -148,63 +144,63 @@ members-alike B queue x y to from same =
 -- that are not due before v, and the new ones
 module _ (s : Setup) (v : ℕ) (opened queue : List Frame) (buffer fresh : List Message)
     (reads : (m : Message) → List·Memᴰ m (buffer ++ fresh) → ReadsTrue (s .epsilon) (s .modulus) v (m .event .r))
-    (undue : (m : Message) → List·Memᴰ m fresh → v ≤ messageDue s m)
+    (undue : (m : Message) → List·Memᴰ m fresh → v ≤ messageDue (s .epsilon) (s .delta) m)
     (old : SameMembers (s .modulus) opened buffer)
-    (all : SameMembers (s .modulus) queue (select (λ m. not (ltb (messageDue s m) v)) buffer ++ fresh)) where
+    (all : SameMembers (s .modulus) queue (select (λ m. not (ltb (messageDue (s .epsilon) (s .delta) m) v)) buffer ++ fresh)) where
   abbrev rest : List Message
-  rest = select (λ m. not (ltb (messageDue s m) v)) buffer ++ fresh
+  rest = select (λ m. not (ltb (messageDue (s .epsilon) (s .delta) m) v)) buffer ++ fresh
 
   -- what is not due before v
-  rest-late : (m : Message) → List·Memᴰ m rest → List·Memᴰ m (buffer ++ fresh) × (v ≤ messageDue s m)
+  rest-late : (m : Message) → List·Memᴰ m rest → List·Memᴰ m (buffer ++ fresh) × (v ≤ messageDue (s .epsilon) (s .delta) m)
   rest-late m t =
-      elim (List·Memᴰ·append-cases (select (λ m. not (ltb (messageDue s m) v)) buffer) t) [
+      elim (List·Memᴰ·append-cases (select (λ m. not (ltb (messageDue (s .epsilon) (s .delta) m) v)) buffer) t) [
         | inl q ↦
-            let (there, un) = mem-of-select (λ m. not (ltb (messageDue s m) v)) buffer q in
-            (Memᴰ·append-left fresh there, ltb-false (messageDue s m) v (false-of-not (ltb (messageDue s m) v) un))
+            let (there, un) = mem-of-select (λ m. not (ltb (messageDue (s .epsilon) (s .delta) m) v)) buffer q in
+            (Memᴰ·append-left fresh there, ltb-false (messageDue (s .epsilon) (s .delta) m) v (false-of-not (ltb (messageDue (s .epsilon) (s .delta) m) v) un))
         | inr q ↦ (Memᴰ·append-right buffer q, undue m q)
       ]
 
-  late-rest : (m : Message) → List·Memᴰ m (buffer ++ fresh) → v ≤ messageDue s m → List·Memᴰ m rest
+  late-rest : (m : Message) → List·Memᴰ m (buffer ++ fresh) → v ≤ messageDue (s .epsilon) (s .delta) m → List·Memᴰ m rest
   late-rest m t h =
       elim (List·Memᴰ·append-cases buffer t) [
-        | inl q ↦ Memᴰ·append-left fresh (mem-select (λ m. not (ltb (messageDue s m) v)) q (not-of-false (le-ltb (messageDue s m) v h)))
-        | inr q ↦ Memᴰ·append-right (select (λ m. not (ltb (messageDue s m) v)) buffer) q
+        | inl q ↦ Memᴰ·append-left fresh (mem-select (λ m. not (ltb (messageDue (s .epsilon) (s .delta) m) v)) q (not-of-false (le-ltb (messageDue (s .epsilon) (s .delta) m) v h)))
+        | inr q ↦ Memᴰ·append-right (select (λ m. not (ltb (messageDue (s .epsilon) (s .delta) m) v)) buffer) q
       ]
 
-  now-agrees : (m : Message) → List·Memᴰ m rest → dueNow s (v % s .modulus) (reducedFrame (s .modulus) m) ≡ eqb (messageDue s m) v
+  now-agrees : (m : Message) → List·Memᴰ m rest → dueNow s (v % s .modulus) (reducedFrame (s .modulus) m) ≡ eqb (messageDue (s .epsilon) (s .delta) m) v
   now-agrees m t = now-same s v m (reads m (rest-late m t .0))
 
   -- what is delivered
   pub delivered-members :
       SameMembers (s .modulus) (select (dueBefore s (v % s .modulus)) opened ++ select (dueNow s (v % s .modulus)) queue)
       (select (deliverableBy (s .epsilon) (s .delta) v) (buffer ++ fresh))
-  unfolding deliverableBy messageDue
+  unfolding deliverableBy
   delivered-members =
       members-alike (s .modulus) (select (dueBefore s (v % s .modulus)) opened ++ select (dueNow s (v % s .modulus)) queue)
-      (select (λ m. ltb (messageDue s m) v) buffer ++ select (λ m. eqb (messageDue s m) v) rest)
+      (select (λ m. ltb (messageDue (s .epsilon) (s .delta) m) v) buffer ++ select (λ m. eqb (messageDue (s .epsilon) (s .delta) m) v) rest)
       (select (deliverableBy (s .epsilon) (s .delta) v) (buffer ++ fresh))
       (λ m t.
-      elim (List·Memᴰ·append-cases (select (λ m. ltb (messageDue s m) v) buffer) t) [
+      elim (List·Memᴰ·append-cases (select (λ m. ltb (messageDue (s .epsilon) (s .delta) m) v) buffer) t) [
         | inl q ↦
-            let (there, h) = mem-of-select (λ m. ltb (messageDue s m) v) buffer q in
-            mem-select (deliverableBy (s .epsilon) (s .delta) v) (Memᴰ·append-left fresh there) (le-leb (messageDue s m) v (omega (arith, ltb-true (messageDue s m) v h)))
+            let (there, h) = mem-of-select (λ m. ltb (messageDue (s .epsilon) (s .delta) m) v) buffer q in
+            mem-select (deliverableBy (s .epsilon) (s .delta) v) (Memᴰ·append-left fresh there) (le-leb (messageDue (s .epsilon) (s .delta) m) v (omega (arith, ltb-true (messageDue (s .epsilon) (s .delta) m) v h)))
         | inr q ↦
-            let (there, h) = mem-of-select (λ m. eqb (messageDue s m) v) rest q in
-            mem-select (deliverableBy (s .epsilon) (s .delta) v) (rest-late m there .0) (le-leb (messageDue s m) v (omega (arith, eqb-true (messageDue s m) v h)))
+            let (there, h) = mem-of-select (λ m. eqb (messageDue (s .epsilon) (s .delta) m) v) rest q in
+            mem-select (deliverableBy (s .epsilon) (s .delta) v) (rest-late m there .0) (le-leb (messageDue (s .epsilon) (s .delta) m) v (omega (arith, eqb-true (messageDue (s .epsilon) (s .delta) m) v h)))
       ])
       (λ m t.
       let (there, h) = mem-of-select (deliverableBy (s .epsilon) (s .delta) v) (buffer ++ fresh) t in
-      let by : messageDue s m ≤ v = leb-true (messageDue s m) v h in
-      elim (lt-or-ge (messageDue s m) v) [
-        | inl q ↦ Memᴰ·append-left (select (λ m. eqb (messageDue s m) v) rest) (mem-select (λ m. ltb (messageDue s m) v) (buffered m there q) (lt-ltb (messageDue s m) v q))
-        | inr q ↦ Memᴰ·append-right (select (λ m. ltb (messageDue s m) v) buffer) (mem-select (λ m. eqb (messageDue s m) v) (late-rest m there q) (eq-eqb (messageDue s m) v (omega arith)))
+      let by : messageDue (s .epsilon) (s .delta) m ≤ v = leb-true (messageDue (s .epsilon) (s .delta) m) v h in
+      elim (lt-or-ge (messageDue (s .epsilon) (s .delta) m) v) [
+        | inl q ↦ Memᴰ·append-left (select (λ m. eqb (messageDue (s .epsilon) (s .delta) m) v) rest) (mem-select (λ m. ltb (messageDue (s .epsilon) (s .delta) m) v) (buffered m there q) (lt-ltb (messageDue (s .epsilon) (s .delta) m) v q))
+        | inr q ↦ Memᴰ·append-right (select (λ m. ltb (messageDue (s .epsilon) (s .delta) m) v) buffer) (mem-select (λ m. eqb (messageDue (s .epsilon) (s .delta) m) v) (late-rest m there q) (eq-eqb (messageDue (s .epsilon) (s .delta) m) v (omega arith)))
       ])
       (members-append (s .modulus) (select (dueBefore s (v % s .modulus)) opened) (select (dueNow s (v % s .modulus)) queue)
-      (select (λ m. ltb (messageDue s m) v) buffer) (select (λ m. eqb (messageDue s m) v) rest)
-      (members-select (s .modulus) (dueBefore s (v % s .modulus)) (λ m. ltb (messageDue s m) v) opened buffer old (λ m t. before-same s v m (reads m (Memᴰ·append-left fresh t))))
-      (members-select (s .modulus) (dueNow s (v % s .modulus)) (λ m. eqb (messageDue s m) v) queue rest all now-agrees))
+      (select (λ m. ltb (messageDue (s .epsilon) (s .delta) m) v) buffer) (select (λ m. eqb (messageDue (s .epsilon) (s .delta) m) v) rest)
+      (members-select (s .modulus) (dueBefore s (v % s .modulus)) (λ m. ltb (messageDue (s .epsilon) (s .delta) m) v) opened buffer old (λ m t. before-same s v m (reads m (Memᴰ·append-left fresh t))))
+      (members-select (s .modulus) (dueNow s (v % s .modulus)) (λ m. eqb (messageDue (s .epsilon) (s .delta) m) v) queue rest all now-agrees))
     where
-      buffered : (m : Message) → List·Memᴰ m (buffer ++ fresh) → messageDue s m < v → List·Memᴰ m buffer
+      buffered : (m : Message) → List·Memᴰ m (buffer ++ fresh) → messageDue (s .epsilon) (s .delta) m < v → List·Memᴰ m buffer
       buffered m t h =
           elim (List·Memᴰ·append-cases buffer t) [
             | inl q ↦ q
@@ -215,20 +211,20 @@ module _ (s : Setup) (v : ℕ) (opened queue : List Frame) (buffer fresh : List 
   pub kept-members :
       SameMembers (s .modulus) (select (λ f. not (dueNow s (v % s .modulus) f)) queue)
       (select (λ m. not (deliverableBy (s .epsilon) (s .delta) v m)) (buffer ++ fresh))
-  unfolding deliverableBy messageDue
+  unfolding deliverableBy
   kept-members =
-      members-alike (s .modulus) (select (λ f. not (dueNow s (v % s .modulus) f)) queue) (select (λ m. not (eqb (messageDue s m) v)) rest)
+      members-alike (s .modulus) (select (λ f. not (dueNow s (v % s .modulus) f)) queue) (select (λ m. not (eqb (messageDue (s .epsilon) (s .delta) m) v)) rest)
       (select (λ m. not (deliverableBy (s .epsilon) (s .delta) v m)) (buffer ++ fresh))
       (λ m t.
-      let (there, h) = mem-of-select (λ m. not (eqb (messageDue s m) v)) rest t in
-      let ne = eqb-false (messageDue s m) v (false-of-not (eqb (messageDue s m) v) h) in
+      let (there, h) = mem-of-select (λ m. not (eqb (messageDue (s .epsilon) (s .delta) m) v)) rest t in
+      let ne = eqb-false (messageDue (s .epsilon) (s .delta) m) v (false-of-not (eqb (messageDue (s .epsilon) (s .delta) m) v) h) in
       mem-select (λ m. not (deliverableBy (s .epsilon) (s .delta) v m)) (rest-late m there .0)
-      (not-of-false (lt-leb (messageDue s m) v (omega (arith, ne, rest-late m there .1)))))
+      (not-of-false (lt-leb (messageDue (s .epsilon) (s .delta) m) v (omega (arith, ne, rest-late m there .1)))))
       (λ m t.
       let (there, h) = mem-of-select (λ m. not (deliverableBy (s .epsilon) (s .delta) v m)) (buffer ++ fresh) t in
-      let later : v < messageDue s m = leb-false (messageDue s m) v (false-of-not (leb (messageDue s m) v) h) in
-      mem-select (λ m. not (eqb (messageDue s m) v)) (late-rest m there (omega arith)) (not-of-false (ne-eqb (messageDue s m) v (λ e. omega arith))))
-      (members-select (s .modulus) (λ f. not (dueNow s (v % s .modulus) f)) (λ m. not (eqb (messageDue s m) v)) queue rest all (λ m t. ap not (now-agrees m t)))
+      let later : v < messageDue (s .epsilon) (s .delta) m = leb-false (messageDue (s .epsilon) (s .delta) m) v (false-of-not (leb (messageDue (s .epsilon) (s .delta) m) v) h) in
+      mem-select (λ m. not (eqb (messageDue (s .epsilon) (s .delta) m) v)) (late-rest m there (omega arith)) (not-of-false (ne-eqb (messageDue (s .epsilon) (s .delta) m) v (λ e. omega arith))))
+      (members-select (s .modulus) (λ f. not (dueNow s (v % s .modulus) f)) (λ m. not (eqb (messageDue (s .epsilon) (s .delta) m) v)) queue rest all (λ m t. ap not (now-agrees m t)))
 
 -- frames in order, and the messages that a test chooses of those held: where the members are the same, the order is too
 module _ (s : Setup) (v : ℕ) (held : List Message)

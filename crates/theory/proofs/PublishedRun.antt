@@ -20,24 +20,28 @@ use Rattle.model.specs.Timestamp.{trimmed}
 use Rattle.model.specs.Frame.{Frame, encode}
 use Rattle.model.specs.Codec.{frameOf}
 use Rattle.model.specs.Question.{firstNo}
-use Rattle.model.specs.Judge.{Heard, hearOne, judgeQuestions}
+use Rattle.model.specs.Judge.{Asking, Heard, hearOne, judgeQuestions}
 use Rattle.model.specs.Holdback.{held}
-use Rattle.model.specs.Published.{Message, Process, rank, sameMessage, newOnes}
+use Rattle.model.specs.Published.{Message, Process, rank, sameMessage, newOnes, messageDue}
 use Rattle.model.specs.Run.{Node, Source, sentBy, stale, Done, World, sends, messageBytes}
 use Rattle.theory.specs.Demand2.{reduced, reducedFrame, messagesHeard, Published}
 use Rattle.theory.specs.Demand3.{covered, isFrom, heardIn}
 use Rattle.lemmas.proofs.Bounds.{Limits, FrameOk}
 use Rattle.lemmas.proofs.Reading.{near-true}
+use Rattle.model.specs.Schedule.{steady}
+use Rattle.model.specs.Wider.{widerQuestions, widerHearOne}
+use Rattle.model.proofs.ComputingWider.{computingWider}
+use Rattle.theory.proofs.Steadily.{judged-steady}
 use Rattle.theory.proofs.World.{sends-event, event-kind, eventFrame, heardAt, Good}
 use Rattle.theory.proofs.Fresh.{settles-fresh}
 use Rattle.theory.proofs.HearLoop.{Arrival, Entry, Around, Unreached, QueueLoop, some-inj, loop-verdict, judged-once, queue-one}
 use Rattle.theory.proofs.PublishedEvent.{ReadsTrue, Knows}
-use Rattle.theory.proofs.PublishedQueue.{messageDue, SameMembers, rank-sender}
+use Rattle.theory.proofs.PublishedQueue.{SameMembers, rank-sender}
 use Rattle.theory.proofs.PublishedHear.{Incoming, Told, SeenIs, also, News, none-left, again, new, seen-any, seen-again, seen-new, heard-cons, new-ones-again, new-ones-new}
 
 -- the message m of the published program is the frame of the call d
 pub record Copies (s : Setup) (m : Message) (d : Done) : Type 0 where
-  pub frame : reducedFrame (s .modulus) m ≡ eventFrame s d
+  pub frame : reducedFrame (s .modulus) m ≡ eventFrame (steady s) d
   pub clock-is : m .event .r ≡ d .clock
 
 -- what the published program has sent is what the calls have sent
@@ -60,7 +64,7 @@ RankedSent s past sent =
 pub record Waits (s : Setup) (v : ℕ) (m : Message) : Type 0 where
   pub close : m .event .c < s .epsilon
   pub not-ahead : m .event .r < v + s .epsilon
-  pub not-long-due : v < messageDue s m + s .epsilon
+  pub not-long-due : v < messageDue (s .epsilon) (s .delta) m + s .epsilon
 
 -- a station and its process
 pub record Twin (s : Setup) (past : List Done) (sent : List (Option Message)) (i : ℕ) (node : Node) (p : Process) : Type 0 where
@@ -71,7 +75,7 @@ pub record Twin (s : Setup) (past : List Done) (sent : List (Option Message)) (i
   pub queue : SameMembers (s .modulus) (held (s .epsilon) (node .holdback)) (p .buffer)
   pub single : apart sameMessage (p .buffer) ≡ true
   pub waiting : (m : Message) → List·Memᴰ m (p .buffer) → Waits s (node .clock) m
-  pub undue : (m : Message) → List·Memᴰ m (p .buffer) → node .clock < messageDue s m
+  pub undue : (m : Message) → List·Memᴰ m (p .buffer) → node .clock < messageDue (s .epsilon) (s .delta) m
   pub from-received : (m : Message) → List·Memᴰ m (p .buffer) → List·Memᴰ m (p .received)
   pub received : SeenIs sent (heardAt past i) (p .received)
   pub knows :
@@ -80,7 +84,7 @@ pub record Twin (s : Setup) (past : List Done) (sent : List (Option Message)) (i
 
 -- all stations and their processes
 pub record Paired (s : Setup) (w : World) (u : Published) : Type 0 where
-  pub good : Good s 0 0 w
+  pub good : Good (steady s) 0 0 w
   pub sent-as : SentAs s (w .past) (u .sent)
   pub ranked : RankedSent s (w .past) (u .sent)
   pub twins :
@@ -88,12 +92,11 @@ pub record Paired (s : Setup) (w : World) (u : Published) : Type 0 where
       → (p : Process) × (getElem? (u .processes) i ≡ some p) × Twin s (w .past) (u .sent) i node p
 
 pub waits-reads : (s : Setup) (v : ℕ) (m : Message) → Limits s → Waits s v m → ReadsTrue (s .epsilon) (s .modulus) v (m .event .r)
-unfolding messageDue
 waits-reads s v m l h =
     near-true (s .epsilon) (s .modulus) v (m .event .r) (l .epsilon-pos) (omega (arith, l .modulus-least)) (h .not-ahead) (omega (arith, l .modulus-least, h))
 
 -- a message that is due later is held until the next clock, at most ε later
-pub waits-next : (s : Setup) (v k : ℕ) (m : Message) → k ≤ s .epsilon → v < messageDue s m → Waits s v m → Waits s (v + k) m
+pub waits-next : (s : Setup) (v k : ℕ) (m : Message) → k ≤ s .epsilon → v < messageDue (s .epsilon) (s .delta) m → Waits s v m → Waits s (v + k) m
 waits-next s v k m few later h = record { close = h .close; not-ahead = omega (arith, h .not-ahead); not-long-due = omega arith }
 
 -- a copy has its sender
@@ -107,7 +110,7 @@ same-parts m m′ h = (
   eqb-true (m .event .r) (m′ .event .r) (and-right (eqb (m .sender) (m′ .sender)) (eqb (m .event .r) (m′ .event .r)) h),
 )
 
-module _ (s : Setup) (w : World) (sent : List (Option Message)) (good : Good s 0 0 w) (sent-as : SentAs s (w .past) sent) where
+module _ (s : Setup) (w : World) (sent : List (Option Message)) (good : Good (steady s) 0 0 w) (sent-as : SentAs s (w .past) sent) where
   pub told : Told sent
   told k l m m′ at at′ same =
       let (d, d-at, d-sends, c) = sent-as .only k m at in
@@ -144,9 +147,9 @@ module _ (s : Setup) (w : World) (sent : List (Option Message)) (good : Good s 0
       subst (λ (f : Frame). FrameOk s f) (sym (c .frame)) (good .calls k d d-at (sends-event d d-sends) .event .frame)
 
   -- what is new in a batch, by the verdicts
-  module _ (v : ℕ) (around-here : Around s (w .nodes) (w .past) v) (unreached-here : Unreached s (w .nodes) v) where
+  module _ (v : ℕ) (around-here : Around (steady s) (steady s) (w .nodes) (w .past) v) (unreached-here : Unreached (steady s) (w .nodes) v) where
     incoming :
-        (k : ℕ) (d : Done) (m : Message) (bytes : List ℕ) → Arrival s 0 (w .nodes) (w .past) v k d → bytes ≡ messageBytes d
+        (k : ℕ) (d : Done) (m : Message) (bytes : List ℕ) → Arrival (steady s) 0 (w .nodes) (w .past) v k d → bytes ≡ messageBytes d
         → getElem? sent k ≡ some (some m) → Copies s m d → Incoming s v sent k m bytes
     incoming k d m bytes a e at c =
         record {
@@ -158,18 +161,27 @@ module _ (s : Setup) (w : World) (sent : List (Option Message)) (good : Good s 0
         }
 
     verdict-of :
-        (k : ℕ) (d : Done) (bytes : List ℕ) (heard : ℕ → Bool) (h : Heard) → Arrival s 0 (w .nodes) (w .past) v k d → bytes ≡ messageBytes d
-        → QueueLoop s 0 0 (w .past) v heard (h .queue)
+        (k : ℕ) (d : Done) (bytes : List ℕ) (heard : ℕ → Bool) (h : Heard) → Arrival (steady s) 0 (w .nodes) (w .past) v k d → bytes ≡ messageBytes d
+        → QueueLoop (steady s) (steady s) 0 0 (w .past) v heard (h .queue)
         → firstNo (judgeQuestions s (v % s .modulus) (h .queue) bytes) ≡ cond (heard k) 16 0
     unfolding covered
     verdict-of k d bytes heard h a e loop =
         ap (λ (b : List ℕ). firstNo (judgeQuestions s (v % s .modulus) (h .queue) b)) e
-        ∙ loop-verdict s 0 0 (settles-fresh s) (w .nodes) (w .past) v around-here unreached-here heard (h .queue) loop k d a (and-intro (a .sent) (le-leb 0 (d .clock) (omega arith)))
+        ∙ (ap (λ (asking : ℕ → Asking). firstNo (asking (v % s .modulus) (h .queue) (messageBytes d))) (sym (judged-steady s))
+        ∙ loop-verdict (steady s) (steady s) 0 0 (settles-fresh (steady s)) (w .nodes) (w .past) v around-here unreached-here heard (h .queue) loop k d a (and-intro (a .sent) (le-leb 0 (d .clock) (omega arith))))
+
+    -- one entry heard, by the plain definitions
+    heard-next :
+        (heard : ℕ → Bool) (h : Heard) (b : List ℕ)
+        → QueueLoop (steady s) (steady s) 0 0 (w .past) v heard (widerHearOne (steady s) (v % s .modulus) (widerQuestions (steady s) (v % s .modulus)) h b .queue)
+        → QueueLoop (steady s) (steady s) 0 0 (w .past) v heard (hearOne s (v % s .modulus) (judgeQuestions s (v % s .modulus)) h b .queue)
+    unfolding computingWider
+    heard-next heard h b loop = loop
 
     pub news-of :
         (entries : List (List ℕ)) (sources : List Source) (heard : ℕ → Bool) (h : Heard) (seen : List Message)
-        → QueueLoop s 0 0 (w .past) v heard (h .queue) → SeenIs sent heard seen → length entries ≡ length sources
-        → ((e : ℕ) (bytes : List ℕ) (o : Source) → getElem? entries e ≡ some bytes → getElem? sources e ≡ some o → Entry s 0 (w .nodes) (w .past) v bytes o)
+        → QueueLoop (steady s) (steady s) 0 0 (w .past) v heard (h .queue) → SeenIs sent heard seen → length entries ≡ length sources
+        → ((e : ℕ) (bytes : List ℕ) (o : Source) → getElem? entries e ≡ some bytes → getElem? sources e ≡ some o → Entry (steady s) 0 (w .nodes) (w .past) v bytes o)
         → News s v sent heard h entries sources (newOnes seen (messagesHeard sent sources))
     unfolding messagesHeard newOnes isFrom
     news-of [] [] heard h seen loop is same entry = none-left
@@ -180,7 +192,11 @@ module _ (s : Setup) (w : World) (sent : List (Option Message)) (good : Good s 0
         let (d, a, is-d) = entry 0 b (sentBy k) refl refl in
         let (m, at, c) = sent-as .each k d (a .at) (a .sent) in
         let verdict = verdict-of k d b heard h a is-d loop in
-        let loop′ = queue-one s 0 0 (settles-fresh s) (w .nodes) (w .past) v around-here (judgeQuestions s (v % s .modulus)) (judged-once s 0 0 (settles-fresh s) (w .nodes) (w .past) v around-here unreached-here) heard (also heard k) h b (sentBy k) loop (entry 0 b (sentBy k) refl refl) (λ j. refl) in
+        let loop′ =
+        heard-next (also heard k) h b
+        (queue-one (steady s) (steady s) 0 0 (settles-fresh (steady s)) (w .nodes) (w .past) v around-here (widerQuestions (steady s) (v % s .modulus))
+        (judged-once (steady s) (steady s) 0 0 (settles-fresh (steady s)) (w .nodes) (w .past) v around-here unreached-here) heard (also heard k) h b (sentBy k) loop
+        (entry 0 b (sentBy k) refl refl) (λ j. refl)) in
         let rest = hearOne s (v % s .modulus) (judgeQuestions s (v % s .modulus)) h b in
         elim (true-or-false (heard k)) [
           | inl e ↦

@@ -15,8 +15,8 @@ use Rattle.model.specs.Published.{initial, started}
 use Rattle.model.specs.Run.{Node, atStart}
 use Rattle.theory.specs.Premises.{goodStart, allFresh}
 use Rattle.theory.specs.Demand2.{publishedStart}
-use Rattle.theory.proofs.Start.{group-start}
-use Rattle.theory.proofs.Fresh.{queue-empty, fresh-at, good-fresh}
+use Rattle.model.specs.Holdback.{cutFrames, cutBy, heldBytes, held}
+use Rattle.theory.proofs.Fresh.{FreshNode, fresh-at, fresh-plain}
 use Rattle.theory.proofs.PublishedEvent.{initial-stamp, initial-wide}
 use Rattle.theory.proofs.PublishedRun.{Twin, Paired}
 
@@ -24,11 +24,14 @@ module _ (s : Setup) (nodes : List Node) (start : goodStart s nodes ≡ true) (a
   nothing : {A : Type 0} (k : ℕ) (x : A) → _≡_ {A = Option A} (getElem? [] k) (some x) → ⊥
   nothing {A} k x e = omega (arith, getElem?-lt {A = A} [] k e)
 
+  queue-empty : (node : Node) → FreshNode s node → held (s .epsilon) (node .holdback) ≡ []
+  unfolding held heldBytes cutFrames cutBy
+  queue-empty node is-fresh = rw (is-fresh .empty) refl
+
   twin-fresh : (i : ℕ) (node : Node) → getElem? nodes i ≡ some node → node .listens ≡ false → Twin s [] [] i node (started (s .epsilon) (node .own) (node .clock))
   unfolding started initial apart
   twin-fresh i node at station =
       let is-fresh = fresh-at s nodes start all-fresh i node at in
-      let limits = group-start s nodes start .limits i node at in
       record {
         number = refl;
         clock-is = refl;
@@ -36,7 +39,7 @@ module _ (s : Setup) (nodes : List Node) (start : goodStart s nodes ≡ true) (a
         stamp = is-fresh .tables station ∙ sym (initial-stamp (s .epsilon) (s .modulus) (node .clock));
         queue =
             record {
-              into = λ f m. absurd (List·Memᴰ·not-nil (subst (λ (l : List Frame). List·Memᴰ f l) (queue-empty s node limits is-fresh) m));
+              into = λ f m. absurd (List·Memᴰ·not-nil (subst (λ (l : List Frame). List·Memᴰ f l) (queue-empty node is-fresh) m));
               back = λ m t. absurd (List·Memᴰ·not-nil t);
             };
         single = refl;
@@ -51,7 +54,7 @@ module _ (s : Setup) (nodes : List Node) (start : goodStart s nodes ≡ true) (a
   unfolding atStart publishedStart
   paired-fresh =
       record {
-        good = good-fresh s nodes start all-fresh;
+        good = fresh-plain s nodes start all-fresh;
         sent-as =
             record {
               same-length = refl;

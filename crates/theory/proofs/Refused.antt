@@ -6,43 +6,70 @@ use mathlib.Core.Path.{_≡_, refl, sym, ap, subst, _∙_}
 use mathlib.Core.Logic.{inl, inr}
 use mathlib.Core.Bool.{Bool, true, false, cond, or-false}
 use mathlib.Core.List.{List, [], _∷_, _++_}
-use mathlib.Core.Option.{some}
+use mathlib.Core.Option.{Option, none, some}
 use lib.Dec.{eqb·suc-zero}
 use lib.ListN.{set, getElem?, length-append}
 use lib.Seq.{set-getD}
 use Rattle.laws.specs.Lists.{any}
 use Rattle.laws.proofs.Numbers.{clash}
 use Rattle.laws.proofs.Lists.{any-append, getElem?-lt, getElem?-getD, getElem?-append, getElem?-snoc-cases}
-use Rattle.model.specs.Setup.{Setup}
 use Rattle.model.specs.Frame.{Frame}
 use Rattle.model.specs.Question.{firstNo}
 use Rattle.model.specs.Tick.{callQuestions, refusal, acceptance, tickBy, tick}
 use Rattle.model.specs.Observer.{listenQuestions, notListened, listened, listenBy, listen}
-use Rattle.model.specs.Run.{Node, Call, Done, World, inputOf, listeningOf, listenedOutput, isAccepted, outputOf, doneOf, nodeAfter, movedClock, act, isEvent}
+use Rattle.model.specs.Schedule.{Schedule, Wider, along}
+use Rattle.model.specs.Wider.{widerAcceptance, widerCallQuestions, widerTickBy, tickIn}
+use Rattle.model.specs.WiderCalls.{listenInQuestions, widerListened, widerListenBy, listenIn}
+use Rattle.model.specs.Run.{Node, Call, Done, World, inputOf, listeningOf, listenedOutput, isAccepted, outputOf, doneOf, nodeAfter, movedClock, act, isEvent, lengthened, outputBy}
 use Rattle.theory.specs.Demand3.{heardIn}
 use Rattle.theory.proofs.HearLoop.{covered-sends}
 use Rattle.theory.proofs.World.{NodeOk, heardAt, Explained, Good, act-is, sends-event, event-accepted, nodesAfter}
 
 -- a refused call leaves its node
 pub refused-node : (node : Node) (call : Call) → isAccepted (outputOf node call) ≡ false → nodeAfter node (call .step) (outputOf node call) ≡ node
-unfolding nodeAfter movedClock outputOf tick listen isAccepted refusal acceptance inputOf notListened listened listeningOf listenedOutput
-refused-node node call h = go (node .listens) h
+unfolding nodeAfter movedClock outputOf lengthened tick listen tickIn listenIn isAccepted refusal acceptance widerAcceptance inputOf notListened listened widerListened listeningOf listenedOutput
+refused-node node call h = go (call .wider) h
   where
-    ticked : (k : ℕ) → isAccepted (tickBy k (inputOf node call)) ≡ false → nodeAfter node (call .step) (tickBy k (inputOf node call)) ≡ node
+    found : Node
+    found = lengthened (call .spare) node
+
+    ticked : (k : ℕ) → isAccepted (tickBy k (inputOf found call)) ≡ false → nodeAfter node (call .step) (tickBy k (inputOf found call)) ≡ node
     ticked zero e = absurd (clash refl e)
     ticked (suc k) e = rw (eqb·suc-zero k) refl
 
+    ticked-in :
+        (g : Schedule) (k : ℕ) → isAccepted (widerTickBy k g (inputOf found call)) ≡ false
+        → nodeAfter node (call .step) (widerTickBy k g (inputOf found call)) ≡ node
+    ticked-in g zero e = absurd (clash refl e)
+    ticked-in g (suc k) e = rw (eqb·suc-zero k) refl
+
     heeded :
-        (k : ℕ) → isAccepted (listenedOutput node call (listenBy k (listeningOf node call))) ≡ false
-        → nodeAfter node (call .step) (listenedOutput node call (listenBy k (listeningOf node call))) ≡ node
+        (k : ℕ) → isAccepted (listenedOutput found call (listenBy k (listeningOf found call))) ≡ false
+        → nodeAfter node (call .step) (listenedOutput found call (listenBy k (listeningOf found call))) ≡ node
     heeded zero e = absurd (clash refl e)
     heeded (suc k) e = rw (eqb·suc-zero k) refl
 
-    go :
-        (b : Bool) → isAccepted (cond b (listenedOutput node call (listen (listeningOf node call))) (tick (inputOf node call))) ≡ false
-        → nodeAfter node (call .step) (cond b (listenedOutput node call (listen (listeningOf node call))) (tick (inputOf node call))) ≡ node
-    go true e = heeded (firstNo (listenQuestions (listeningOf node call))) e
-    go false e = ticked (firstNo (callQuestions (inputOf node call))) e
+    heeded-in :
+        (g : Schedule) (k : ℕ) → isAccepted (listenedOutput found call (widerListenBy k g (listeningOf found call))) ≡ false
+        → nodeAfter node (call .step) (listenedOutput found call (widerListenBy k g (listeningOf found call))) ≡ node
+    heeded-in g zero e = absurd (clash refl e)
+    heeded-in g (suc k) e = rw (eqb·suc-zero k) refl
+
+    plain :
+        (b : Bool) → isAccepted (cond b (listenedOutput found call (listen (listeningOf found call))) (tick (inputOf found call))) ≡ false
+        → nodeAfter node (call .step) (cond b (listenedOutput found call (listen (listeningOf found call))) (tick (inputOf found call))) ≡ node
+    plain true e = heeded (firstNo (listenQuestions (listeningOf found call))) e
+    plain false e = ticked (firstNo (callQuestions (inputOf found call))) e
+
+    both :
+        (w : Wider) (b : Bool) → isAccepted (cond b (listenedOutput found call (listenIn w (listeningOf found call))) (tickIn w (inputOf found call))) ≡ false
+        → nodeAfter node (call .step) (cond b (listenedOutput found call (listenIn w (listeningOf found call))) (tickIn w (inputOf found call))) ≡ node
+    both w true e = heeded-in (along (call .setup) w (call .clock)) (firstNo (listenInQuestions w (listeningOf found call))) e
+    both w false e = ticked-in (along (call .setup) w (call .clock)) (firstNo (widerCallQuestions w (inputOf found call))) e
+
+    go : (w : Option Wider) → isAccepted (outputBy w found call) ≡ false → nodeAfter node (call .step) (outputBy w found call) ≡ node
+    go none e = plain (node .listens) e
+    go (some w) e = both w (node .listens) e
 
 refused-heard : (past : List Done) (d : Done) (i k : ℕ) → isAccepted (d .output) ≡ false → heardAt (past ++ (d ∷ [])) i k ≡ heardAt past i k
 unfolding heardAt any heardIn
@@ -51,10 +78,10 @@ refused-heard past d i k refused =
 
 -- and adds nothing to what is known
 good-more :
-    (s : Setup) (floor from : ℕ) (w : World) (d : Done) → Good s floor from w → isAccepted (d .output) ≡ false
+    (g : Schedule) (floor from : ℕ) (w : World) (d : Done) → Good g floor from w → isAccepted (d .output) ≡ false
     → (node : Node) × (getElem? (w .nodes) (d .node) ≡ some node) × (node .listens ≡ d .listens)
-    → Good s floor from (record { nodes = w .nodes; past = w .past ++ (d ∷ []) })
-good-more s floor from w d good refused maker =
+    → Good g floor from (record { nodes = w .nodes; past = w .past ++ (d ∷ []) })
+good-more g floor from w d good refused maker =
     record {
       group = good .group;
       node = λ i a at. node-more i a (good .node i a at);
@@ -78,12 +105,12 @@ good-more s floor from w d good refused maker =
     heard-same : (i k : ℕ) → heardAt (w .past ++ (d ∷ [])) i k ≡ heardAt (w .past) i k
     heard-same i k = refused-heard (w .past) d i k refused
 
-    explained : (i v : ℕ) (f : Frame) → Explained s floor (w .past) (heardAt (w .past) i) v f → Explained s floor (w .past ++ (d ∷ [])) (heardAt (w .past ++ (d ∷ [])) i) v f
+    explained : (i v : ℕ) (f : Frame) → Explained g floor (w .past) (heardAt (w .past) i) v f → Explained g floor (w .past ++ (d ∷ [])) (heardAt (w .past ++ (d ∷ [])) i) v f
     explained i v f (inl h) = inl h
     explained i v f (inr x) =
         inr (x .0, x .1, getElem?-append (w .past) (d ∷ []) (x .0) (getElem?-lt (w .past) (x .0) (x .2)) ∙ x .2, x .3, heard-same i (x .0) ∙ x .4, x .5, x .6)
 
-    node-more : (i : ℕ) (a : Node) → NodeOk s floor from w i a → NodeOk s floor from (record { nodes = w .nodes; past = w .past ++ (d ∷ []) }) i a
+    node-more : (i : ℕ) (a : Node) → NodeOk g floor from w i a → NodeOk g floor from (record { nodes = w .nodes; past = w .past ++ (d ∷ []) }) i a
     node-more i a (inl u) =
         inl (record {
           early = u .early;
@@ -102,12 +129,12 @@ good-more s floor from w d good refused maker =
 
 -- a refused call
 pub refused-good :
-    (s : Setup) (floor from : ℕ) (w : World) (call : Call) (node : Node) → Good s floor from w → getElem? (w .nodes) (call .node) ≡ some node
-    → isAccepted (outputOf node call) ≡ false → Good s floor from (act w call)
-refused-good s floor from w call node good at refused =
-    subst (Good s floor from) (sym (act-is w call node at))
-    (subst (λ (l : List Node). Good s floor from (record { nodes = l; past = w .past ++ (doneOf node call ∷ []) })) (sym same-nodes)
-    (good-more s floor from w (doneOf node call) good (unfold doneOf in refused) (node, (unfold doneOf in at), (unfold doneOf in refl))))
+    (g : Schedule) (floor from : ℕ) (w : World) (call : Call) (node : Node) → Good g floor from w → getElem? (w .nodes) (call .node) ≡ some node
+    → isAccepted (outputOf node call) ≡ false → Good g floor from (act w call)
+refused-good g floor from w call node good at refused =
+    subst (Good g floor from) (sym (act-is w call node at))
+    (subst (λ (x : List Node). Good g floor from (record { nodes = x; past = w .past ++ (doneOf node call ∷ []) })) (sym same-nodes)
+    (good-more g floor from w (doneOf node call) good (unfold doneOf in refused) (node, (unfold doneOf in at), (unfold doneOf in refl))))
   where
     same-nodes : nodesAfter (w .nodes) call node ≡ w .nodes
     same-nodes =

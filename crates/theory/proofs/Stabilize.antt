@@ -11,7 +11,7 @@ use lib.ListN.{length, take, getElem?}
 use lib.Seq.{take-append-le, take-append-seam}
 use Rattle.laws.proofs.Numbers.{clash}
 use Rattle.laws.proofs.Lists.{getElem?-lt, getElem?-snoc-cases}
-use Rattle.model.specs.Setup.{Setup}
+use Rattle.model.specs.Schedule.{Schedule}
 use Rattle.model.specs.Run.{Node, Call, Done, World, isAccepted, outputOf, doneOf, act, runFrom}
 use Rattle.theory.proofs.HearLoop.{Settles}
 use Rattle.theory.proofs.World.{Good, Legal, Kept, AllKept, act-is}
@@ -21,36 +21,36 @@ use Rattle.theory.proofs.Invariant.{step-good}
 
 -- the promises of the calls so far stay
 kept-snoc :
-    (s : Setup) (from : ℕ) (past : List Done) (d : Done) → AllKept s from past → (isAccepted (d .output) ≡ true → Kept s from past d)
-    → AllKept s from (past ++ (d ∷ []))
-kept-snoc s from past d kept new j e at acc =
+    (g : Schedule) (from : ℕ) (past : List Done) (d : Done) → AllKept g from past → (isAccepted (d .output) ≡ true → Kept g from past d)
+    → AllKept g from (past ++ (d ∷ []))
+kept-snoc g from past d kept new j e at acc =
     elim (getElem?-snoc-cases past d j at) [
       | inl q ↦
           let h : j < length past = getElem?-lt past j q in
-          subst (λ (l : List Done). Kept s from l e) (sym (take-append-le j past (d ∷ []) (omega arith))) (kept j e q acc)
+          subst (λ (x : List Done). Kept g from x e) (sym (take-append-le j past (d ∷ []) (omega arith))) (kept j e q acc)
       | inr q ↦
-          subst (λ (x : ℕ). Kept s from (take x (past ++ (d ∷ []))) e) (sym (q .0))
-          (subst (λ (l : List Done). Kept s from l e) (sym (take-append-seam past (d ∷ [])))
-          (subst (Kept s from past) (sym (q .1)) (new (ap (λ (x : Done). isAccepted (x .output)) (sym (q .1)) ∙ acc))))
+          subst (λ (x : ℕ). Kept g from (take x (past ++ (d ∷ []))) e) (sym (q .0))
+          (subst (λ (x : List Done). Kept g from x e) (sym (take-append-seam past (d ∷ [])))
+          (subst (Kept g from past) (sym (q .1)) (new (ap (λ (x : Done). isAccepted (x .output)) (sym (q .1)) ∙ acc))))
     ]
 
-module _ (s : Setup) (floor from : ℕ) (settles : Settles s floor from) where
+module _ (g : Schedule) (floor from : ℕ) (settles : Settles g floor from) where
   -- a call that is allowed
   abbrev pub Allowed : World → Call → Type 0
   Allowed w call =
       (node : Node) × (getElem? (w .nodes) (call .node) ≡ some node)
-      × ((isAccepted (outputOf node call) ≡ false) ⊎ Legal s floor w call node (doneOf node call .clock))
+      × ((isAccepted (outputOf node call) ≡ false) ⊎ ((l : Schedule) × (found : Node) × Legal g l floor w call node found (doneOf node call .clock)))
 
-  pub step-all : (w : World) (call : Call) → Good s floor from w → AllKept s from (w .past) → Allowed w call → Good s floor from (act w call) × AllKept s from (act w call .past)
+  pub step-all : (w : World) (call : Call) → Good g floor from w → AllKept g from (w .past) → Allowed w call → Good g floor from (act w call) × AllKept g from (act w call .past)
   step-all w call good kept (node, at, inl refused) = (
-    refused-good s floor from w call node good at refused,
-    subst (λ (u : World). AllKept s from (u .past)) (sym (act-is w call node at))
-        (kept-snoc s from (w .past) (doneOf node call) kept (λ acc. absurd (clash acc (unfold doneOf in refused)))),
+    refused-good g floor from w call node good at refused,
+    subst (λ (u : World). AllKept g from (u .past)) (sym (act-is w call node at))
+        (kept-snoc g from (w .past) (doneOf node call) kept (λ acc. absurd (clash acc (unfold doneOf in refused)))),
   )
-  step-all w call good kept (node, at, inr legal) = (
-    step-good s floor from w call node (doneOf node call .clock) good legal (ends s floor from settles w call node (doneOf node call .clock) good legal),
-    subst (λ (u : World). AllKept s from (u .past)) (sym (act-is w call node at))
-        (kept-snoc s from (w .past) (doneOf node call) kept (λ acc. ends s floor from settles w call node (doneOf node call .clock) good legal .kept)),
+  step-all w call good kept (node, at, inr (l, found, legal)) = (
+    step-good g l floor from w call node found (doneOf node call .clock) good legal (ends g l floor from settles w call node found (doneOf node call .clock) good legal),
+    subst (λ (u : World). AllKept g from (u .past)) (sym (act-is w call node at))
+        (kept-snoc g from (w .past) (doneOf node call) kept (λ acc. ends g l floor from settles w call node found (doneOf node call .clock) good legal .kept)),
   )
 
   -- all calls of a list
@@ -58,7 +58,7 @@ module _ (s : Setup) (floor from : ℕ) (settles : Settles s floor from) where
   Legals w [] = Unit
   Legals w (call ∷ calls) = Allowed w call × Legals (act w call) calls
 
-  pub run-all : (calls : List Call) (w : World) → Good s floor from w → AllKept s from (w .past) → Legals w calls → Good s floor from (runFrom w calls) × AllKept s from (runFrom w calls .past)
+  pub run-all : (calls : List Call) (w : World) → Good g floor from w → AllKept g from (w .past) → Legals w calls → Good g floor from (runFrom w calls) × AllKept g from (runFrom w calls .past)
   unfolding runFrom Legals
   run-all [] w good kept legals = (good, kept)
   run-all (call ∷ calls) w good kept legals =

@@ -1,17 +1,20 @@
 -- What hearing does to a stamp, seen from all nodes: knowledge grows, and right counts stay right. The counts are those for clocks.
 -- Assumes nothing.
-use Prim.Native.Nat.{ℕ, suc, _+_, _≤_, _<_, max}
+use Prim.Native.Nat.{ℕ, suc, _+_, _-_, _≤_, _<_}
 use native.Mathlib.Omega.{arith}
-use mathlib.Core.Path.{_≡_, sym, subst}
+use mathlib.Core.Path.{_≡_, refl, sym, subst, _∙_}
 use mathlib.Core.Logic.{inl, inr}
 use mathlib.Core.List.{List}
 use lib.ListN.{length}
 use Rattle.laws.proofs.Numbers.{lt-or-ge, eq-or-ne}
 use Rattle.model.specs.Setup.{width}
-use Rattle.model.specs.Timestamp.{Timestamp, countAt, absorb, step, countOwn}
+use Rattle.model.specs.Timestamp.{Timestamp, countAt, step, countOwn}
+use Rattle.model.specs.Schedule.{Schedule, steady, widening, modulusOf, ownLimits, tablesHalf}
+use Rattle.model.specs.Wider.{absorbWide, stepInto, widerStep}
 use Rattle.model.specs.Run.{Node}
 use Rattle.lemmas.proofs.Bounds.{Sound}
-use Rattle.lemmas.proofs.Counts.{count-below, count-past, count-moved, sound-past, absorb-count, absorb-sum, absorb-wide, own-count, own-count-here, step-count}
+use Rattle.lemmas.proofs.Counts.{count-below, count-past, count-index, count-moved, sound-past, absorbed-count, absorbed-sum, absorbed-wide, own-count, own-count-here, step-count, into-at}
+use Rattle.lemmas.proofs.Schedules.{Good, limits-grow}
 use Rattle.theory.proofs.World.{reached, Bounded, Under}
 
 -- nothing is counted for clocks before the window and past it
@@ -23,52 +26,46 @@ past-window : (epsilon v : ℕ) (kn : List ℕ) → length kn ≡ width epsilon 
 unfolding countAt width
 past-window epsilon v kn wide x h = count-past v kn (x + epsilon) (omega arith)
 
--- in it, after a frame at R is heard, the larger of both
-absorb-here :
-    (epsilon B v R reading : ℕ) (t f : Timestamp) → length (t .kn) ≡ width epsilon → reading + v ≡ B + R → (x : ℕ) → v ≤ x + epsilon → x < v + epsilon
-    → countAt epsilon v (absorb epsilon B t reading f .kn) x ≡ max (countAt epsilon v (t .kn) x) (countAt epsilon R (f .kn) x)
-unfolding countAt width
-absorb-here epsilon B v R reading t f wide e x lo hi = absorb-count epsilon B v R reading t f wide e (x + epsilon) lo (omega arith)
-
 -- no count falls, whatever is heard
 absorb-grows :
-    (epsilon B v reading : ℕ) (t f : Timestamp) → length (t .kn) ≡ width epsilon → (x : ℕ) → v ≤ x + epsilon → x < v + epsilon
-    → countAt epsilon v (t .kn) x ≤ countAt epsilon v (absorb epsilon B t reading f .kn) x
+    (epsilon half B v reading : ℕ) (t f : Timestamp) (x : ℕ) → v ≤ x + epsilon → x < v + epsilon
+    → countAt epsilon v (t .kn) x ≤ countAt epsilon v (absorbWide epsilon half B t reading f .kn) x
 unfolding countAt
-absorb-grows epsilon B v reading t f wide x lo hi =
+absorb-grows epsilon half B v reading t f x lo hi =
     omega (
       arith,
-      absorb-here epsilon B (v + B) (reading + v) reading t f wide (omega arith) (x + B) (omega arith) (omega arith),
-      count-moved (v + B) v (absorb epsilon B t reading f .kn) (x + B + epsilon) (x + epsilon) (omega arith),
+      absorbed-count epsilon half B reading t f (v + B) (reading + v) (omega arith) (x + B) (omega arith) (omega arith),
+      count-moved (v + B) v (absorbWide epsilon half B t reading f .kn) (x + B + epsilon) (x + epsilon) (omega arith),
       count-moved (v + B) v (t .kn) (x + B + epsilon) (x + epsilon) (omega arith),
     )
 
 pub under-absorb :
-    (epsilon B v reading R : ℕ) (g t f : Timestamp) → length (t .kn) ≡ width epsilon → Under epsilon R g v t
-    → Under epsilon R g v (absorb epsilon B t reading f)
-unfolding absorb
-under-absorb epsilon B v reading R g t f wide u =
+    (epsilon half B v reading known R : ℕ) (g t f : Timestamp) → length (t .kn) ≡ width epsilon → Under known R g epsilon v t
+    → Under known R g epsilon v (absorbWide epsilon half B t reading f)
+unfolding absorbWide
+under-absorb epsilon half B v reading known R g t f wide u =
     record { sums = omega (arith, u .sums); counts = more }
   where
-    more : (x : ℕ) → v ≤ x → countAt epsilon R (g .kn) x ≤ countAt epsilon v (absorb epsilon B t reading f .kn) x
+    more : (x : ℕ) → v ≤ x → countAt known R (g .kn) x ≤ countAt epsilon v (absorbWide epsilon half B t reading f .kn) x
     more x h =
         elim (lt-or-ge x (v + epsilon)) [
-          | inl k ↦ omega (arith, u .counts x h, absorb-grows epsilon B v reading t f wide x (omega arith) k)
+          | inl k ↦ omega (arith, u .counts x h, absorb-grows epsilon half B v reading t f x (omega arith) k)
           | inr k ↦ omega (arith, u .counts x h, past-window epsilon v (t .kn) wide x k)
         ]
 
+-- in the window, after a frame at R is heard, a count is the larger of both
 pub absorb-under :
-    (n epsilon B v reading R : ℕ) (t f : Timestamp) → length (t .kn) ≡ width epsilon → Sound n epsilon f → reading + v ≡ B + R
-    → R + f .c < v + epsilon → Under epsilon R f v (absorb epsilon B t reading f)
+    (n epsilon half B v reading R : ℕ) (t f : Timestamp) → Sound n half f → reading + v ≡ B + R
+    → R + f .c < v + epsilon → Under half R f epsilon v (absorbWide epsilon half B t reading f)
 unfolding countAt
-absorb-under n epsilon B v reading R t f wide sound e close =
-    record { sums = omega (arith, absorb-sum epsilon B v R reading t f e); counts = more }
+absorb-under n epsilon half B v reading R t f sound e close =
+    record { sums = omega (arith, absorbed-sum epsilon half B reading t f v R e); counts = more }
   where
-    more : (x : ℕ) → v ≤ x → countAt epsilon R (f .kn) x ≤ countAt epsilon v (absorb epsilon B t reading f .kn) x
+    more : (x : ℕ) → v ≤ x → countAt half R (f .kn) x ≤ countAt epsilon v (absorbWide epsilon half B t reading f .kn) x
     more x h =
         elim (lt-or-ge x (v + epsilon)) [
-          | inl k ↦ omega (arith, absorb-here epsilon B v R reading t f wide e x (omega arith) k)
-          | inr k ↦ omega (arith, sound-past n epsilon R f sound (x + epsilon) (omega arith))
+          | inl k ↦ omega (arith, absorbed-count epsilon half B reading t f v R e x (omega arith) k)
+          | inr k ↦ omega (arith, sound-past n half R f sound (x + half) (omega arith))
         ]
 
 -- right counts
@@ -78,15 +75,15 @@ pub early-bounded :
 early-bounded epsilon floor nodes v kn wide h x k = omega (arith, past-window epsilon v kn wide x (omega arith))
 
 pub absorb-bounded :
-    (epsilon B floor : ℕ) (nodes : List Node) (v reading R : ℕ) (t f : Timestamp) → length (t .kn) ≡ width epsilon → reading + v ≡ B + R
-    → Bounded epsilon floor nodes v (t .kn) → Bounded epsilon floor nodes R (f .kn)
-    → Bounded epsilon floor nodes v (absorb epsilon B t reading f .kn)
-absorb-bounded epsilon B floor nodes v reading R t f wide e a b x h =
+    (epsilon half B floor : ℕ) (nodes : List Node) (v reading R : ℕ) (t f : Timestamp) → reading + v ≡ B + R
+    → Bounded epsilon floor nodes v (t .kn) → Bounded half floor nodes R (f .kn)
+    → Bounded epsilon floor nodes v (absorbWide epsilon half B t reading f .kn)
+absorb-bounded epsilon half B floor nodes v reading R t f e a b x h =
     elim (lt-or-ge (x + epsilon) v) [
-      | inl k ↦ omega (arith, before-window epsilon v (absorb epsilon B t reading f .kn) x k)
+      | inl k ↦ omega (arith, before-window epsilon v (absorbWide epsilon half B t reading f .kn) x k)
       | inr k ↦ elim (lt-or-ge x (v + epsilon)) [
-        | inl l ↦ omega (arith, absorb-here epsilon B v R reading t f wide e x k l, a x h, b x h)
-        | inr l ↦ omega (arith, past-window epsilon v (absorb epsilon B t reading f .kn) (absorb-wide epsilon B reading t f) x l)
+        | inl l ↦ omega (arith, absorbed-count epsilon half B reading t f v R e x k l, a x h, b x h)
+        | inr l ↦ omega (arith, past-window epsilon v (absorbWide epsilon half B t reading f .kn) (absorbed-wide epsilon half B reading t f) x l)
       ]
     ]
 
@@ -121,41 +118,62 @@ own-bounded epsilon floor nodes nodes′ v u t wide pos g gain b x h =
       | inr e ↦ omega (arith, own-elsewhere epsilon v u t wide pos x e, g x, b x h)
     ]
 
--- a step of k moves no count to another clock
-step-here : (epsilon k last v : ℕ) (t : Timestamp) (x : ℕ) → last + k ≤ x + epsilon → countAt epsilon (last + k) (step k v t .kn) x ≡ countAt epsilon last (t .kn) x
+-- a step of k moves no count to another clock, also from fewer counts into more (02, 2.10)
+step-here :
+    (l : Schedule) → Good l → (k last v : ℕ) (t : Timestamp) → length (t .kn) ≡ width (tablesHalf l k) → (x : ℕ) → last + k ≤ x + ownLimits l .epsilon
+    → countAt (ownLimits l .epsilon) (last + k) (widerStep l k v t .kn) x ≡ countAt (tablesHalf l k) last (t .kn) x
 unfolding countAt
-step-here epsilon k last v t x h = step-count k last v t (x + epsilon) h
+step-here (steady s) good k last v t wide x h = step-count k last v t (x + s .epsilon) h
+step-here (widening before after change) good k last v t wide x h =
+    let l : Schedule = widening before after change in
+    let epsilon : ℕ = ownLimits l .epsilon in
+    let half : ℕ = tablesHalf l k in
+    let i : ℕ = x + epsilon - (last + k) in
+    count-index (last + k) (stepInto epsilon half k v t .kn) (x + epsilon) i (omega arith)
+    ∙ (into-at epsilon half k v t i wide (limits-grow l good (modulusOf l - k) (modulusOf l) (omega arith) .0)
+    ∙ count-moved epsilon last (t .kn) (k + i + half) (x + half) (omega arith))
 
 pub step-bounded :
-    (epsilon floor : ℕ) (nodes : List Node) (k last v : ℕ) (t : Timestamp) → Bounded epsilon floor nodes last (t .kn)
-    → Bounded epsilon floor nodes (last + k) (step k v t .kn)
-step-bounded epsilon floor nodes k last v t b x h =
-    elim (lt-or-ge (x + epsilon) (last + k)) [
-      | inl l ↦ omega (arith, before-window epsilon (last + k) (step k v t .kn) x l)
-      | inr l ↦ omega (arith, step-here epsilon k last v t x l, b x h)
+    (l : Schedule) → Good l → (floor : ℕ) (nodes : List Node) (k last v : ℕ) (t : Timestamp) → length (t .kn) ≡ width (tablesHalf l k)
+    → Bounded (tablesHalf l k) floor nodes last (t .kn) → Bounded (ownLimits l .epsilon) floor nodes (last + k) (widerStep l k v t .kn)
+step-bounded l good floor nodes k last v t wide b x h =
+    elim (lt-or-ge (x + ownLimits l .epsilon) (last + k)) [
+      | inl m ↦ omega (arith, before-window (ownLimits l .epsilon) (last + k) (widerStep l k v t .kn) x m)
+      | inr m ↦ omega (arith, step-here l good k last v t wide x m, b x h)
     ]
 
+step-c : (l : Schedule) (k v : ℕ) (t : Timestamp) → widerStep l k v t .c ≡ t .c - k
+unfolding step stepInto
+step-c (steady s) k v t = refl
+step-c (widening before after change) k v t = refl
+
 -- after a step of k the stamp knows what it knew
-pub under-step : (epsilon k last v R : ℕ) (f t : Timestamp) → Under epsilon R f last t → Under epsilon R f (last + k) (step k v t)
-unfolding step
-under-step epsilon k last v R f t u =
-    record { sums = omega (arith, u .sums); counts = λ x h. omega (arith, u .counts x (omega arith), step-here epsilon k last v t x (omega arith)) }
+pub under-step :
+    (l : Schedule) → Good l → (k last v known R : ℕ) (f t : Timestamp) → length (t .kn) ≡ width (tablesHalf l k) → Under known R f (tablesHalf l k) last t
+    → Under known R f (ownLimits l .epsilon) (last + k) (widerStep l k v t)
+under-step l good k last v known R f t wide u =
+    record {
+      sums = omega (arith, u .sums, step-c l k v t);
+      counts = λ x h. omega (arith, u .counts x (omega arith), step-here l good k last v t wide x (omega arith));
+    }
 
 -- and the own event keeps it, with its own clock counted once more
-pub own-under : (epsilon v u R : ℕ) (f t : Timestamp) → length (t .kn) ≡ width epsilon → 1 ≤ epsilon → Under epsilon R f v t → Under epsilon R f v (countOwn epsilon u t)
+pub own-under :
+    (epsilon v u known R : ℕ) (f t : Timestamp) → length (t .kn) ≡ width epsilon → 1 ≤ epsilon → Under known R f epsilon v t
+    → Under known R f epsilon v (countOwn epsilon u t)
 unfolding countOwn
-own-under epsilon v u R f t wide pos under = record { sums = under .sums; counts = more }
+own-under epsilon v u known R f t wide pos under = record { sums = under .sums; counts = more }
   where
-    more : (x : ℕ) → v ≤ x → countAt epsilon R (f .kn) x ≤ countAt epsilon v (countOwn epsilon u t .kn) x
+    more : (x : ℕ) → v ≤ x → countAt known R (f .kn) x ≤ countAt epsilon v (countOwn epsilon u t .kn) x
     more x h =
         elim (eq-or-ne x v) [
           | inl e ↦
-              subst (λ (y : ℕ). countAt epsilon R (f .kn) y ≤ countAt epsilon v (countOwn epsilon u t .kn) y) (sym e)
+              subst (λ (y : ℕ). countAt known R (f .kn) y ≤ countAt epsilon v (countOwn epsilon u t .kn) y) (sym e)
               (omega (arith, own-there epsilon v u t wide pos, under .counts v (omega arith)))
           | inr e ↦ omega (arith, own-elsewhere epsilon v u t wide pos x e, under .counts x h)
         ]
 
 pub own-strict :
-    (epsilon v u R : ℕ) (f t : Timestamp) → length (t .kn) ≡ width epsilon → 1 ≤ epsilon → Under epsilon R f v t
-    → countAt epsilon R (f .kn) v < countAt epsilon v (countOwn epsilon u t .kn) v
-own-strict epsilon v u R f t wide pos under = omega (arith, own-there epsilon v u t wide pos, under .counts v (omega arith))
+    (epsilon v u known R : ℕ) (f t : Timestamp) → length (t .kn) ≡ width epsilon → 1 ≤ epsilon → Under known R f epsilon v t
+    → countAt known R (f .kn) v < countAt epsilon v (countOwn epsilon u t .kn) v
+own-strict epsilon v u known R f t wide pos under = omega (arith, own-there epsilon v u t wide pos, under .counts v (omega arith))

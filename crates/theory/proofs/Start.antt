@@ -14,15 +14,17 @@ use Rattle.laws.specs.Lists.{within, every, any, select, sameList}
 use Rattle.laws.proofs.Numbers.{eq-or-ne, lt-or-gt, clash, and-intro, and-left, and-right, or-cases, false-of-not, not-of-false}
 use Rattle.laws.proofs.Lists.{countOf, every-mem, mem-of-select, getElem?-mem, getElem?-lt, getElem?-getD, largest-map-mem, sameList-true}
 use Rattle.laws.proofs.Sorted.{pairwise-ext, pairwise-of-apart, apart-index, apart-select, pigeonhole}
-use Rattle.model.specs.Setup.{Setup, inLimits, isMember}
+use Rattle.model.specs.Setup.{Setup, inLimits, isMember, holdbackLength}
 use Rattle.model.specs.Batch.{batchEntries}
 use Rattle.model.specs.Tick.{holdbackSize}
+use Rattle.model.specs.Schedule.{Schedule, steady, widestOf, Wider}
 use Rattle.model.specs.Run.{Node, Source, sentBy, stale, Call, Done, World, isAccepted, outputOf, doneOf, movedClock, act, atStart, sends, messageBytes}
-use Rattle.theory.specs.Premises.{sameSetup, together, distinct, validFor, exactHoldback, goodStart, largestClock, staleUntil, heardInTime, entryAllowed, entriesAllowed, oneSetup, trueClock, stepAllowed, hearsAllowed, acceptedWell, allowedFor, allowed}
+use Rattle.theory.specs.Premises.{sameSetup, together, distinct, validFor, exactHoldback, goodStart, largestClock, staleUntil, heardInTime, entryAllowed, entriesAllowed, oneSetup, isPlain, plainCall, trueClock, stepAllowed, hearsAllowed, acceptedWell, allowedFor, allowed}
 use Rattle.lemmas.proofs.Questions.{limits-from}
 use Rattle.lemmas.proofs.Bounds.{Limits}
 use Rattle.theory.proofs.Reach.{isStation}
-use Rattle.theory.proofs.World.{heardAt, Group, Good, SentEntry, EntryOk, Legal}
+use Rattle.theory.proofs.World.{heardAt, Group, Good, SentEntry, EntryOk, Due-call}
+use Rattle.theory.proofs.Plain.{PlainLegal, called-plain}
 
 -- the nodes, by the tests
 pub together-fact : (epsilon : ℕ) (nodes : List Node) → together epsilon nodes ≡ true → (i j : ℕ) (a b : Node) → getElem? nodes i ≡ some a → getElem? nodes j ≡ some b → a .clock ≤ b .clock + epsilon
@@ -34,7 +36,7 @@ together-fact epsilon nodes h i j a b p q =
 abbrev sameStation : Node → Node → Bool
 sameStation a b = not (a .listens) && (not (b .listens) && eqb (a .own) (b .own))
 
-distinct-fact :
+pub distinct-fact :
     (nodes : List Node) → distinct nodes ≡ true → (i j : ℕ) (a b : Node) → getElem? nodes i ≡ some a → getElem? nodes j ≡ some b
     → a .listens ≡ false → b .listens ≡ false → a .own ≡ b .own → i ≡ j
 unfolding distinct
@@ -54,7 +56,7 @@ distinct-fact nodes h i j a b p q x y o =
         clash same (rw (getElem?-getD nodes i a p, getElem?-getD nodes j a q) at e)
 
 -- no more stations than n
-stations-few :
+pub stations-few :
     (s : Setup) (nodes : List Node) → distinct nodes ≡ true → ((node : Node) → List·Memᴰ node nodes → node .listens ≡ false → node .own < s .n)
     → countOf isStation nodes ≤ s .n
 unfolding distinct countOf
@@ -67,7 +69,7 @@ stations-few s nodes h below =
     alike : (x y : Node) → List·Memᴰ x (select isStation nodes) → List·Memᴰ y (select isStation nodes) → not (sameStation x y) ≡ not (eqb (x .own) (y .own))
     alike x y m k = rw (mem-of-select isStation nodes m .1, mem-of-select isStation nodes k .1) refl
 
-pub group-start : (s : Setup) (nodes : List Node) → goodStart s nodes ≡ true → Group s nodes
+pub group-start : (s : Setup) (nodes : List Node) → goodStart s nodes ≡ true → Group (steady s) nodes
 unfolding goodStart validFor exactHoldback isMember
 group-start s nodes h =
     record {
@@ -100,15 +102,25 @@ group-start s nodes h =
           ],
         )
 
+-- a shelf has its length
+pub exact-start : (s : Setup) (nodes : List Node) → goodStart s nodes ≡ true → (node : Node) → List·Memᴰ node nodes → 2 ≤ length (node .holdback)
+unfolding goodStart exactHoldback holdbackLength
+exact-start s nodes h node mem =
+    let tests = and-right (every (validFor s) nodes) _ h in
+    let rest = and-right (distinct nodes) _ tests in
+    let exact = and-right (together (s .epsilon) nodes) _ rest in
+    let size : length (node .holdback) ≡ holdbackSize s = eqb-true (length (node .holdback)) (holdbackSize s) (every-mem (λ (a : Node). eqb (length (a .holdback)) (holdbackSize s)) exact mem) in
+    omega arith
+
 -- a start at which no node has passed the bounds
 pub good-start :
-    (s : Setup) (floor from : ℕ) (nodes : List Node) → goodStart s nodes ≡ true
-    → ((i : ℕ) (node : Node) → getElem? nodes i ≡ some node → node .clock + s .epsilon + s .epsilon ≤ floor)
-    → Good s floor from (atStart nodes)
+    (g : Schedule) (floor from : ℕ) (nodes : List Node) → Group g nodes
+    → ((i : ℕ) (node : Node) → getElem? nodes i ≡ some node → node .clock + widestOf g .epsilon + widestOf g .epsilon ≤ floor)
+    → Good g floor from (atStart nodes)
 unfolding atStart heardAt any
-good-start s floor from nodes h early =
+good-start g floor from nodes group early =
     record {
-      group = group-start s nodes h;
+      group = group;
       node = λ i node at. inl (record { early = early i node at; unheard = λ k. refl; uncalled = λ k d at′. absurd (nothing k d at′) });
       calls = λ k d at. absurd (nothing k d at);
       unique = λ k l a b p. absurd (nothing k a p);
@@ -124,7 +136,7 @@ unfolding largestClock
 largest-clock nodes i node at = largest-map-mem (λ (x : Node). x .clock) (getElem?-mem nodes i at)
 
 -- one setup
-same-setup : (s t : Setup) → sameSetup s t ≡ true → s ≡ t
+pub same-setup : (s t : Setup) → sameSetup s t ≡ true → s ≡ t
 unfolding sameSetup
 same-setup s t h =
     let h1 = and-right (eqb (s .n) (t .n)) _ h in
@@ -161,11 +173,11 @@ entries-at s x past nodes v (e ∷ es) (o ∷ os) h (suc k) b o′ p q =
 -- one entry
 pub entry-fact :
     (s : Setup) (x floor : ℕ) (past : List Done) (nodes : List Node) (v : ℕ) (bytes : List ℕ) (o : Source)
-    → (v ≤ staleUntil s x → v + s .epsilon ≤ floor) → entryAllowed s x past nodes v bytes o ≡ true → EntryOk s floor past nodes v bytes o
+    → (v ≤ staleUntil s x → v + s .epsilon ≤ floor) → entryAllowed s x past nodes v bytes o ≡ true → EntryOk (steady s) floor past nodes v bytes o
 entry-fact s x floor past nodes v bytes stale early h = early (leb-true v (staleUntil s x) h)
 entry-fact s x floor past nodes v bytes (sentBy k) early h = go (getElem? past k) refl h
   where
-    go : (d : Option Done) → getElem? past k ≡ d → heardInTime s nodes bytes d ≡ true → SentEntry s past nodes bytes k
+    go : (d : Option Done) → getElem? past k ≡ d → heardInTime s nodes bytes d ≡ true → SentEntry (steady s) past nodes bytes k
     go none e t = absurd (clash t refl)
     go (some m) e t =
         let a = and-right (sends m) _ t in
@@ -181,20 +193,30 @@ moved : (node : Node) (call : Call) → isAccepted (outputOf node call) ≡ true
 unfolding doneOf movedClock
 moved node call acc = rw acc refl
 
+-- a plain setup has no wider pair
+plain-fact : (w : Option Wider) → isPlain w ≡ true → w ≡ none
+plain-fact none h = refl
+plain-fact (some w) h = absurd (clash h refl)
+
 -- an accepted call that is allowed
 legal-fact :
     (s : Setup) (x floor : ℕ) (w : World) (call : Call) (node : Node) → ((v : ℕ) → v ≤ staleUntil s x → v + s .epsilon ≤ floor)
-    → getElem? (w .nodes) (call .node) ≡ some node → isAccepted (outputOf node call) ≡ true → acceptedWell s x w call (doneOf node call) ≡ true → Legal s floor w call node (doneOf node call .clock)
-unfolding acceptedWell oneSetup trueClock stepAllowed within hearsAllowed
+    → getElem? (w .nodes) (call .node) ≡ some node → isAccepted (outputOf node call) ≡ true → acceptedWell s x w call (doneOf node call) ≡ true → PlainLegal s floor w call node (doneOf node call .clock)
+unfolding acceptedWell plainCall oneSetup trueClock stepAllowed within hearsAllowed
 legal-fact s x floor w call node early at acc h =
     record {
-      at = at;
-      called = record { accepted = acc; setup-is = setup-fact; own-is = own-fact; clock-is = clock-fact; turn = moved node call acc; step-pos = leb-true 1 (call .step) (and-left (leb 1 (call .step)) (leb (call .step) (s .epsilon)) steps); step-few = leb-true (call .step) (s .epsilon) (and-right (leb 1 (call .step)) (leb (call .step) (s .epsilon)) steps) };
-      together = together-fact (s .epsilon) (act w call .nodes) (and-left (together (s .epsilon) (act w call .nodes)) E h3);
-      lengths = entries-lengths s x (w .past) (act w call .nodes) (doneOf node call .clock) (batchEntries (call .batch)) (call .sources) entries;
-      entry = λ e bytes o p q.
-          entry-fact s x floor (w .past) (act w call .nodes) (doneOf node call .clock) bytes o (early (doneOf node call .clock))
-          (entries-at s x (w .past) (act w call .nodes) (doneOf node call .clock) (batchEntries (call .batch)) (call .sources) entries e bytes o p q);
+      called = due;
+      along =
+          record {
+            at = at;
+            called = called-plain s node call due;
+            widths = inr (λ memory explained f m. refl);
+            together = together-fact (s .epsilon) (act w call .nodes) (and-left (together (s .epsilon) (act w call .nodes)) E h3);
+            lengths = entries-lengths s x (w .past) (act w call .nodes) (doneOf node call .clock) (batchEntries (call .batch)) (call .sources) entries;
+            entry = λ e bytes o p q.
+                entry-fact s x floor (w .past) (act w call .nodes) (doneOf node call .clock) bytes o (early (doneOf node call .clock))
+                (entries-at s x (w .past) (act w call .nodes) (doneOf node call .clock) (batchEntries (call .batch)) (call .sources) entries e bytes o p q);
+          };
     }
   where
     E : Bool
@@ -209,8 +231,17 @@ legal-fact s x floor w call node early at acc h =
     K : Bool
     K = leb 1 (call .step) && leb (call .step) (s .epsilon)
 
+    P : Bool
+    P = isPlain (call .wider) && sameList (call .spare) []
+
+    plain : P ≡ true
+    plain = and-left P (S && (C && (K && (together (s .epsilon) (act w call .nodes) && E)))) h
+
+    h0 : (S && (C && (K && (together (s .epsilon) (act w call .nodes) && E)))) ≡ true
+    h0 = and-right P (S && (C && (K && (together (s .epsilon) (act w call .nodes) && E)))) h
+
     h1 : (C && (K && (together (s .epsilon) (act w call .nodes) && E))) ≡ true
-    h1 = and-right S (C && (K && (together (s .epsilon) (act w call .nodes) && E))) h
+    h1 = and-right S (C && (K && (together (s .epsilon) (act w call .nodes) && E))) h0
 
     h2 : (K && (together (s .epsilon) (act w call .nodes) && E)) ≡ true
     h2 = and-right C (K && (together (s .epsilon) (act w call .nodes) && E)) h1
@@ -225,7 +256,7 @@ legal-fact s x floor w call node early at acc h =
     steps = and-left K (together (s .epsilon) (act w call .nodes) && E) h2
 
     one : S ≡ true
-    one = and-left S (C && (K && (together (s .epsilon) (act w call .nodes) && E))) h
+    one = and-left S (C && (K && (together (s .epsilon) (act w call .nodes) && E))) h0
 
     setup-fact : call .setup ≡ s
     setup-fact = same-setup (call .setup) s (and-left (sameSetup (call .setup) s) (doneOf node call .listens || eqb (call .own) (doneOf node call .own)) one)
@@ -240,19 +271,22 @@ legal-fact s x floor w call node early at acc h =
     clock-fact : call .clock ≡ doneOf node call .clock % s .modulus
     clock-fact = eqb-true (call .clock) (doneOf node call .clock % s .modulus) (and-left C (K && (together (s .epsilon) (act w call .nodes) && E)) h1)
 
+    due : Due-call s node call (doneOf node call .clock)
+    due = record { accepted = acc; wider-is = plain-fact (call .wider) (and-left (isPlain (call .wider)) (sameList (call .spare) []) plain); spare-is = sameList-true (call .spare) [] (and-right (isPlain (call .wider)) (sameList (call .spare) []) plain); setup-is = setup-fact; own-is = own-fact; clock-is = clock-fact; turn = moved node call acc; step-pos = leb-true 1 (call .step) (and-left (leb 1 (call .step)) (leb (call .step) (s .epsilon)) steps); step-few = leb-true (call .step) (s .epsilon) (and-right (leb 1 (call .step)) (leb (call .step) (s .epsilon)) steps) }
+
 -- a call that is allowed
 pub allowed-fact :
     (s : Setup) (x floor : ℕ) (w : World) (call : Call) → ((v : ℕ) → v ≤ staleUntil s x → v + s .epsilon ≤ floor) → allowed s x w call ≡ true
-    → (node : Node) × (getElem? (w .nodes) (call .node) ≡ some node) × ((isAccepted (outputOf node call) ≡ false) ⊎ Legal s floor w call node (doneOf node call .clock))
+    → (node : Node) × (getElem? (w .nodes) (call .node) ≡ some node) × ((isAccepted (outputOf node call) ≡ false) ⊎ PlainLegal s floor w call node (doneOf node call .clock))
 unfolding allowed doneOf
 allowed-fact s x floor w call early h = go (getElem? (w .nodes) (call .node)) refl h
   where
     decide : (node : Node) → getElem? (w .nodes) (call .node) ≡ some node → (b : Bool) → isAccepted (outputOf node call) ≡ b
-        → (not b || acceptedWell s x w call (doneOf node call)) ≡ true → (isAccepted (outputOf node call) ≡ false) ⊎ Legal s floor w call node (doneOf node call .clock)
+        → (not b || acceptedWell s x w call (doneOf node call)) ≡ true → (isAccepted (outputOf node call) ≡ false) ⊎ PlainLegal s floor w call node (doneOf node call .clock)
     decide node at false e t = inl e
     decide node at true e t = inr (legal-fact s x floor w call node early at e t)
 
     go : (o : Option Node) → getElem? (w .nodes) (call .node) ≡ o → allowedFor s x w call o ≡ true
-        → (node : Node) × (getElem? (w .nodes) (call .node) ≡ some node) × ((isAccepted (outputOf node call) ≡ false) ⊎ Legal s floor w call node (doneOf node call .clock))
+        → (node : Node) × (getElem? (w .nodes) (call .node) ≡ some node) × ((isAccepted (outputOf node call) ≡ false) ⊎ PlainLegal s floor w call node (doneOf node call .clock))
     go none e t = absurd (clash t refl)
     go (some node) e t = (node, e, decide node e (isAccepted (outputOf node call)) refl t)

@@ -19,16 +19,16 @@ use Rattle.model.specs.Tick.{Input, Output, holdbackSize, takenCount}
 use Rattle.model.specs.Observer.{Listening, Listened}
 use Rattle.model.specs.Holdback.{encodeFrames, encodeHoldback}
 use Rattle.model.specs.Schedule.{Schedule, steady, modulusOf, widestOf, Wider, isMarked, changeNear, samePairs, along, ownLimits}
-use Rattle.model.specs.Wider.{widerHeldBytes, widerSoundHoldback, widerQuestions, widerObserverQuestions, widerTablesSound, widerLeast, widerOpened, widerHeard, widerNewStamp, widerSent, widerDeliveredOf, widerKeptOf, widerShelfSound, widerRepair, widerAcceptance, tickIn}
+use Rattle.model.specs.Wider.{widerHeldBytes, widerSoundHoldback, widerQuestions, widerObserverQuestions, widerTablesSound, widerLeast, widerOpened, widerHeard, widerNewStamp, widerSent, widerDeliveredOf, widerKeptOf, widerHoldbackSound, widerRepair, widerAcceptance, tickIn}
 use Rattle.model.specs.WiderCalls.{widerLastSound, widerObserverLeast, widerObserverRepair, widerObserverOpened, widerObserverHeard, widerObserverDelivered, widerObserverKept, widerListened, listenIn}
 use Rattle.lemmas.proofs.Reading.{step-true}
 use Rattle.lemmas.proofs.Counts.{clock-sound}
 use Rattle.lemmas.proofs.Schedules.{Good, Aligned, limits-aligned, limits-good, limits-modulus}
 use Rattle.lemmas.proofs.WiderQueue.{LeftAlong}
-use Rattle.lemmas.proofs.WiderBoard.{BoardAlong, heardAlong, verdict-along, front-along, heard-bound, heard-room, bytes-delivered}
+use Rattle.lemmas.proofs.WiderReceiving.{ReceivingAlong, heardAlong, verdict-along, front-along, heard-bound, heard-room, bytes-delivered}
 use Rattle.lemmas.proofs.Carried.{moved-follows, holdback-moved}
 use Rattle.lemmas.proofs.WiderTick.{new-left-along, new-clock-along, tables-carried, half-moved-on}
-use Rattle.lemmas.proofs.WiderCall.{BothPairs, along-good, along-modulus, AcceptedIn, accepted-in, tick-board-along, tables-in, holdback-in, verdicts-in, kept-in, HeededIn, heeded-in, listen-board-along, last-in, listened-holdback-in, listened-verdicts-in, listened-kept-in}
+use Rattle.lemmas.proofs.WiderCall.{BothPairs, along-good, along-modulus, AcceptedIn, accepted-in, tick-receiving-along, tables-in, holdback-in, verdicts-in, kept-in, HeededIn, heeded-in, listen-receiving-along, last-in, listened-holdback-in, listened-verdicts-in, listened-kept-in}
 use Rattle.lemmas.proofs.NextWider.{along-next}
 use Rattle.theory.specs.NeverFull.{NeverFull}
 use Rattle.theory.specs.WiderAny.{markedLater, NextClock, nextAlong, heardBeforeIn, AnyStateIn, Demand2In, observedBeforeIn, AnyListenIn, Demand2ListenIn}
@@ -95,11 +95,11 @@ module _ (s : Setup) (w : Wider) (v k : ℕ) (both : BothPairs s w) (below : v <
       )
 
   -- a shelf that was left is sound there
-  next-shelf :
+  next-holdback :
       (size : ℕ) (queue : List Frame) → LeftAlong (along s w v) v queue
       → widerSoundHoldback (nextAlong s w v k) ((v + k) % s .modulus) (s .modulus + 1 - k) (encodeHoldback size queue) ≡ true
   unfolding encodeHoldback padded
-  next-shelf size queue left =
+  next-holdback size queue left =
       subst (λ (B : ℕ). widerSoundHoldback (nextAlong s w v k) ((v + k) % s .modulus) (B + 1 - k) (encodeHoldback size queue) ≡ true)
       (along-modulus s (markedLater s w v k) ((v + k) % s .modulus))
       (subst
@@ -136,12 +136,12 @@ module _ (s : Setup) (w : Wider) (v k : ℕ) (both : BothPairs s w) (below : v <
 
 -- 02, 2.7: by whatever is asked, the queue before each entry is never full
 never-full-along :
-    (g : Schedule) (v least : ℕ) (asking : Asking) (holdback : List ℕ) (entries : List (List ℕ)) → BoardAlong g v least asking
+    (g : Schedule) (v least : ℕ) (asking : Asking) (holdback : List ℕ) (entries : List (List ℕ)) → ReceivingAlong g v least asking
     → NeverFull (ownLimits g) (λ k. heardAlong g v least asking holdback (take k entries))
-never-full-along g v least asking holdback entries board =
+never-full-along g v least asking holdback entries receiving =
     record {
-      spare = λ k. heard-room g v least asking holdback (take k entries) board;
-      most = λ k. heard-bound g v least asking holdback (take k entries) board;
+      spare = λ k. heard-room g v least asking holdback (take k entries) receiving;
+      most = λ k. heard-bound g v least asking holdback (take k entries) receiving;
     }
 
 -- ---- a tick
@@ -156,7 +156,7 @@ module _ (w : Wider) (i : Input) (a : AcceptedIn w i) where
   repair-in :
       tickIn w i .answer .repair
       ≡ cond (widerTablesSound g (i .clock) (i .tables)) 0 1 + cond (widerSoundHoldback g (i .clock) least (i .holdback)) 0 2
-  unfolding widerAcceptance widerRepair widerShelfSound
+  unfolding widerAcceptance widerRepair widerHoldbackSound
   repair-in = ap (λ (o : Output). o .answer .repair) (a .accepted)
 
   taken-in : tickIn w i .answer .taken ≡ takenCount (widerHeard g i .verdicts)
@@ -196,7 +196,7 @@ module _ (w : Wider) (i : Input) (a : AcceptedIn w i) where
         delivered = delivered-in;
         delivery =
             ap (widerHeldBytes g) delivery-in
-            ∙ bytes-delivered g (i .clock) least (widerQuestions g (i .clock)) (i .holdback) (batchEntries (i .batch)) (tick-board-along w i a) (i .delivery);
+            ∙ bytes-delivered g (i .clock) least (widerQuestions g (i .clock)) (i .holdback) (batchEntries (i .batch)) (tick-receiving-along w i a) (i .delivery);
         sent = sent-in;
         outgoing = rw (sent-in, outgoing-in) (take-overlay (widerSent g i) (i .outgoing));
         bounded = λ k next.
@@ -206,9 +206,9 @@ module _ (w : Wider) (i : Input) (a : AcceptedIn w i) where
             subst
             (λ (s : List ℕ). widerSoundHoldback (nextAlong (i .setup) w (i .clock) k) ((i .clock + k) % i .setup .modulus) (i .setup .modulus + 1 - k) s ≡ true)
             (sym (holdback-in w i a))
-            (next-shelf (i .setup) w (i .clock) k (a .both) (a .clock-below) next (holdbackSize (widestOf g)) (widerKeptOf g i) (kept-in w i a));
+            (next-holdback (i .setup) w (i .clock) k (a .both) (a .clock-below) next (holdbackSize (widestOf g)) (widerKeptOf g i) (kept-in w i a));
         neverFull =
-            never-full-along g (i .clock) least (widerQuestions g (i .clock)) (i .holdback) (batchEntries (i .batch)) (tick-board-along w i a);
+            never-full-along g (i .clock) least (widerQuestions g (i .clock)) (i .holdback) (batchEntries (i .batch)) (tick-receiving-along w i a);
       }
 
 pub demand2-in : Demand2In
@@ -255,7 +255,7 @@ module _ (w : Wider) (i : Listening) (a : HeededIn w i) where
         delivered = listen-delivered-in;
         delivery =
             ap (widerHeldBytes l) listen-delivery-in
-            ∙ bytes-delivered l (i .clock) (widerObserverLeast l i) (widerObserverQuestions l (i .clock)) (i .holdback) (batchEntries (i .batch)) (listen-board-along w i a)
+            ∙ bytes-delivered l (i .clock) (widerObserverLeast l i) (widerObserverQuestions l (i .clock)) (i .holdback) (batchEntries (i .batch)) (listen-receiving-along w i a)
             (i .delivery);
         last = last-in w i a;
         bounded = λ k next.
@@ -266,9 +266,9 @@ module _ (w : Wider) (i : Listening) (a : HeededIn w i) where
             subst
             (λ (s : List ℕ). widerSoundHoldback (nextAlong (i .setup) w (i .clock) k) ((i .clock + k) % i .setup .modulus) (i .setup .modulus + 1 - k) s ≡ true)
             (sym (listened-holdback-in w i a))
-            (next-shelf (i .setup) w (i .clock) k (a .both) (a .clock-below) next (holdbackSize (widestOf l)) (widerObserverKept l i) (listened-kept-in w i a));
+            (next-holdback (i .setup) w (i .clock) k (a .both) (a .clock-below) next (holdbackSize (widestOf l)) (widerObserverKept l i) (listened-kept-in w i a));
         neverFull =
-            never-full-along l (i .clock) (widerObserverLeast l i) (widerObserverQuestions l (i .clock)) (i .holdback) (batchEntries (i .batch)) (listen-board-along w i a);
+            never-full-along l (i .clock) (widerObserverLeast l i) (widerObserverQuestions l (i .clock)) (i .holdback) (batchEntries (i .batch)) (listen-receiving-along w i a);
       }
 
 pub demand2-listen-in : Demand2ListenIn

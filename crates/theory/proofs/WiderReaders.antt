@@ -4,30 +4,33 @@ use Prim.Native.Nat.{ℕ, zero, suc, _≤_}
 use native.Mathlib.Omega.{arith}
 use mathlib.Core.Path.{_≡_, refl, sym, ap, subst, _∙_}
 use mathlib.Core.Bool.{Bool, true, false, _&&_}
-use mathlib.Core.List.{List, []}
+use mathlib.Core.List.{List, [], List·Memᴰ}
 use mathlib.Core.Logic.{inl, inr}
 use lib.Dec.{leb, ltb}
-use lib.ListN.{length, take}
-use borrow.Author.Tests.{le-leb, lt-ltb, le-ltb, leb-true, ltb-true}
-use Rattle.laws.specs.Lists.{overlay}
+use lib.ListN.{length, take, drop}
+use borrow.Author.Tests.{eqb-true, le-leb, lt-ltb, le-ltb, leb-true, ltb-true}
+use Rattle.laws.specs.Lists.{every, overlay}
 use Rattle.laws.proofs.Numbers.{lt-or-ge, and-left, and-right}
-use Rattle.laws.proofs.Lists.{take-overlay}
-use Rattle.model.specs.Setup.{Setup, width, isMember, longestPayload}
+use Rattle.laws.proofs.Lists.{every-mem, every-mono, take-overlay}
+use Rattle.model.specs.Setup.{Setup, width, depthOf, holdbackLength, isMember, longestPayload}
 use Rattle.model.specs.Timestamp.{Timestamp, trimmed, widened}
-use Rattle.model.specs.Frame.{Frame, encode}
+use Rattle.model.specs.Frame.{Frame, twoAt, encode}
 use Rattle.model.specs.Question.{firstNo, askRange}
 use Rattle.model.specs.Codec.{askPayload, frameOf, WriteAnswer, writtenBy}
-use Rattle.model.specs.Schedule.{Schedule, Wider, bothInLimits, askBoth, askWider}
-use Rattle.model.specs.Wider.{widerFormed, widerDecode, frameHalf, soundWithin, questionsWithin}
+use Rattle.model.specs.Holdback.{encodeFrames, encodeHoldback}
+use Rattle.model.specs.Tick.{holdbackSize}
+use Rattle.model.specs.Schedule.{Schedule, widestOf, Wider, bothInLimits, askBoth, askWider, along, ownLimits}
+use Rattle.model.specs.Wider.{widerFormed, widerDecode, widerEnd, frameHalf, soundWithin, questionsWithin, widerFrameQuestions, widerHeldBytes, widerHeld, widerPasses, widerSoundHoldback}
 use Rattle.model.specs.WiderCalls.{pairsOf, readInQuestions, ReadInAnswer, isWide, readInBy, readIn, writtenHalf, writeInQuestions, writeIn}
-use Rattle.theory.specs.Demand2.{areBytes}
-use Rattle.theory.specs.WiderAny.{Demand2CodecIn}
+use Rattle.theory.specs.Demand2.{areBytes, hasWidth}
+use Rattle.theory.specs.WiderAny.{fitsIn, Demand2CodecIn}
 use Rattle.lemmas.proofs.Bounds.{Sound}
 use Rattle.lemmas.proofs.Questions.{yes-cons}
 use Rattle.lemmas.proofs.RoundTrip.{none-no}
 use Rattle.lemmas.proofs.Counts.{trimmed-wide, trimmed-widened}
-use Rattle.lemmas.proofs.WideFrames.{Half, half-one, has-width, wide-decode, wide-encode, within-from, within-to, FrameWithin, within-passes, within-passed}
+use Rattle.lemmas.proofs.WideFrames.{Half, half-one, has-width, wide-decode, wide-encode, within-from, within-to, FrameWithin, within-passes, within-passed, wide-held, wide-holdback}
 use Rattle.lemmas.proofs.WiderCall.{BothPairs, both-from}
+use Rattle.theory.proofs.Readers.{front-by, whole-by}
 
 -- the setup with another ε
 abbrev withHalf : Setup → ℕ → Setup
@@ -217,5 +220,51 @@ module _ (s : Setup) (w : Wider) (own : ℕ) where
       written : ℕ → Frame → WriteAnswer
       written h g = writtenBy (firstNo (writeInQuestions s w own h g buffer)) (encode g) buffer
 
+-- ---- the shelf and the hand-out
+
+-- the test for one of the two widths, as the lemmas say it
+all-wide-in : (g : Schedule) (queue : List Frame) → every (fitsIn g) queue ≡ true → (f : Frame) → List·Memᴰ f queue → length (f .stamp .kn) ≡ width (frameHalf g f)
+unfolding fitsIn hasWidth
+all-wide-in g queue h f m = eqb-true (length (f .stamp .kn)) (width (frameHalf g f)) (every-mem (fitsIn g) h m)
+
+frames-front-in :
+    (g : Schedule) (bytes : List ℕ) → 2 ≤ length bytes → areBytes bytes ≡ true → every (widerFormed g) (widerHeldBytes g bytes) ≡ true
+    → overlay (encodeFrames (widerHeld g bytes)) bytes ≡ bytes
+unfolding areBytes encodeFrames widerHeld widerHeldBytes
+frames-front-in g bytes long below all = front-by (widerEnd g) (widerFormed g) (widerDecode g) encode (wide-encode g) bytes long below all
+
+-- what passes 10 to 12 is well-formed
+passes-formed-in : (g : Schedule) (bytes : List ℕ) → widerPasses g bytes ≡ true → widerFormed g bytes ≡ true
+unfolding widerPasses widerFrameQuestions
+passes-formed-in g bytes h = none-no (widerFormed g bytes) 9 _ (eqb-true (firstNo (widerFrameQuestions g bytes)) 0 h) .0
+
+-- the frames of a sound shelf, encoded, are the front of its bytes
+holdback-front-in :
+    (g : Schedule) (v least : ℕ) (bytes : List ℕ) → 2 ≤ length bytes → areBytes bytes ≡ true → widerSoundHoldback g v least bytes ≡ true
+    → overlay (encodeFrames (widerHeld g bytes)) bytes ≡ bytes
+unfolding widerSoundHoldback
+holdback-front-in g v least bytes long below h =
+    let few = leb (twoAt bytes 0) (depthOf (ownLimits g)) in
+    let all = and-left (every (widerPasses g) (widerHeldBytes g bytes)) _ (and-right few _ h) in
+    frames-front-in g bytes long below (every-mono (widerPasses g) (widerFormed g) (widerHeldBytes g bytes) (passes-formed-in g) all)
+
+-- a shelf has room for its count
+size-some : (s : Setup) → 2 ≤ holdbackSize s
+unfolding holdbackLength
+size-some s = omega arith
+
 pub demand2-codec-in : Demand2CodecIn
-demand2-codec-in s w own = record { frameRead = read-written-in s w own; frameWritten = written-read-in s w own }
+unfolding encodeHoldback overlay
+demand2-codec-in s w own =
+    record {
+      frameRead = read-written-in s w own;
+      frameWritten = written-read-in s w own;
+      holdbackRead = λ v size queue fits. wide-holdback (along s w v) queue (all-wide-in (along s w v) queue fits) size;
+      holdbackWritten = λ v least bytes size below h zeros.
+          let g : Schedule = along s w v in
+          whole-by (holdbackSize (widestOf g)) (encodeFrames (widerHeld g bytes)) bytes
+          (holdback-front-in g v least bytes (omega (arith, size, size-some (widestOf g))) below h) zeros;
+      deliveryRead = λ v queue old fits.
+          wide-held (along s w v) queue (all-wide-in (along s w v) queue fits) (drop (length (encodeFrames queue)) old);
+      deliveryWritten = λ v bytes long below all. frames-front-in (along s w v) bytes long below all;
+    }

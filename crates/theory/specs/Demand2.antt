@@ -115,8 +115,8 @@ pub record Codec : Type 0 where
   pub cut : List ℕ → List (List ℕ)
   pub held : List ℕ → List Frame
   -- the hand-out of frames, and the shelf of this length
-  pub handout : List Frame → List ℕ
-  pub shelf : ℕ → List Frame → List ℕ
+  pub delivery : List Frame → List ℕ
+  pub holdback : ℕ → List Frame → List ℕ
   pub size : ℕ
   -- a shelf is sound for a clock, with the least due clock allowed
   pub sound : ℕ → ℕ → List ℕ → Bool
@@ -135,20 +135,20 @@ pub record RoundTrips (c : Codec) : Type 0 where
       ≡ record { number = 0; size = length bytes; buffer = overlay bytes buffer }
   -- a shelf holds the frames of which it was made
   pub holdbackRead :
-      (size : ℕ) (queue : List Frame) → every (c .fits) queue ≡ true → length queue < 65536 → c .held (c .shelf size queue) ≡ queue
+      (size : ℕ) (queue : List Frame) → every (c .fits) queue ≡ true → length queue < 65536 → c .held (c .holdback size queue) ≡ queue
   -- a sound shelf with zeros behind its frames is what is made of these frames
   pub holdbackWritten :
       (v least : ℕ) (bytes : List ℕ) → length bytes ≡ c .size → areBytes bytes ≡ true → c .sound v least bytes ≡ true
-      → drop (length (c .handout (c .held bytes))) bytes ≡ replicate (c .size - length (c .handout (c .held bytes))) 0
-      → c .shelf (c .size) (c .held bytes) ≡ bytes
+      → drop (length (c .delivery (c .held bytes))) bytes ≡ replicate (c .size - length (c .delivery (c .held bytes))) 0
+      → c .holdback (c .size) (c .held bytes) ≡ bytes
   -- a hand-out holds the frames of which it was made, whatever the buffer held
   pub deliveryRead :
       (queue : List Frame) (old : List ℕ) → every (c .fits) queue ≡ true → length queue < 65536
-      → c .held (overlay (c .handout queue) old) ≡ queue
+      → c .held (overlay (c .delivery queue) old) ≡ queue
   -- bytes that hold well-formed frames begin with the hand-out that is made of these frames
   pub deliveryWritten :
       (bytes : List ℕ) → 2 ≤ length bytes → areBytes bytes ≡ true → every (c .formed) (c .cut bytes) ≡ true
-      → overlay (c .handout (c .held bytes)) bytes ≡ bytes
+      → overlay (c .delivery (c .held bytes)) bytes ≡ bytes
 
 -- a station's
 abbrev pub stationCodec : Setup → ℕ → Codec
@@ -161,8 +161,8 @@ stationCodec s own =
       formed = wellFormed (s .epsilon);
       cut = heldBytes (s .epsilon);
       held = held (s .epsilon);
-      handout = encodeFrames;
-      shelf = encodeHoldback;
+      delivery = encodeFrames;
+      holdback = encodeHoldback;
       size = holdbackSize s;
       sound = soundHoldback s;
     }

@@ -5,4 +5,6 @@ pub mod Demand2
 pub mod LongClocks
 pub mod Demand3
 pub mod LongAny
+pub mod Changeover
+pub mod Through
 pub mod WiderAny

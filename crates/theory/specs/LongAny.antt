@@ -58,7 +58,7 @@ pub record AnyLong (i : Input) : Type 0 where
   pub delivered : longTick i .answer .delivered ≡ length (longDelivered i)
   -- what stands in the hand-out buffer, byte for byte, and what is read back from it
   pub delivery : longHeldBytes (i .setup .epsilon) (longTick i .delivery) ≡ map longEncode (longDelivered i)
-  pub handedOut : longHeld (i .setup .epsilon) (longTick i .delivery) ≡ longDelivered i
+  pub deliveredFrames : longHeld (i .setup .epsilon) (longTick i .delivery) ≡ longDelivered i
   -- "a search through all of them at hand-out": what is due at v or before, of all that is held, and in order, so each once
   pub due : (f : Frame) → List·Memᴰ f (longDelivered i) → List·Memᴰ f (longHeard i .queue) × (longDueBy (i .setup) (i .clock) f ≡ true)
   pub allDue : (f : Frame) → List·Memᴰ f (longHeard i .queue) → longDueBy (i .setup) (i .clock) f ≡ true → List·Memᴰ f (longDelivered i)
@@ -80,8 +80,8 @@ pub record AnyLong (i : Input) : Type 0 where
   pub few : (k : ℕ) → length (longHeardBefore i k .queue) ≤ longMost
   pub fewLeft : length (longHeld (i .setup .epsilon) (longTick i .holdback)) ≤ longMost
   -- the buffers: the shelf has zeros behind its frames, the others what stood there. An entry's count is a byte
-  pub shelf : longTick i .holdback ≡ longEncodeHoldback (longHoldbackSize (i .setup)) (longHeld (i .setup .epsilon) (longTick i .holdback))
-  pub shelfSize : length (longTick i .holdback) ≡ length (i .holdback)
+  pub holdback : longTick i .holdback ≡ longEncodeHoldback (longHoldbackSize (i .setup)) (longHeld (i .setup .epsilon) (longTick i .holdback))
+  pub holdbackSized : length (longTick i .holdback) ≡ length (i .holdback)
   pub outgoingKept : Overlaid (longTick i .answer .sent) (i .outgoing) (longTick i .outgoing)
   pub deliveryKept : Overlaid (length (longEncodeFrames (longDelivered i))) (i .delivery) (longTick i .delivery)
   pub verdictsKept : areBytes (i .batch) ≡ true → Overlaid (length (batchEntries (i .batch))) (i .verdicts) (longTick i .verdicts)
@@ -106,8 +106,8 @@ longCodec s own =
       formed = longFormed (s .epsilon);
       cut = longHeldBytes (s .epsilon);
       held = longHeld (s .epsilon);
-      handout = longEncodeFrames;
-      shelf = longEncodeHoldback;
+      delivery = longEncodeFrames;
+      holdback = longEncodeHoldback;
       size = longHoldbackSize s;
       sound = longSoundHoldback s;
     }

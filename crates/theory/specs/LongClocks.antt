@@ -27,7 +27,7 @@ pub record Engine : Type 0 where
   pub holdback : List ℕ
 
 -- the engines, and the frame that each call so far has sent, no bytes if none
-pub record LongYard : Type 0 where
+pub record LongGroup : Type 0 where
   pub engines : List Engine
   pub sent : List (List ℕ)
 
@@ -41,15 +41,15 @@ unfoldable pub longBatch : List (List ℕ) → List Source → List ℕ
 longBatch sent sources = length sources ∷ joined (λ (source : Source). length (longEntry sent source) ∷ longEntry sent source) sources
 
 -- the same call of an engine: for the true clock, with buffers that have room
-unfoldable pub longInput : LongYard → Engine → Done → Input
-longInput yard engine d =
+unfoldable pub longInput : LongGroup → Engine → Done → Input
+longInput workbench engine d =
     record {
       setup = d .call .setup;
       own = d .call .own;
       clock = d .clock;
       tables = engine .tables;
       holdback = engine .holdback;
-      batch = longBatch (yard .sent) (d .call .sources);
+      batch = longBatch (workbench .sent) (d .call .sources);
       send = d .call .send;
       payload = d .call .payload;
       outgoing = replicate (longestLong (d .call .setup .epsilon)) 0;
@@ -58,40 +58,40 @@ longInput yard engine d =
     }
 
 -- what comes of it, if there is such an engine
-abbrev pub longOutput : LongYard → Done → Option Engine → Option Output
-longOutput yard d none = none
-longOutput yard d (some engine) = some (longTick (longInput yard engine d))
+abbrev pub longOutput : LongGroup → Done → Option Engine → Option Output
+longOutput workbench d none = none
+longOutput workbench d (some engine) = some (longTick (longInput workbench engine d))
 
-abbrev pub longAfter : LongYard → Done → Option Output → LongYard
-longAfter yard d none = record { engines = yard .engines; sent = yard .sent ++ ([] ∷ []) }
-longAfter yard d (some o) =
+abbrev pub longAfter : LongGroup → Done → Option Output → LongGroup
+longAfter workbench d none = record { engines = workbench .engines; sent = workbench .sent ++ ([] ∷ []) }
+longAfter workbench d (some o) =
     record {
-      engines = set (yard .engines) (d .node) (record { tables = o .answer .tables; holdback = o .holdback });
-      sent = yard .sent ++ (take (o .answer .sent) (o .outgoing) ∷ []);
+      engines = set (workbench .engines) (d .node) (record { tables = o .answer .tables; holdback = o .holdback });
+      sent = workbench .sent ++ (take (o .answer .sent) (o .outgoing) ∷ []);
     }
 
 -- only the accepted calls of stations are made of engines
-abbrev pub longOf : Bool → LongYard → Done → Option Output
-longOf false yard d = none
-longOf true yard d = longOutput yard d (getElem? (yard .engines) (d .node))
+abbrev pub longOf : Bool → LongGroup → Done → Option Output
+longOf false workbench d = none
+longOf true workbench d = longOutput workbench d (getElem? (workbench .engines) (d .node))
 
-unfoldable pub longActed : LongYard → Done → LongYard
-longActed yard d = longAfter yard d (longOf (isEvent d) yard d)
+unfoldable pub longActed : LongGroup → Done → LongGroup
+longActed workbench d = longAfter workbench d (longOf (isEvent d) workbench d)
 
-unfoldable pub longAll : LongYard → List Done → LongYard
-longAll yard [] = yard
-longAll yard (d ∷ ds) = longAll (longActed yard d) ds
+unfoldable pub longAll : LongGroup → List Done → LongGroup
+longAll workbench [] = workbench
+longAll workbench (d ∷ ds) = longAll (longActed workbench d) ds
 
 -- "starts fresh": at the station's true clock, with an empty shelf
 unfoldable pub longFresh : Setup → Node → Engine
 longFresh s node =
     record { tables = widened (fresh (s .epsilon) (node .clock)); holdback = longEncodeHoldback (longHoldbackSize s) [] }
 
-unfoldable pub longStart : Setup → List Node → LongYard
+unfoldable pub longStart : Setup → List Node → LongGroup
 longStart s nodes = record { engines = map (longFresh s) nodes; sent = [] }
 
 -- the engines after the first j calls
-abbrev pub enginesAfter : Setup → List Node → List Call → ℕ → LongYard
+abbrev pub enginesAfter : Setup → List Node → List Call → ℕ → LongGroup
 enginesAfter s nodes calls j = longAll (longStart s nodes) (take j (runFrom (atStart nodes) calls .past))
 
 -- ---- the premises that are its own
@@ -150,12 +150,12 @@ pub record SameLong (s : Setup) (d : Done) (o : Output) : Type 0 where
   pub framesRead : take (d .output .answer .sent) (d .output .outgoing) ≡ rewritten s (take (o .answer .sent) (o .outgoing))
   -- "and hand-outs": how many frames; every byte of the station's buffer, of which those beyond the hand-out stay; and what is read back from both
   pub delivered : o .answer .delivered ≡ d .output .answer .delivered
-  pub handouts : d .output .delivery ≡ overlay (narrowedDelivery s (o .delivery)) (d .call .delivery)
-  pub handedOut : held (s .epsilon) (d .output .delivery) ≡ map (reducedLong (s .modulus)) (longHeld (s .epsilon) (o .delivery))
+  pub deliveries : d .output .delivery ≡ overlay (narrowedDelivery s (o .delivery)) (d .call .delivery)
+  pub deliveredFrames : held (s .epsilon) (d .output .delivery) ≡ map (reducedLong (s .modulus)) (longHeld (s .epsilon) (o .delivery))
 
 -- the engine of the call's station, as the calls before it left it
-abbrev pub LongMatched : Setup → LongYard → Done → Type 0
-LongMatched s yard d = (o : Output) × (longOf (isEvent d) yard d ≡ some o) × SameLong s d o
+abbrev pub LongMatched : Setup → LongGroup → Done → Type 0
+LongMatched s workbench d = (o : Output) × (longOf (isEvent d) workbench d ≡ some o) × SameLong s d o
 
 abbrev pub LongClocks : Type 0
 LongClocks =

@@ -11,6 +11,7 @@ use Rattle.model.specs.Timestamp.{Timestamp, fresh, trimmed}
 use Rattle.model.specs.Frame.{twoAt}
 use Rattle.model.specs.Batch.{batchEntries}
 use Rattle.model.specs.Tick.{holdbackSize}
+use Rattle.model.specs.Schedule.{Wider}
 use Rattle.model.specs.Run.{Node, Source, sentBy, stale, Call, Done, World, act, doneOf, isAccepted, isEvent, sends, messageBytes}
 
 -- the two setups are the same
@@ -78,6 +79,15 @@ entriesAllowed s x past nodes v (e ∷ es) (o ∷ os) =
 unfoldable pub oneSetup : Setup → Call → Done → Bool
 oneSetup s call d = sameSetup (call .setup) s && (d .listens || eqb (call .own) (d .own))
 
+-- 02, 2.10: a plain setup, which has no wider pair
+abbrev pub isPlain : Option Wider → Bool
+isPlain none = true
+isPlain (some w) = false
+
+-- a call with a plain setup, and with the shelf as long as the call before left it
+unfoldable pub plainCall : Call → Bool
+plainCall call = isPlain (call .wider) && sameList (call .spare) []
+
 -- 01: "the true clock modulo B"
 unfoldable pub trueClock : Setup → Call → Done → Bool
 trueClock s call d = eqb (call .clock) (d .clock % s .modulus)
@@ -91,11 +101,11 @@ unfoldable pub hearsAllowed : Setup → ℕ → World → Call → Done → Bool
 hearsAllowed s x w call d =
     entriesAllowed s x (w .past) (act w call .nodes) (d .clock) (batchEntries (call .batch)) (call .sources)
 
--- 01: an accepted call: the one setup, the true clock and its step, the drift limit kept after it ("limits ε and δ kept"), and what it may hear
+-- 01: an accepted call: the one setup, a plain one, the true clock and its step, the drift limit kept after it ("limits ε and δ kept"), and what it may hear
 unfoldable pub acceptedWell : Setup → ℕ → World → Call → Done → Bool
 acceptedWell s x w call d =
-    oneSetup s call d && (trueClock s call d && (stepAllowed s call
-    && (together (s .epsilon) (act w call .nodes) && hearsAllowed s x w call d)))
+    plainCall call && (oneSetup s call d && (trueClock s call d && (stepAllowed s call
+    && (together (s .epsilon) (act w call .nodes) && hearsAllowed s x w call d))))
 
 -- 01: "A refused call may stand anywhere, given its station's tables and shelf and whatever else"
 abbrev pub allowedFor : Setup → ℕ → World → Call → Option Node → Bool

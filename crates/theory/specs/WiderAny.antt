@@ -4,21 +4,22 @@ use mathlib.Core.Path.{_≡_}
 use mathlib.Core.Bool.{Bool, true, false, cond}
 use mathlib.Core.List.{List, [], map}
 use lib.Dec.{leb, ltb}
-use lib.ListN.{length, take}
-use Rattle.laws.specs.Lists.{overlay}
+use lib.ListN.{length, take, drop, replicate}
+use Rattle.laws.specs.Lists.{every, overlay}
 use Rattle.model.specs.Setup.{Setup}
 use Rattle.model.specs.Timestamp.{Timestamp, soundClock, trimmed, widened}
-use Rattle.model.specs.Frame.{encode}
+use Rattle.model.specs.Frame.{Frame, encode}
 use Rattle.model.specs.Batch.{batchEntries}
 use Rattle.model.specs.Codec.{noTimestamp, frameOf}
+use Rattle.model.specs.Holdback.{encodeFrames, encodeHoldback}
 use Rattle.model.specs.Judge.{Heard}
-use Rattle.model.specs.Tick.{Input, Output, refusal, takenCount}
+use Rattle.model.specs.Tick.{Input, Output, holdbackSize, refusal, takenCount}
 use Rattle.model.specs.Observer.{Listening, Listened, notListened}
-use Rattle.model.specs.Schedule.{Schedule, limitsAt, modulusOf, Wider, changeNear, samePairs, along, ownLimits}
-use Rattle.model.specs.Wider.{widerDecode, widerHeldBytes, widerSoundHoldback, widerOpening, widerQuestions, widerObserverQuestions, widerHear, widerTablesSound, widerLeast, widerOpened, widerDeliveredOf, widerSent, widerCallQuestions, widerAcceptance, tickIn}
+use Rattle.model.specs.Schedule.{Schedule, limitsAt, modulusOf, widestOf, Wider, changeNear, samePairs, along, ownLimits}
+use Rattle.model.specs.Wider.{widerFormed, widerDecode, frameHalf, widerHeldBytes, widerHeld, widerSoundHoldback, widerOpening, widerQuestions, widerObserverQuestions, widerHear, widerTablesSound, widerLeast, widerOpened, widerDeliveredOf, widerSent, widerCallQuestions, widerAcceptance, tickIn}
 use Rattle.model.specs.WiderCalls.{listenInQuestions, widerObserverLeast, widerObserverOpened, widerObserverDelivered, widerListened, listenIn, pairsOf, readInQuestions, ReadInAnswer, isWide, readInBy, readIn, writtenHalf, writeInQuestions, writeIn}
 use Rattle.theory.specs.Demand1.{Checked, CheckedWrite}
-use Rattle.theory.specs.Demand2.{FirstFailed, areBytes}
+use Rattle.theory.specs.Demand2.{FirstFailed, areBytes, hasWidth}
 use Rattle.theory.specs.NeverFull.{NeverFull}
 
 -- ---- demand 1
@@ -128,7 +129,11 @@ Demand2ListenIn = (w : Wider) (i : Listening) → listenIn w i .number ≡ 0 →
 
 -- ---- the codec: reader and writer, for each width
 
--- "the codec round-trips", with the width as a part of a frame's contents
+-- a frame of one of the two widths
+unfoldable pub fitsIn : Schedule → Frame → Bool
+fitsIn g f = hasWidth (frameHalf g f) f
+
+-- "the codec round-trips": the frame, the shelf and the hand-out, with the width as a part of a frame's contents
 pub record RoundTripsIn (s : Setup) (w : Wider) (own : ℕ) : Type 0 where
   -- a written frame reads back the same, and whether it has more than 2ε counts; the places past its own counts come back 0
   pub frameRead :
@@ -146,6 +151,24 @@ pub record RoundTripsIn (s : Setup) (w : Wider) (own : ℕ) : Type 0 where
       (bytes buffer : List ℕ) → areBytes bytes ≡ true → readIn s w own bytes .number ≡ 0 → length bytes ≤ length buffer
       → writeIn s w own (readIn s w own bytes .station) (readIn s w own bytes .wide) (readIn s w own bytes .stamp) (readIn s w own bytes .payload) buffer
       ≡ record { number = 0; size = length bytes; buffer = overlay bytes buffer }
+  -- a shelf holds the frames of which it was made, of either width; in a call for v
+  pub holdbackRead :
+      (v size : ℕ) (queue : List Frame) → every (fitsIn (along s w v)) queue ≡ true → widerHeld (along s w v) (encodeHoldback size queue) ≡ queue
+  -- a sound shelf with zeros behind its frames is what is made of these frames
+  pub holdbackWritten :
+      (v least : ℕ) (bytes : List ℕ) → length bytes ≡ holdbackSize (widestOf (along s w v)) → areBytes bytes ≡ true
+      → widerSoundHoldback (along s w v) v least bytes ≡ true
+      → drop (length (encodeFrames (widerHeld (along s w v) bytes))) bytes
+      ≡ replicate (holdbackSize (widestOf (along s w v)) - length (encodeFrames (widerHeld (along s w v) bytes))) 0
+      → encodeHoldback (holdbackSize (widestOf (along s w v))) (widerHeld (along s w v) bytes) ≡ bytes
+  -- a hand-out holds the frames of which it was made, of either width, whatever the buffer held
+  pub deliveryRead :
+      (v : ℕ) (queue : List Frame) (old : List ℕ) → every (fitsIn (along s w v)) queue ≡ true
+      → widerHeld (along s w v) (overlay (encodeFrames queue) old) ≡ queue
+  -- bytes that hold well-formed frames begin with the hand-out that is made of these frames
+  pub deliveryWritten :
+      (v : ℕ) (bytes : List ℕ) → 2 ≤ length bytes → areBytes bytes ≡ true → every (widerFormed (along s w v)) (widerHeldBytes (along s w v) bytes) ≡ true
+      → overlay (encodeFrames (widerHeld (along s w v) bytes)) bytes ≡ bytes
 
 abbrev pub Demand2CodecIn : Type 0
 Demand2CodecIn = (s : Setup) (w : Wider) (own : ℕ) → RoundTripsIn s w own

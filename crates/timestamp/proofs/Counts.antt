@@ -16,7 +16,7 @@ use Rattle.laws.proofs.Numbers.{lt-or-ge, and-true, and-false}
 use Rattle.laws.proofs.Lists.{tab-take, every-append}
 use Rattle.model.specs.Setup.{width}
 use Rattle.model.specs.Timestamp.{Timestamp, atMost, trimmed}
-use Rattle.timestamp.specs.Views.{withinLimits}
+use Rattle.timestamp.specs.Views.{withinCeilings}
 
 -- a number less what it has of another, and one more
 sub-next : (w n : ℕ) → n < w → w - n ≡ suc (w - suc n)
@@ -119,12 +119,12 @@ and-last false b = sym (and-false b)
 
 -- counts are within their limits if those before the last are, and the last is within its own
 limits-append : (n top : ℕ) (l : List ℕ) (x : ℕ)
-    → withinLimits n top (l ++ (x ∷ [])) ≡ (leb x (cond (leb (length l) top) n 0) && withinLimits n top l)
+    → withinCeilings n top (l ++ (x ∷ [])) ≡ (leb x (cond (leb (length l) top) n 0) && withinCeilings n top l)
 unfolding atMost every
 limits-append n top l x = go (lt-or-ge top (length l)) (lt-or-ge 0 x)
   where
     go : (top < length l) ⊎ (length l ≤ top) → (0 < x) ⊎ (x ≤ 0)
-        → withinLimits n top (l ++ (x ∷ [])) ≡ (leb x (cond (leb (length l) top) n 0) && withinLimits n top l)
+        → withinCeilings n top (l ++ (x ∷ [])) ≡ (leb x (cond (leb (length l) top) n 0) && withinCeilings n top l)
     go (inr h) _ =
         let long : length l ≤ top + 1 = omega arith in
         let longer : length (l ++ (x ∷ [])) ≤ top + 1 = omega (arith, length-append l (x ∷ [])) in
@@ -167,17 +167,17 @@ limits-append n top l x = go (lt-or-ge top (length l)) (lt-or-ge 0 x)
 
 -- what a loop that asks for each count's limit knows at its start, after one turn more, and at its end
 module _ (n top : ℕ) where
-  pub limits-start : true ≡ withinLimits n top []
+  pub limits-start : true ≡ withinCeilings n top []
   unfolding atMost every
   limits-start = let e : length {A = ℕ} [] ≤ top + 1 = omega arith in rw (drop-of-length-le [] e)
 
   pub limits-next : (i place limit : ℕ) (fine answer : Bool) (kn : List ℕ) → i < length kn → place ≡ i
-      → limit ≡ cond (leb place top) n 0 → fine ≡ withinLimits n top (take i kn) → answer ≡ (leb (getD kn i 0) limit && fine)
-      → answer ≡ withinLimits n top (take (i + 1) kn)
+      → limit ≡ cond (leb place top) n 0 → fine ≡ withinCeilings n top (take i kn) → answer ≡ (leb (getD kn i 0) limit && fine)
+      → answer ≡ withinCeilings n top (take (i + 1) kn)
   limits-next i place limit fine answer kn h e l f a =
       let passed : length (take i kn) ≡ i = length-take-le i kn (omega arith) in
       rw (a, f, l, e, add-one i, take-suc kn i 0 h, limits-append n top (take i kn) (getD kn i 0), passed)
 
-  pub limits-end : (i width : ℕ) (fine : Bool) (kn : List ℕ) → i ≤ width → width ≤ i → fine ≡ withinLimits n top (take i kn)
-      → fine ≡ withinLimits n top (take width kn)
+  pub limits-end : (i width : ℕ) (fine : Bool) (kn : List ℕ) → i ≤ width → width ≤ i → fine ≡ withinCeilings n top (take i kn)
+      → fine ≡ withinCeilings n top (take width kn)
   limits-end i width fine kn h k f = let e : width ≡ i = omega arith in rw e f

@@ -13,7 +13,7 @@ use Rattle.laws.specs.Lists.{within}
 use Rattle.laws.proofs.Numbers.{and-false}
 use Rattle.model.specs.Timestamp.{Timestamp, countAt, atMost, trimmed, soundTimestamp, clockStep, soundClock, soundBeside}
 use Rattle.lemmas.proofs.Counts.{count-zero, counts-from-drop}
-use Rattle.timestamp.specs.Views.{ofCounts, withinLimits}
+use Rattle.timestamp.specs.Views.{ofCounts, withinCeilings}
 use Rattle.timestamp.proofs.Steps.{trimmed-all}
 
 module _ (n epsilon c : ℕ) (kn : List ℕ) where
@@ -33,7 +33,7 @@ module _ (n epsilon c : ℕ) (kn : List ℕ) where
 
   -- with a count at offset c, the limits of the counts decide
   pub sound-within : length kn ≡ 2 * epsilon → c < epsilon → 1 ≤ getD kn (epsilon + c) 0
-      → withinLimits n (epsilon + c) (take (2 * epsilon) kn) ≡ soundTimestamp n epsilon (ofCounts c kn)
+      → withinCeilings n (epsilon + c) (take (2 * epsilon) kn) ≡ soundTimestamp n epsilon (ofCounts c kn)
   unfolding soundTimestamp
   sound-within long h k =
       let low : c ≤ epsilon - 1 = omega arith in

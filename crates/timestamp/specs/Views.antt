@@ -22,8 +22,8 @@ abbrev pub ofCounts : ℕ → List ℕ → stamps.Timestamp
 ofCounts c kn = stampBy 0 c kn
 
 -- 01: "each count ≤ n" and "all counts above" the place `top` "are 0"
-abbrev pub withinLimits : ℕ → ℕ → List ℕ → Bool
-withinLimits n top kn = atMost n kn && atMost 0 (drop (top + 1) kn)
+abbrev pub withinCeilings : ℕ → ℕ → List ℕ → Bool
+withinCeilings n top kn = atMost n kn && atMost 0 (drop (top + 1) kn)
 
 -- 01, tick 3: "each count" becomes "the larger of own and frame's, both placed relative to v": the count at a place
 abbrev pub largerAt : ℕ → ℕ → List ℕ → List ℕ → ℕ → ℕ

@@ -15,5 +15,5 @@ pub use stamp::counts_at_most;
 pub use stamp::counts_of;
 pub use stamp::near;
 pub use stamp::sound_counts;
-pub use window::limits_of;
+pub use window::ceilings_of;
 pub use window::sound_window;

@@ -8,7 +8,7 @@ ghost use Rattle.laws.specs.Lists.{tab, padded};
 ghost use Rattle.model.specs.Setup.{widest};
 ghost use Rattle.model.specs.Timestamp.{atMost, soundTimestamp, soundBeside, soundTables, trimmed, widened};
 ghost use Rattle.model.specs.Timestamp as model;
-ghost use Rattle.timestamp.specs.Views.{stampOf, ofCounts, withinLimits, raisedAt};
+ghost use Rattle.timestamp.specs.Views.{stampOf, ofCounts, withinCeilings, raisedAt};
 
 // 01: the stamp.
 pub struct Timestamp {
@@ -43,14 +43,14 @@ impl Timestamp {
     }
 
     // 01, tick 2; 02, 2.2: "c drops by the step and counts move down by it".
-    pub fn step(self, epsilon: usize, k: usize, v: usize) -> Self
+    pub fn step(self, epsilon: usize, k: usize, clock: usize) -> Self
         requires { ⌜ (k ≤ epsilon) × (epsilon ≤ 16) ⌝ }
-        ensures { λ s. ⌜ stampOf s ≡ widened (model.step k v (trimmed epsilon (stampOf self))) ⌝ }
+        ensures { λ s. ⌜ stampOf s ≡ widened (model.step k clock (trimmed epsilon (stampOf self))) ⌝ }
     {
         let own = self.kn;
         let kn = counts_of(&own, k, 2 * epsilon - k);
         Timestamp {
-            r: v,
+            r: clock,
             c: past(self.c, k),
             kn,
         }
@@ -84,15 +84,15 @@ impl Timestamp {
     }
 
     // 01, tick 4: "The count at offset 0 rises by one; r is v".
-    pub fn count_own(self, epsilon: usize, v: usize) -> Self
+    pub fn count_own(self, epsilon: usize, clock: usize) -> Self
         requires { ⌜ (1 ≤ epsilon) × ((epsilon ≤ 16) × (getD (self .kn) epsilon 0 ≤ 254)) ⌝ }
         requires { ⌜ stampOf self ≡ widened (trimmed epsilon (stampOf self)) ⌝ }
-        ensures { λ s. ⌜ stampOf s ≡ widened (model.countOwn epsilon v (trimmed epsilon (stampOf self))) ⌝ }
+        ensures { λ s. ⌜ stampOf s ≡ widened (model.countOwn epsilon clock (trimmed epsilon (stampOf self))) ⌝ }
     {
         let mut kn = self.kn;
         kn[epsilon] = kn[epsilon] + 1;
         Timestamp {
-            r: v,
+            r: clock,
             c: self.c,
             kn,
         }
@@ -124,13 +124,13 @@ impl Timestamp {
     }
 
     // All of it. 02, 2.2: r lies 1 to ε before v.
-    pub fn is_sound_for(self, n: usize, epsilon: usize, modulus: usize, v: usize) -> bool
+    pub fn is_sound_for(self, n: usize, epsilon: usize, modulus: usize, clock: usize) -> bool
         requires { ⌜ (1 ≤ n) × ((n ≤ 16) × ((1 ≤ epsilon) × (epsilon ≤ 16))) ⌝ }
-        requires { ⌜ (modulus ≤ 65535) × (v < modulus) ⌝ }
-        ensures { λ b. ⌜ b ≡ soundTables n epsilon modulus v (trimmed epsilon (stampOf self)) ⌝ }
+        requires { ⌜ (modulus ≤ 65535) × (clock < modulus) ⌝ }
+        ensures { λ b. ⌜ b ≡ soundTables n epsilon modulus clock (trimmed epsilon (stampOf self)) ⌝ }
     {
-        let clock = clock_sound(epsilon, modulus, v, self.r);
-        self.sound_beside(n, epsilon, clock)
+        let timely = clock_sound(epsilon, modulus, clock, self.r);
+        self.sound_beside(n, epsilon, timely)
     }
 }
 
@@ -145,33 +145,33 @@ pub fn sound_counts(kn: &[u8], c: usize, n: usize, epsilon: usize) -> bool
     if kn[epsilon + c] < 1 {
         return false;
     }
-    within_limits(kn, 2 * epsilon, epsilon + c, n)
+    within_ceilings(kn, 2 * epsilon, epsilon + c, n)
 }
 
 // 01: "each count ≤ n" and "all counts above" the place `top` "are 0", in one pass. A place is held as a byte too, so that the
 // compiler can take 16 counts at a time.
-fn within_limits(kn: &[u8], width: usize, top: usize, n: usize) -> bool
+fn within_ceilings(kn: &[u8], width: usize, top: usize, n: usize) -> bool
     requires { ⌜ (width ≤ length (now kn)) × ((width ≤ 32) × ((top < width) × (n ≤ 16))) ⌝ }
-    ensures { λ b. ⌜ b ≡ withinLimits n top (take width (now (kn .entry))) ⌝ }
+    ensures { λ b. ⌜ b ≡ withinCeilings n top (take width (now (kn .entry))) ⌝ }
 {
     let most = n as u8;
     let last = top as u8;
     let mut fine = true;
     let mut i = 0;
-    let mut place = 0u8;
+    let mut index = 0u8;
     while i < width {
-        fine = both(kn[i] <= limit_at(place, last, most), fine);
+        fine = both(kn[i] <= ceiling_at(index, last, most), fine);
         i += 1;
-        place += 1;
+        index += 1;
     }
     fine
 }
 
 // The most that the count at a place may be: `n` up to the place `top`, 0 above it.
-fn limit_at(place: u8, top: u8, n: u8) -> u8
-    ensures { λ x. ⌜ x ≡ cond (leb place top) n 0 ⌝ }
+fn ceiling_at(index: u8, top: u8, n: u8) -> u8
+    ensures { λ x. ⌜ x ≡ cond (leb index top) n 0 ⌝ }
 {
-    if place <= top { n } else { 0 }
+    if index <= top { n } else { 0 }
 }
 
 // Both answers are yes.
@@ -248,34 +248,34 @@ fn raise(own: &mut [u8], to: usize, other: &[u8], from: usize, count: usize)
 }
 
 // 01: "u is (r − v) modulo B".
-fn ahead(modulus: usize, v: usize, r: usize) -> usize
-    requires { ⌜ (modulus ≤ 65535) × ((v < modulus) × (r < modulus)) ⌝ }
-    ensures { λ u. ⌜ u ≡ model.ahead modulus v r ⌝ }
+fn ahead(modulus: usize, clock: usize, r: usize) -> usize
+    requires { ⌜ (modulus ≤ 65535) × ((clock < modulus) × (r < modulus)) ⌝ }
+    ensures { λ u. ⌜ u ≡ model.ahead modulus clock r ⌝ }
 {
-    if v <= r {
-        return r - v;
+    if clock <= r {
+        return r - clock;
     }
-    r + (modulus - v)
+    r + (modulus - clock)
 }
 
 // 02, 2.2: the step from the clock r of the tables to v: (v − r) modulo B.
-pub fn clock_step(modulus: usize, r: usize, v: usize) -> usize
-    requires { ⌜ (modulus ≤ 65535) × ((r < modulus) × (v < modulus)) ⌝ }
-    ensures { λ k. ⌜ k ≡ model.clockStep modulus r v ⌝ }
+pub fn clock_step(modulus: usize, r: usize, clock: usize) -> usize
+    requires { ⌜ (modulus ≤ 65535) × ((r < modulus) × (clock < modulus)) ⌝ }
+    ensures { λ k. ⌜ k ≡ model.clockStep modulus r clock ⌝ }
 {
-    ahead(modulus, r, v)
+    ahead(modulus, r, clock)
 }
 
 // 01: "r is below B and one before v modulo B". 02, 2.2: r lies 1 to ε before v. 02, 2.6: an observer's last clock is judged
 // "like the r of tables".
-pub fn clock_sound(epsilon: usize, modulus: usize, v: usize, r: usize) -> bool
-    requires { ⌜ (modulus ≤ 65535) × (v < modulus) ⌝ }
-    ensures { λ b. ⌜ b ≡ model.soundClock epsilon modulus v r ⌝ }
+pub fn clock_sound(epsilon: usize, modulus: usize, clock: usize, r: usize) -> bool
+    requires { ⌜ (modulus ≤ 65535) × (clock < modulus) ⌝ }
+    ensures { λ b. ⌜ b ≡ model.soundClock epsilon modulus clock r ⌝ }
 {
     if modulus <= r {
         return false;
     }
-    let k = clock_step(modulus, r, v);
+    let k = clock_step(modulus, r, clock);
     if k < 1 {
         return false;
     }
@@ -292,11 +292,11 @@ fn turned(x: usize, modulus: usize) -> usize
 
 // 01: "If u ≤ ε − 1, r is u ahead. Otherwise it is B − u behind." v itself reads B. So a reading lies ε and so much more as r lies past the
 // clock that reads ε, which is the same for all r.
-pub fn near(epsilon: usize, modulus: usize, v: usize, r: usize) -> usize
+pub fn near(epsilon: usize, modulus: usize, clock: usize, r: usize) -> usize
     requires { ⌜ (1 ≤ epsilon) × (epsilon < modulus) ⌝ }
-    requires { ⌜ (modulus ≤ 65535) × ((v < modulus) × (r < modulus)) ⌝ }
-    ensures { λ x. ⌜ x ≡ model.near epsilon modulus v r ⌝ }
+    requires { ⌜ (modulus ≤ 65535) × ((clock < modulus) × (r < modulus)) ⌝ }
+    ensures { λ x. ⌜ x ≡ model.near epsilon modulus clock r ⌝ }
 {
-    let least = turned(v + epsilon, modulus);
+    let least = turned(clock + epsilon, modulus);
     ahead(modulus, least, r) + epsilon
 }

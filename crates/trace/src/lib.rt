@@ -5,9 +5,10 @@ mod parse;
 mod parts;
 mod reasons;
 
-pub use lines::TickFigures;
+pub use lines::TickNumbers;
 pub use lines::put_lines;
 pub use lines::put_stopped;
+pub use parse::BAD_TRACE;
 pub use parse::COUNT_LENGTH;
 pub use parse::NodeSetup;
 pub use parse::SETUP_LENGTH;

@@ -30,7 +30,7 @@ ghost use Rattle.trace.specs.Text.{flag, tickLine, giveAfter, giveLines,
 ghost use Rattle.trace.specs.Replay.{stopped};
 
 // What a tick line says: 01's clock, mend, c, taken, outgoing length (0 if none), handed out.
-pub struct TickFigures {
+pub struct TickNumbers {
     pub clock: usize,
     pub repair: usize,
     pub c: usize,
@@ -50,7 +50,7 @@ fn flag_of(sent: usize) -> usize
 }
 
 // How long the tick line is.
-fn tick_size(f: TickFigures) -> usize
+fn tick_size(f: TickNumbers) -> usize
     ensures { λ r. ⌜ r ≡ length (tickLine (f .clock) (f .repair) (f .c) (f .taken) (f .sent) (f .delivered)) ⌝ }
 {
     let first = digit_count(f.clock) + digit_count(f.repair) + digit_count(f.c);
@@ -58,7 +58,7 @@ fn tick_size(f: TickFigures) -> usize
 }
 
 // 01: "A tick line has clock, mend, c, taken, sent (1 or 0), handed out".
-fn put_tick(buf: &mut [u8], at: usize, f: TickFigures) -> usize
+fn put_tick(buf: &mut [u8], at: usize, f: TickNumbers) -> usize
     requires { ⌜ at + length (tickLine (f .clock) (f .repair) (f .c) (f .taken) (f .sent) (f .delivered)) ≤ length (now buf) ⌝ }
     ensures { λ r. ⌜ Put (now (buf .entry)) at (tickLine (f .clock) (f .repair) (f .c) (f .taken) (f .sent) (f .delivered)) (now (buf .exit)) r ⌝ }
 {
@@ -103,24 +103,24 @@ fn frame_at(delivery: &[u8], at: usize, epsilon: usize) -> &[u8]
 }
 
 // 02, 2.4: which of the frames at two positions is first, and what decided.
-fn compared_at(s: Setup, v: usize, delivery: &[u8], last: usize, at: usize) -> Comparison
-    requires { ⌜ Two (setupOf s) v (now delivery) last at ⌝ }
+fn compared_at(setup: Setup, clock: usize, delivery: &[u8], last: usize, at: usize) -> Comparison
+    requires { ⌜ Two (setupOf setup) clock (now delivery) last at ⌝ }
     ensures { λ o. ⌜ comparisonOf o
-        ≡ compared (setupOf s) v (frameFrom (s .epsilon) (now (delivery .entry)) last) (frameFrom (s .epsilon) (now (delivery .entry)) at) ⌝ }
+        ≡ compared (setupOf setup) clock (frameFrom (setup .epsilon) (now (delivery .entry)) last) (frameFrom (setup .epsilon) (now (delivery .entry)) at) ⌝ }
 {
-    let epsilon = s.epsilon as usize;
+    let epsilon = setup.epsilon as usize;
     let f = frame_at(delivery, last, epsilon);
     let g = frame_at(delivery, at, epsilon);
-    compare_frames(s, v, f, g)
+    compare_frames(setup, clock, f, g)
 }
 
 // How long the give line of the frame at a position is, after that of the frame at `last`.
-fn give_size(s: Setup, v: usize, delivery: &[u8], last: usize, at: usize) -> usize
-    requires { ⌜ Two (setupOf s) v (now delivery) last at ⌝ }
-    ensures { λ r. ⌜ r ≡ length (giveAfter (setupOf s) v (frameFrom (s .epsilon) (now (delivery .entry)) last) (frameFrom (s .epsilon) (now (delivery .entry)) at)) ⌝ }
+fn give_size(setup: Setup, clock: usize, delivery: &[u8], last: usize, at: usize) -> usize
+    requires { ⌜ Two (setupOf setup) clock (now delivery) last at ⌝ }
+    ensures { λ r. ⌜ r ≡ length (giveAfter (setupOf setup) clock (frameFrom (setup .epsilon) (now (delivery .entry)) last) (frameFrom (setup .epsilon) (now (delivery .entry)) at)) ⌝ }
 {
-    let epsilon = s.epsilon as usize;
-    let comparison = compared_at(s, v, delivery, last, at);
+    let epsilon = setup.epsilon as usize;
+    let comparison = compared_at(setup, clock, delivery, last, at);
     let frame = frame_at(delivery, at, epsilon);
     let station = station_of(frame);
     let r = r_of(frame);
@@ -133,18 +133,18 @@ fn give_size(s: Setup, v: usize, delivery: &[u8], last: usize, at: usize) -> usi
 fn put_give_at(
     buf: &mut [u8],
     end: usize,
-    s: Setup,
-    v: usize,
+    setup: Setup,
+    clock: usize,
     delivery: &[u8],
     last: usize,
     at: usize,
 ) -> usize
-    requires { ⌜ Two (setupOf s) v (now delivery) last at ⌝ }
-    requires { ⌜ end + length (giveAfter (setupOf s) v (frameFrom (s .epsilon) (now delivery) last) (frameFrom (s .epsilon) (now delivery) at)) ≤ length (now buf) ⌝ }
-    ensures { λ e. ⌜ Put (now (buf .entry)) end (giveAfter (setupOf s) v (frameFrom (s .epsilon) (now (delivery .entry)) last) (frameFrom (s .epsilon) (now (delivery .entry)) at)) (now (buf .exit)) e ⌝ }
+    requires { ⌜ Two (setupOf setup) clock (now delivery) last at ⌝ }
+    requires { ⌜ end + length (giveAfter (setupOf setup) clock (frameFrom (setup .epsilon) (now delivery) last) (frameFrom (setup .epsilon) (now delivery) at)) ≤ length (now buf) ⌝ }
+    ensures { λ e. ⌜ Put (now (buf .entry)) end (giveAfter (setupOf setup) clock (frameFrom (setup .epsilon) (now (delivery .entry)) last) (frameFrom (setup .epsilon) (now (delivery .entry)) at)) (now (buf .exit)) e ⌝ }
 {
-    let epsilon = s.epsilon as usize;
-    let comparison = compared_at(s, v, delivery, last, at);
+    let epsilon = setup.epsilon as usize;
+    let comparison = compared_at(setup, clock, delivery, last, at);
     let frame = frame_at(delivery, at, epsilon);
     let station = station_of(frame);
     let r = r_of(frame);
@@ -153,17 +153,17 @@ fn put_give_at(
 }
 
 // Whether the give lines of a delivery have at most `room` bytes. The first frame is compared with itself: nothing decides.
-fn gives_fit(s: Setup, v: usize, delivery: &[u8], room: usize) -> bool
-    requires { ⌜ Given (setupOf s) v (now delivery) ⌝ }
-    ensures { λ r. ⌜ r ≡ leb (length (giveLines (setupOf s) v (now (delivery .entry)))) room ⌝ }
+fn gives_fit(setup: Setup, clock: usize, delivery: &[u8], room: usize) -> bool
+    requires { ⌜ Given (setupOf setup) clock (now delivery) ⌝ }
+    ensures { λ r. ⌜ r ≡ leb (length (giveLines (setupOf setup) clock (now (delivery .entry)))) room ⌝ }
 {
-    let epsilon = s.epsilon as usize;
+    let epsilon = setup.epsilon as usize;
     let mut left = two_at(delivery, 0);
     let mut last = 2;
     let mut at = 2;
     let mut room_left = room;
     while 0 < left {
-        let size = give_size(s, v, delivery, last, at);
+        let size = give_size(setup, clock, delivery, last, at);
         if room_left < size {
             return false;
         }
@@ -176,17 +176,17 @@ fn gives_fit(s: Setup, v: usize, delivery: &[u8], room: usize) -> bool
 }
 
 // Writes a give line for each frame of a delivery, the first compared with itself.
-fn put_gives(buf: &mut [u8], from: usize, s: Setup, v: usize, delivery: &[u8]) -> usize
-    requires { ⌜ Given (setupOf s) v (now delivery) × (from + length (giveLines (setupOf s) v (now delivery)) ≤ length (now buf)) ⌝ }
-    ensures { λ e. ⌜ Put (now (buf .entry)) from (giveLines (setupOf s) v (now (delivery .entry))) (now (buf .exit)) e ⌝ }
+fn put_gives(buf: &mut [u8], from: usize, setup: Setup, clock: usize, delivery: &[u8]) -> usize
+    requires { ⌜ Given (setupOf setup) clock (now delivery) × (from + length (giveLines (setupOf setup) clock (now delivery)) ≤ length (now buf)) ⌝ }
+    ensures { λ e. ⌜ Put (now (buf .entry)) from (giveLines (setupOf setup) clock (now (delivery .entry))) (now (buf .exit)) e ⌝ }
 {
-    let epsilon = s.epsilon as usize;
+    let epsilon = setup.epsilon as usize;
     let mut left = two_at(delivery, 0);
     let mut last = 2;
     let mut at = 2;
     let mut end = from;
     while 0 < left {
-        end = put_give_at(buf, end, s, v, delivery, last, at);
+        end = put_give_at(buf, end, setup, clock, delivery, last, at);
         last = at;
         at = next_frame(delivery, at, epsilon);
         left -= 1;
@@ -196,10 +196,10 @@ fn put_gives(buf: &mut [u8], from: usize, s: Setup, v: usize, delivery: &[u8]) -
 
 // Writes the lines of a tick at a position, and answers where they end; 0, and nothing is written,
 // where there is no room for all of them.
-pub fn put_lines(buf: &mut [u8], at: usize, f: TickFigures, s: Setup, delivery: &[u8]) -> usize
-    requires { ⌜ Given (setupOf s) (f .clock) (now delivery) ⌝ }
-    ensures { λ r. ⌜ r ≡ textEnd (now (buf .entry)) at (tickLines (f .clock) (f .repair) (f .c) (f .taken) (f .sent) (f .delivered) (setupOf s) (now (delivery .entry))) ⌝ }
-    ensures { λ r. ⌜ now (buf .exit) ≡ textWritten (now (buf .entry)) at (tickLines (f .clock) (f .repair) (f .c) (f .taken) (f .sent) (f .delivered) (setupOf s) (now (delivery .entry))) ⌝ }
+pub fn put_lines(buf: &mut [u8], at: usize, f: TickNumbers, setup: Setup, delivery: &[u8]) -> usize
+    requires { ⌜ Given (setupOf setup) (f .clock) (now delivery) ⌝ }
+    ensures { λ r. ⌜ r ≡ textEnd (now (buf .entry)) at (tickLines (f .clock) (f .repair) (f .c) (f .taken) (f .sent) (f .delivered) (setupOf setup) (now (delivery .entry))) ⌝ }
+    ensures { λ r. ⌜ now (buf .exit) ≡ textWritten (now (buf .entry)) at (tickLines (f .clock) (f .repair) (f .c) (f .taken) (f .sent) (f .delivered) (setupOf setup) (now (delivery .entry))) ⌝ }
 {
     let size = tick_size(f);
     if buf.len() < at {
@@ -209,11 +209,11 @@ pub fn put_lines(buf: &mut [u8], at: usize, f: TickFigures, s: Setup, delivery: 
     if room < size {
         return 0;
     }
-    if !gives_fit(s, f.clock, delivery, room - size) {
+    if !gives_fit(setup, f.clock, delivery, room - size) {
         return 0;
     }
     let end = put_tick(buf, at, f);
-    put_gives(buf, end, s, f.clock, delivery)
+    put_gives(buf, end, setup, f.clock, delivery)
 }
 
 // Writes the line of a refusal, as `put_lines` does those of a tick.

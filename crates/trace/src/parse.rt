@@ -1,4 +1,5 @@
 // From the bytes of a trace to the arguments of a call. A byte that is missing reads as 0.
+use setup::BAD_SETUP;
 use setup::Setup;
 use setup::holdback_length;
 use setup::valid_for;
@@ -14,6 +15,9 @@ ghost use Rattle.trace.specs.Trace.{traceSetup, setupNumber, tickCount, 
 pub const SETUP_LENGTH: usize = 6;
 
 pub const COUNT_LENGTH: usize = 2;
+
+// 01: "A cut or overlong trace, or a send byte other than 0 or 1, gets 5".
+pub const BAD_TRACE: u8 = 5;
 
 // 01: the setup, as a trace has it: the group's numbers, and the own number.
 pub struct NodeSetup {
@@ -43,12 +47,12 @@ pub fn setup_number(s: &[u8], size: usize) -> u8
     ensures { λ r. ⌜ r ≡ setupNumber size (now (s .entry)) ⌝ }
 {
     if s.len() < size {
-        return 5;
+        return BAD_TRACE;
     }
     let read = read_setup(s);
     let setup = read.setup;
     if !valid_for(setup, read.own) {
-        return 1;
+        return BAD_SETUP;
     }
     if 65536
         < holdback_length(
@@ -57,7 +61,7 @@ pub fn setup_number(s: &[u8], size: usize) -> u8
             setup.delta as usize,
         )
     {
-        return 1;
+        return BAD_SETUP;
     }
     0
 }
@@ -74,7 +78,7 @@ pub fn count_number(s: &[u8]) -> u8
     ensures { λ r. ⌜ r ≡ countNumber (now (s .entry)) ⌝ }
 {
     if s.len() < COUNT_LENGTH {
-        return 5;
+        return BAD_TRACE;
     }
     0
 }
@@ -85,7 +89,7 @@ pub fn end_number(more: usize) -> u8
     ensures { λ r. ⌜ r ≡ endNumber more ⌝ }
 {
     if 0 < more {
-        return 5;
+        return BAD_TRACE;
     }
     0
 }
@@ -124,10 +128,10 @@ fn tick_number(s: &[u8]) -> u8
 {
     let end = tick_end(s);
     if end != s.len() {
-        return 5;
+        return BAD_TRACE;
     }
     if 1 < byte_at(s, 2) {
-        return 5;
+        return BAD_TRACE;
     }
     0
 }

@@ -14,11 +14,11 @@ use Rattle.model.specs.Setup.{Setup}
 use Rattle.model.specs.Frame.{Frame}
 use Rattle.model.specs.Tick.{Input, Output}
 use Rattle.model.specs.Run.{Node, Call, Done, isEvent, runFrom, atStart}
-use Rattle.model.specs.Long.{longLimits, askLongSetup, lowFirst, numberAt, longEncode, longFrameEnd, longFormed, longDecode, longFrameQuestions, longestLong, longRead, longWriteQuestions, longWriteFrame, longBefore, longDue, longHoldbackSize, longHeldBytes, longHeld, longPasses, longNotEarly, longNotOverdue, longSoundHoldback, longEncodeFrames, longEncodeHoldback, askLongEarly, askHeld, longPlaceQuestions, longQuestions, longJudge, longHearOne, longHear, longAbsorbAll, longCallQuestions, longClockSound, longTablesSound, longLeastDue, longShelfSound, longRepair, longOpeningStamp, longOpened, longHeard, longNewStamp, longSent, longDueBy, longDelivered, longKept, longAcceptance, longTick}
+use Rattle.model.specs.Long.{longLimits, askLongSetup, lowFirst, numberAt, longEncode, longFrameEnd, longFormed, longDecode, longFrameQuestions, longestLong, longRead, longWriteQuestions, longWriteFrame, longBefore, longDue, longHoldbackSize, longHeldBytes, longHeld, longPasses, longNotEarly, longNotExpired, longSoundHoldback, longEncodeFrames, longEncodeHoldback, askLongEarly, askHeld, longPlaceQuestions, longQuestions, longJudge, longHearOne, longHear, longAbsorbAll, longCallQuestions, longClockSound, longTablesSound, longLeastDue, longHoldbackSound, longRepair, longOpeningStamp, longOpened, longHeard, longNewStamp, longSent, longDueBy, longDelivered, longKept, longAcceptance, longTick}
 use Rattle.theory.specs.Premises.{goodStart, largestClock, keeps, allFresh, noneStale}
 use Rattle.theory.specs.Demand2.{hasWidth}
 use Rattle.theory.specs.LongAny.{longHeardBefore, AnyLong, Demand2Long, longFits}
-use Rattle.theory.specs.LongClocks.{LongYard, longBatch, longInput, longOf, longActed, longAll, longFresh, longStart, endsBelow, holdsFew, reducedStamp, reducedLong, narrowed, narrowedDelivery, SameLong, LongMatched, LongClocks}
+use Rattle.theory.specs.LongClocks.{LongGroup, longBatch, longInput, longOf, longActed, longAll, longFresh, longStart, endsBelow, holdsFew, reducedStamp, reducedLong, narrowed, narrowedDelivery, SameLong, LongMatched, LongClocks}
 use Rattle.violations.specs.Engines.{engineVerdictTest, engineRepairTest, engineTakenTest, engineDeliveryTest, engineOrderTest, engineSentTest, engineKeptTest, engineBoundedTest, engineFewTest, engineTest}
 use Rattle.violations.specs.Engines.{LongTest, longSameNumber, longSameRepair, longSameVerdicts, longSameTaken, longSameTables, longSameFrames, longSameFramesRead, longSameDelivered, longSameDelivery, sameFrame, longSameHeld, longSameAll, besideBy, besideTest}
 use Rattle.violations.proofs.Refuting.{implies-intro, sameEach-eq, every-at, every-step, sameFrames-eq, sameTimestamp-eq}
@@ -107,25 +107,25 @@ module _ (s : Setup) (d : Done) (o : Output) (p : SameLong s d o) where
 
   pub long-delivery : longSameDelivery s d o ≡ true
   unfolding longSameDelivery
-  long-delivery = sameList-eq (p .handouts)
+  long-delivery = sameList-eq (p .deliveries)
 
   pub long-held : longSameHeld s d o ≡ true
   unfolding longSameHeld
-  long-held = sameEach-eq sameFrame same-frame (p .handedOut)
+  long-held = sameEach-eq sameFrame same-frame (p .deliveredFrames)
 
 module _ (test : LongTest) (right : (s : Setup) (d : Done) (o : Output) → SameLong s d o → test s d o ≡ true) (s : Setup) where
-  beside-matched : (yard : LongYard) (d : Done) → LongMatched s yard d → besideBy test s d (longOf (isEvent d) yard d) ≡ true
-  beside-matched yard d (o, is, m) = ap (besideBy test s d) is ∙ right s d o m
+  beside-matched : (workbench : LongGroup) (d : Done) → LongMatched s workbench d → besideBy test s d (longOf (isEvent d) workbench d) ≡ true
+  beside-matched workbench d (o, is, m) = ap (besideBy test s d) is ∙ right s d o m
 
   beside-true :
-      (yard : LongYard) (past : List Done)
-      → ((j : ℕ) (d : Done) → getElem? past j ≡ some d → isEvent d ≡ true → LongMatched s (longAll yard (take j past)) d)
-      → besideTest test s yard past ≡ true
+      (workbench : LongGroup) (past : List Done)
+      → ((j : ℕ) (d : Done) → getElem? past j ≡ some d → isEvent d ≡ true → LongMatched s (longAll workbench (take j past)) d)
+      → besideTest test s workbench past ≡ true
   unfolding besideTest longAll
-  beside-true yard [] h = refl
-  beside-true yard (d ∷ ds) h =
-      and-intro (implies-intro (isEvent d) _ (λ a. beside-matched yard d (h 0 d refl a)))
-      (beside-true (longActed yard d) ds (λ j d′ at a. h (suc j) d′ at a))
+  beside-true workbench [] h = refl
+  beside-true workbench (d ∷ ds) h =
+      and-intro (implies-intro (isEvent d) _ (λ a. beside-matched workbench d (h 0 d refl a)))
+      (beside-true (longActed workbench d) ds (λ j d′ at a. h (suc j) d′ at a))
 
   pub refute-clocks :
       (nodes : List Node) (calls : List Call) → goodStart s nodes ≡ true → allFresh s nodes ≡ true
@@ -136,5 +136,5 @@ module _ (test : LongTest) (right : (s : Setup) (d : Done) (o : Output) → Same
       clash (beside-true (longStart s nodes) (runFrom (atStart nodes) calls .past) (demand s nodes calls good fresh kept sent ends few)) wrong
 
 unfoldable pub engines : Unit {0}
-unfolding longLimits askLongSetup lowFirst numberAt longEncode longFrameEnd longFormed longDecode longFrameQuestions longestLong longRead longWriteQuestions longWriteFrame longBefore longDue longHoldbackSize longHeldBytes longHeld longPasses longNotEarly longNotOverdue longSoundHoldback longEncodeFrames longEncodeHoldback askLongEarly askHeld longPlaceQuestions longQuestions longJudge longHearOne longHear longAbsorbAll longCallQuestions longClockSound longTablesSound longLeastDue longShelfSound longRepair longOpeningStamp longOpened longHeard longNewStamp longSent longDueBy longDelivered longKept longAcceptance longTick hasWidth longHeardBefore longFits engineVerdictTest engineRepairTest engineTakenTest engineDeliveryTest engineOrderTest engineSentTest engineKeptTest engineBoundedTest engineFewTest engineTest longBatch longInput longActed longAll longFresh longStart endsBelow holdsFew reducedStamp reducedLong narrowed narrowedDelivery longSameNumber longSameRepair longSameVerdicts longSameTaken longSameTables longSameFrames longSameFramesRead longSameDelivered longSameDelivery sameFrame longSameHeld longSameAll besideTest telling
+unfolding longLimits askLongSetup lowFirst numberAt longEncode longFrameEnd longFormed longDecode longFrameQuestions longestLong longRead longWriteQuestions longWriteFrame longBefore longDue longHoldbackSize longHeldBytes longHeld longPasses longNotEarly longNotExpired longSoundHoldback longEncodeFrames longEncodeHoldback askLongEarly askHeld longPlaceQuestions longQuestions longJudge longHearOne longHear longAbsorbAll longCallQuestions longClockSound longTablesSound longLeastDue longHoldbackSound longRepair longOpeningStamp longOpened longHeard longNewStamp longSent longDueBy longDelivered longKept longAcceptance longTick hasWidth longHeardBefore longFits engineVerdictTest engineRepairTest engineTakenTest engineDeliveryTest engineOrderTest engineSentTest engineKeptTest engineBoundedTest engineFewTest engineTest longBatch longInput longActed longAll longFresh longStart endsBelow holdsFew reducedStamp reducedLong narrowed narrowedDelivery longSameNumber longSameRepair longSameVerdicts longSameTaken longSameTables longSameFrames longSameFramesRead longSameDelivered longSameDelivery sameFrame longSameHeld longSameAll besideTest telling
 engines = tt

@@ -6,7 +6,7 @@ use native.Mathlib.Omega.{arith}
 use native.Mathlib.Nat.{zero-add, add-zero, suc-add, add-suc}
 use mathlib.Core.Path.{_≡_, refl, sym, ap, subst, _∙_}
 use mathlib.Core.Logic.{_⊎_, inl, inr}
-use mathlib.Core.Bool.{Bool, true, false, _&&_}
+use mathlib.Core.Bool.{Bool, true, false, _&&_, _||_, cond}
 use mathlib.Core.List.{List, [], _∷_}
 use mathlib.Core.List.{List·Memᴰ, List·Memᴰ·not-nil, List·Memᴰ·cases-cons}
 use mathlib.Core.Option.{Option, none, some}
@@ -19,6 +19,8 @@ use Rattle.laws.proofs.Lists.{every-of-mem, every-tab, any-mem, mem-getElem?, s
 use Rattle.model.specs.Setup.{Setup}
 use Rattle.model.specs.Timestamp.{Timestamp}
 use Rattle.model.specs.Batch.{batchEntries}
+use Rattle.model.specs.Codec.{WriteAnswer}
+use Rattle.model.specs.Schedule.{Schedule}
 use Rattle.model.specs.Judge.{Heard}
 use Rattle.model.specs.Published.{Condition, deliverable, deliverableBy}
 use Rattle.model.specs.Tick.{Input, tick}
@@ -27,8 +29,10 @@ use Rattle.model.specs.Run.{Node, Source, sentBy, stale, Call, Done, isAccepted
 use Rattle.theory.specs.NeverFull.{NeverFull}
 use Rattle.theory.specs.Premises.{goodStart, largestClock, keeps, sameTimestamp, allFresh, noneStale, stepsOfOne}
 use Rattle.theory.specs.Demand2.{heardBefore, AnyState, Demand2Any, observedBefore, AnyObserver, Demand2Observer, Published, Outcome, outcomeOf, publish, publishAll, publishedStart, SameAs, Matched, Demand2Fresh, Demand2Ones}
-use Rattle.theory.specs.Demand3.{coveredFrom, covered, isFrom, Leads, later, takes, on, Promised, Demand3, Demand3Fresh}
-use Rattle.violations.specs.Tests.{everyFrom, anyFrom, sameEach, implies, sameFrames, sendsRight, sendingTest, verdictRight, entryRight, hearingTest, deliversRight, deliveringTest, laterThan, takesFrom, stepTo, causesRight, causalityTest}
+use Rattle.theory.specs.Demand3.{coveredFrom, covered, isFrom, heardIn, earlier, written, Leads, later, takes, on, Promised, Demand3, Demand3Fresh}
+use Rattle.theory.specs.Changeover.{Changeover, alongAll, Phase, frozenUntil, keepsThrough, startsThrough, freshThrough}
+use Rattle.theory.specs.Through.{earlierAlong, writtenAlong, PromisedAlong, coveredThrough, Demand3Through, Demand3FreshThrough}
+use Rattle.violations.specs.Tests.{everyFrom, anyFrom, sameEach, implies, sameFrames, sendsRight, sendingTest, verdictRight, entryRight, hearsRight, hearingTest, deliversRight, deliveringTest, laterThan, takesFrom, stepTo, causesRight, causeRight, causalityTest, sendingAlong, hearingAlong, deliveringAlong, causalityAlong}
 use Rattle.violations.specs.Tests.{verdictTest, takenTest, deliveredTest, deliveryTest, sentTest, outgoingTest, repairTest, everyStep, boundedTest, boundedQueueTest, roomBefore, neverFullTest}
 use Rattle.violations.specs.Tests.{observedTest, observerTakenTest, observerDeliveredTest, observerDeliveryTest, observerRepairTest, lastTest, lastBoundedTest, observerQueueTest, observerNeverFullTest}
 use Rattle.violations.specs.Tests.{FreshTest, sameTables, sameRepair, sameTaken, sameVerdicts, sameHoldback, sameOutgoing, sameSent, sameDelivery, sameDelivered, matchedBy, freshTest}
@@ -116,52 +120,58 @@ step-leads past i j b is h =
       | inr t ↦ takes-leads past i j b is t
     ]
 
--- Demand 3: the promises make their tests true
-module _ (s : Setup) (from : ℕ) (past : List Done) (p : Promised s from past) where
-  pub sending-true : sendingTest s from past ≡ true
-  unfolding sendingTest
-  sending-true =
-      every-of-mem (sendsRight s from) past (λ d m.
-      let at = mem-getElem? m in
-      implies-intro (covered from d) _ (λ c.
-      let right = p .sending (at .0) d (at .1) c in
-      and-intro (same (right .0)) (and-intro (same (right .1)) (sameList-eq (right .2)))))
+-- Demand 3: what is promised of one call makes its test true
+sent-right :
+    (writer : Done → WriteAnswer) (from : ℕ) (d : Done)
+    → (covered from d ≡ true → (writer d .number ≡ 0) × (d .output .answer .sent ≡ writer d .size) × (d .output .outgoing ≡ writer d .buffer))
+    → sendsRight writer from d ≡ true
+sent-right writer from d h =
+    implies-intro (covered from d) _ (λ c.
+    let right = h c in
+    and-intro (same (right .0)) (and-intro (same (right .1)) (sameList-eq (right .2))))
+
+delivered-right :
+    (d : Done) (handed expected : List (List ℕ)) → (isAccepted (d .output) ≡ true → handed ≡ expected) → deliversRight d handed expected ≡ true
+delivered-right d handed expected h = implies-intro (isAccepted (d .output)) _ (λ a. sameFrames-eq (h a))
+
+module _ (from : ℕ) (past : List Done) where
+  -- what is promised of the verdict on an entry
+  abbrev Verdicts : ℕ → Done → Type 0
+  Verdicts j d =
+      (e k : ℕ) (m : Done) → getElem? (d .call .sources) e ≡ some (sentBy k) → getElem? past k ≡ some m → covered from m ≡ true
+      → getD (d .output .verdicts) e 0
+      ≡ cond (any (heardIn (d .node) k) (take j past) || any (isFrom k) (take e (d .call .sources))) 16 0
 
   entry-true :
-      (j : ℕ) (d : Done) → getElem? past j ≡ some d → isAccepted (d .output) ≡ true → (e : ℕ) (o : Source) → getElem? (d .call .sources) e ≡ some o
-      → entryRight s from past j d e o ≡ true
-  entry-true j d at a e (sentBy k) is = go (getElem? past k) refl
+      (j : ℕ) (d : Done) → Verdicts j d → (e : ℕ) (o : Source) → getElem? (d .call .sources) e ≡ some o → entryRight from past j d e o ≡ true
+  entry-true j d h e (sentBy k) is = go (getElem? past k) refl
     where
-      go : (m : Option Done) → getElem? past k ≡ m → verdictRight s from past j d e k m ≡ true
+      go : (m : Option Done) → getElem? past k ≡ m → verdictRight from past j d e k m ≡ true
       go none is-k = refl
-      go (some m) is-k = implies-intro (covered from m) _ (λ c. same (p .hearing j d at a e k m is is-k c))
-  entry-true j d at a e stale is = refl
+      go (some m) is-k = implies-intro (covered from m) _ (λ c. same (h e k m is is-k c))
+  entry-true j d h e stale is = refl
 
-  pub hearing-true : hearingTest s from past ≡ true
-  unfolding hearingTest
-  hearing-true =
-      every-at _ past (λ j d at.
-      implies-intro (isAccepted (d .output)) _ (λ a. every-at (entryRight s from past j d) (d .call .sources) (entry-true j d at a)))
+  heard-right : (j : ℕ) (d : Done) → (isAccepted (d .output) ≡ true → Verdicts j d) → hearsRight from past j d ≡ true
+  heard-right j d h =
+      implies-intro (isAccepted (d .output)) _ (λ a. every-at (entryRight from past j d) (d .call .sources) (entry-true j d (h a)))
 
-  pub delivering-true : deliveringTest s from past ≡ true
-  unfolding deliveringTest
-  delivering-true =
-      every-at (deliversRight s from past) past (λ j d at.
-      implies-intro (isAccepted (d .output)) _ (λ a. sameFrames-eq (p .delivering j d at a)))
-
+-- by the order of two messages
+module _ (first : Done → Done → Bool) (from : ℕ) (past : List Done)
+    (right : (i j : ℕ) (a b : Done) → Leads past i j → getElem? past i ≡ some a → getElem? past j ≡ some b → covered from a ≡ true
+    → covered from b ≡ true → first a b ≡ true) where
   -- a call and the positions that it leads to so far
   causes-true :
       (i : ℕ) (a : Done) → getElem? past i ≡ some a → covered from a ≡ true
       → (led : List ℕ) → ((k : ℕ) → List·Memᴰ k led → (k ≡ i) ⊎ Leads past i k)
       → (j : ℕ) (bs : List Done) → ((l : ℕ) (b : Done) → getElem? bs l ≡ some b → getElem? past (j + l) ≡ some b)
-      → causesRight s from past a led j bs ≡ true
+      → causesRight first from past a led j bs ≡ true
   unfolding causesRight
   causes-true i a at c led leads j [] h = refl
   causes-true i a at c led leads j (b ∷ bs) h =
       elim (true-or-false (any (stepTo past j b) led)) [
         | inl e ↦
             let led-here = lead e in
-            cond-true _ _ e ∙ and-intro (implies-intro (covered from b) _ (λ c′. p .causality i j a b led-here at here c c′))
+            cond-true _ _ e ∙ and-intro (implies-intro (covered from b) _ (λ c′. right i j a b led-here at here c c′))
             (causes-true i a at c (j ∷ led) (λ k m. elim (List·Memᴰ·cases-cons m) [
               | inl q ↦ inr (subst (Leads past i) (sym q) led-here)
               | inr q ↦ leads k q
@@ -185,15 +195,55 @@ module _ (s : Setup) (from : ℕ) (past : List Done) (p : Promised s from past) 
                 | inr q ↦ on q (step-leads past k j b here t)
               ]
 
-  pub causality-true : causalityTest s from past ≡ true
-  unfolding causalityTest
-  causality-true =
-      every-at _ past (λ i a at.
+  cause-right : (i : ℕ) (a : Done) → getElem? past i ≡ some a → causeRight first from past i a ≡ true
+  cause-right i a at =
       implies-intro (covered from a) _ (λ c.
       causes-true i a at c (i ∷ []) (λ k m. elim (List·Memᴰ·cases-cons m) [
         | inl q ↦ inl q
         | inr q ↦ absurd (List·Memᴰ·not-nil q)
-      ]) 0 past (λ l b q. ap (getElem? past) (zero-add l) ∙ q)))
+      ]) 0 past (λ l b q. ap (getElem? past) (zero-add l) ∙ q))
+
+-- Demand 3: the promises make their tests true
+module _ (s : Setup) (from : ℕ) (past : List Done) (p : Promised s from past) where
+  pub sending-true : sendingTest s from past ≡ true
+  unfolding sendingTest
+  sending-true =
+      every-of-mem (sendsRight (written s) from) past (λ d m.
+      let at = mem-getElem? m in
+      sent-right (written s) from d (p .sending (at .0) d (at .1)))
+
+  pub hearing-true : hearingTest s from past ≡ true
+  unfolding hearingTest
+  hearing-true = every-at (hearsRight from past) past (λ j d at. heard-right from past j d (p .hearing j d at))
+
+  pub delivering-true : deliveringTest s from past ≡ true
+  unfolding deliveringTest
+  delivering-true = every-at _ past (λ j d at. delivered-right d _ _ (p .delivering j d at))
+
+  pub causality-true : causalityTest s from past ≡ true
+  unfolding causalityTest
+  causality-true = every-at _ past (cause-right (earlier s) from past (p .causality))
+
+-- 02, 2.10: and so by a schedule
+module _ (g : Schedule) (from : ℕ) (past : List Done) (p : PromisedAlong g from past) where
+  pub sending-along : sendingAlong g from past ≡ true
+  unfolding sendingAlong
+  sending-along =
+      every-of-mem (sendsRight (writtenAlong g) from) past (λ d m.
+      let at = mem-getElem? m in
+      sent-right (writtenAlong g) from d (p .sending (at .0) d (at .1)))
+
+  pub hearing-along : hearingAlong g from past ≡ true
+  unfolding hearingAlong
+  hearing-along = every-at (hearsRight from past) past (λ j d at. heard-right from past j d (p .hearing j d at))
+
+  pub delivering-along : deliveringAlong g from past ≡ true
+  unfolding deliveringAlong
+  delivering-along = every-at _ past (λ j d at. delivered-right d _ _ (p .delivering j d at))
+
+  pub causality-along : causalityAlong g from past ≡ true
+  unfolding causalityAlong
+  causality-along = every-at _ past (cause-right (earlierAlong g) from past (p .causality))
 
 -- a test of the list that the promises make true and that is false refutes demand 3
 module _ (test : Setup → ℕ → List Done → Bool) (right : (s : Setup) (from : ℕ) (past : List Done) → Promised s from past → test s from past ≡ true)
@@ -210,6 +260,23 @@ module _ (test : Setup → ℕ → List Done → Bool) (right : (s : Setup) (fro
       → noneStale (runFrom (atStart nodes) calls .past) ≡ true → test s 0 (runFrom (atStart nodes) calls .past) ≡ false → Demand3Fresh → ⊥
   refute-start good fresh kept sent wrong demand =
       clash (right s 0 (runFrom (atStart nodes) calls .past) (demand s nodes calls good fresh kept sent)) wrong
+
+-- or, through V, what 2.10 says
+module _ (test : Schedule → ℕ → List Done → Bool) (right : (g : Schedule) (from : ℕ) (past : List Done) → PromisedAlong g from past → test g from past ≡ true)
+    (y : Changeover) (nodes : List Node) (phases : List Phase) (calls : List Call) where
+  pub refute-through :
+      startsThrough y phases nodes ≡ true
+      → keepsThrough y (largestClock nodes) (frozenUntil y (largestClock nodes)) phases (atStart nodes) calls ≡ true
+      → test (alongAll y) (coveredThrough y (largestClock nodes)) (runFrom (atStart nodes) calls .past) ≡ false → Demand3Through → ⊥
+  refute-through good kept wrong demand =
+      clash (right (alongAll y) (coveredThrough y (largestClock nodes)) (runFrom (atStart nodes) calls .past) (demand y nodes phases calls good kept)) wrong
+
+  pub refute-fresh-through :
+      startsThrough y phases nodes ≡ true → freshThrough y nodes ≡ true
+      → keepsThrough y (largestClock nodes) 0 phases (atStart nodes) calls ≡ true → noneStale (runFrom (atStart nodes) calls .past) ≡ true
+      → test (alongAll y) 0 (runFrom (atStart nodes) calls .past) ≡ false → Demand3FreshThrough → ⊥
+  refute-fresh-through good fresh kept sent wrong demand =
+      clash (right (alongAll y) 0 (runFrom (atStart nodes) calls .past) (demand y nodes phases calls good fresh kept sent)) wrong
 
 -- what holds of every step is true of all of them
 pub every-step : (p : ℕ → Bool) (epsilon : ℕ) → ((k : ℕ) → 1 ≤ k → k ≤ epsilon → p k ≡ true) → everyStep p epsilon ≡ true

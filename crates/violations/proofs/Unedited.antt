@@ -17,12 +17,16 @@ use Rattle.model.specs.Long.{longRead, longWrite, longHeld, longTick}
 use Rattle.theory.specs.Premises.{goodStart, largestClock, keeps, allFresh, noneStale, stepsOfOne}
 use Rattle.theory.specs.Demand2.{heardBefore, observedBefore, publishedStart}
 use Rattle.theory.specs.Demand3.{coveredFrom}
+use Rattle.theory.specs.Changeover.{Changeover, alongAll, Phase, older, both, newer, frozenUntil, keepsThrough, startsThrough, freshThrough}
+use Rattle.theory.specs.Through.{coveredThrough}
 use Rattle.theory.specs.LongAny.{longHeardBefore}
 use Rattle.theory.specs.LongClocks.{longStart, endsBelow, holdsFew}
 use Rattle.violations.specs.Tests.{sendingTest, hearingTest, deliveringTest, causalityTest, anyStateTest, anyObserverTest, sameAll, freshTest}
-use Rattle.violations.specs.Stories.{group, Scene, freshTables, freshNodes, callsOf, pastOf, causeAndEffect, heardTooLate, driftedApart, hauntedAt10, hauntedAt8, staleHeard, holdingNodes, wideGroup, wideNodes, wideCalls, widePast, steppedTooFar, notStepped, inputsFrom, inputsOf, unsoundTables, unsoundQueue, packed, packedAlone, packedEarly}
-use Rattle.violations.specs.Stories.{watchedNodes, watchedCalls, watchedPast, allAhead, leftBehind, forestalled, holdingWatched, wideWatched, watchedSteps, watchedStepped, listeningsFrom, unsoundShelf}
+use Rattle.violations.specs.Stories.{group, Scene, freshTables, freshNodes, callsOf, pastOf, causeAndEffect, heardTooLate, driftedApart, hauntedAt10, hauntedAt8, staleHeard, holdingNodes, wideGroup, wideNodes, wideCalls, widePast, steppedTooFar, notStepped, inputsFrom, inputsOf, unsoundTables, unsoundQueue, packed, packedAlone, packedOverdue}
+use Rattle.violations.specs.Stories.{watchedNodes, watchedCalls, watchedPast, allAhead, leftBehind, forestalled, holdingWatched, wideWatched, watchedSteps, watchedStepped, listeningsFrom, unsoundHoldback}
 use Rattle.violations.specs.Engines.{engineGroup, now, hearsTwo, heldTwice, holdsAll, engineTest, longSameAll, besideTest}
+use Rattle.violations.specs.Tests.{sendingAlong, hearingAlong, deliveringAlong}
+use Rattle.violations.specs.Through.{Turn, season, seasonCalls, seasonPast, freshPhases, bothPhases, twoBoth, lateUp, takenUpLate, nearChange, newTooSoon, heardNearChange, twoNear, aheadAtChange, longSeason, longNodes, longCalls, beforeChange, heardOneLate, togetherBefore, heardOwn, earlyNodes, steppedBefore, pastNodes, bothTooLong, frozenNodes, thawedSoon, haunting, hauntedLate, hauntedNodes, hauntedInTime, pastChange, knownAhead, togetherAt14, orderedBefore, oneAt, sendsOnce}
 use Rattle.violations.proofs.Telling.{telling}
 use Rattle.violations.proofs.Engines.{engines}
 
@@ -100,13 +104,13 @@ unfolding telling
 haunted-promised = refl
 
 -- damage is mended
-pub mended : (tick unsoundTables .answer .repair ∷ tick unsoundQueue .answer .repair ∷ []) ≡ 1 ∷ 2 ∷ []
+pub repaired : (tick unsoundTables .answer .repair ∷ tick unsoundQueue .answer .repair ∷ []) ≡ 1 ∷ 2 ∷ []
 unfolding telling
-mended = refl
+repaired = refl
 
-pub mended-figures : every anyStateTest (unsoundTables ∷ unsoundQueue ∷ []) ≡ true
+pub repaired-figures : every anyStateTest (unsoundTables ∷ unsoundQueue ∷ []) ≡ true
 unfolding telling
-mended-figures = refl
+repaired-figures = refl
 
 -- the premises rule the others out
 pub not-kept : map kept (heardTooLate ∷ driftedApart ∷ hauntedAt10 ∷ steppedTooFar ∷ notStepped ∷ []) ≡ replicate 5 false
@@ -166,13 +170,13 @@ unfolding telling
 watched-stepped = refl
 
 -- an observer's damage is mended
-pub watched-mended : (listen unsoundShelf .repair ∷ listen (record { setup = group; clock = 7; last = 8; holdback = unsoundShelf .holdback; batch = 0 ∷ []; verdicts = replicate 255 0; delivery = unsoundShelf .delivery }) .repair ∷ []) ≡ 2 ∷ 3 ∷ []
+pub watched-repaired : (listen unsoundHoldback .repair ∷ listen (record { setup = group; clock = 7; last = 8; holdback = unsoundHoldback .holdback; batch = 0 ∷ []; verdicts = replicate 255 0; delivery = unsoundHoldback .delivery }) .repair ∷ []) ≡ 2 ∷ 3 ∷ []
 unfolding telling
-watched-mended = refl
+watched-repaired = refl
 
-pub watched-mended-figures : anyObserverTest unsoundShelf ≡ true
+pub watched-repaired-figures : anyObserverTest unsoundHoldback ≡ true
 unfolding telling
-watched-mended-figures = refl
+watched-repaired-figures = refl
 
 -- the premises rule the others out
 pub watched-not-kept : map keptWatched (leftBehind ∷ forestalled ∷ []) ≡ replicate 2 false
@@ -189,11 +193,11 @@ unfolding telling
 packed-tight = refl
 
 -- as it was found a sound shelf may have n(δ + 3ε); but those due before v leave it before a frame is judged
-pub packed-early : (listen packedEarly .repair ∷ length (held 2 (packedEarly .holdback)) ∷ length (observedBefore packedEarly 0 .queue) ∷ []) ≡ 0 ∷ 7 ∷ 5 ∷ []
+pub packed-overdue : (listen packedOverdue .repair ∷ length (held 2 (packedOverdue .holdback)) ∷ length (observedBefore packedOverdue 0 .queue) ∷ []) ≡ 0 ∷ 7 ∷ 5 ∷ []
 unfolding telling
-packed-early = refl
+packed-overdue = refl
 
-pub packed-figures : (anyStateTest packed && every anyObserverTest (packedAlone ∷ packedEarly ∷ [])) ≡ true
+pub packed-figures : (anyStateTest packed && every anyObserverTest (packedAlone ∷ packedOverdue ∷ [])) ≡ true
 unfolding telling
 packed-figures = refl
 
@@ -204,9 +208,9 @@ unfolding engines
 engine-heard = refl
 
 -- its damage is mended
-pub engine-mended : longTick heldTwice .answer .repair ≡ 2
+pub engine-repaired : longTick heldTwice .answer .repair ≡ 2
 unfolding engines
-engine-mended = refl
+engine-repaired = refl
 
 pub engine-figures : every engineTest (hearsTwo ∷ heldTwice ∷ []) ≡ true
 unfolding engines
@@ -237,3 +241,59 @@ beside-story = refl
 pub beside-stepped : besideTest longSameAll wideGroup (longStart wideGroup wideNodes) widePast ≡ true
 unfolding engines
 beside-stepped = refl
+
+-- ---- 02, 2.10: the stories through V. Those of fresh nodes, where setups may change from the first call on
+
+abbrev keptThrough : Changeover → List Node → List Phase → List Call → Bool
+keptThrough y nodes phases calls =
+    startsThrough y phases nodes && (freshThrough y nodes && keepsThrough y (largestClock nodes) 0 phases (atStart nodes) calls)
+
+abbrev keptSeason : List Phase → List Node → List Turn → Bool
+keptSeason phases nodes story = keptThrough season nodes phases (seasonCalls phases nodes story)
+
+-- a take-up a tick later, the new pair four ticks sooner, the new drift with one clock before V, an observer's too, the new delay for an old message, a delay by
+-- the clocks before the call, a step of the new pair before V, both pairs B past V, the old pair at V, and the new one before it, are ruled out
+pub through-ruled-out :
+    (keptSeason freshPhases lateUp takenUpLate ∷ keptSeason bothPhases nearChange newTooSoon ∷ keptSeason twoBoth twoNear aheadAtChange
+    ∷ keptThrough longSeason longNodes bothPhases longCalls ∷ keptSeason bothPhases beforeChange heardOneLate ∷ keptSeason bothPhases togetherBefore heardOwn
+    ∷ keptSeason bothPhases earlyNodes steppedBefore ∷ keptSeason twoBoth pastNodes bothTooLong ∷ keptSeason (older ∷ []) (oneAt older 16) sendsOnce
+    ∷ keptSeason (newer ∷ []) (oneAt newer 15) sendsOnce ∷ [])
+    ≡ replicate 10 false
+unfolding telling
+through-ruled-out = refl
+
+-- but for their last calls most of them keep the premises
+pub through-kept :
+    (keptSeason bothPhases nearChange (take 5 newTooSoon) ∷ keptSeason bothPhases beforeChange (take 7 heardOneLate)
+    ∷ keptSeason bothPhases togetherBefore (take 5 heardOwn) ∷ keptSeason bothPhases earlyNodes (take 5 steppedBefore)
+    ∷ keptSeason twoBoth pastNodes (take 2 bothTooLong) ∷ [])
+    ≡ replicate 5 true
+unfolding telling
+through-kept = refl
+
+-- with both pairs a frame that is sent at V is wide, and one at 3 narrow; a narrow one of 16 is handed out at 19; one with c 1 is heard; and the order of two
+-- on a shelf is the same on both sides of V
+pub through-promised :
+    (keptSeason (both ∷ []) (oneAt both 16) sendsOnce ∷ sendingAlong (alongAll season) 0 (seasonPast (both ∷ []) (oneAt both 16) sendsOnce)
+    ∷ keptSeason (both ∷ []) (oneAt both 2) sendsOnce ∷ sendingAlong (alongAll season) 0 (seasonPast (both ∷ []) (oneAt both 2) sendsOnce)
+    ∷ keptSeason bothPhases nearChange heardNearChange ∷ deliveringAlong (alongAll season) 0 (seasonPast bothPhases nearChange heardNearChange)
+    ∷ keptSeason twoBoth pastChange knownAhead ∷ hearingAlong (alongAll season) 0 (seasonPast twoBoth pastChange knownAhead)
+    ∷ keptSeason bothPhases togetherAt14 orderedBefore ∷ deliveringAlong (alongAll season) 0 (seasonPast bothPhases togetherAt14 orderedBefore) ∷ [])
+    ≡ replicate 10 true
+unfolding telling
+through-promised = refl
+
+-- those of recovery
+abbrev recoversSeason : List Phase → List Node → List Turn → Bool
+recoversSeason phases nodes story =
+    startsThrough season phases nodes
+    && keepsThrough season (largestClock nodes) (frozenUntil season (largestClock nodes)) phases (atStart nodes) (seasonCalls phases nodes story)
+
+-- a change of setup three ticks too soon, and an older frame heard two ticks too late, are ruled out; the one that is heard in time is not, and no covered
+-- message gets 15 for it
+pub through-recovers :
+    (recoversSeason bothPhases frozenNodes thawedSoon ∷ recoversSeason twoBoth haunting hauntedLate ∷ recoversSeason bothPhases hauntedNodes hauntedInTime
+    ∷ hearingAlong (alongAll season) (coveredThrough season (largestClock hauntedNodes)) (seasonPast bothPhases hauntedNodes hauntedInTime) ∷ [])
+    ≡ false ∷ false ∷ true ∷ true ∷ []
+unfolding telling
+through-recovers = refl

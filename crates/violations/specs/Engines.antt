@@ -16,7 +16,7 @@ use Rattle.model.specs.Run.{Done, isEvent}
 use Rattle.model.specs.Long.{longMost, longEncode, longBefore, longHoldbackSize, longHeldBytes, longHeld, longSoundHoldback, longEncodeFrames, longQuestions, longTablesSound, longLeastDue, longSent, longDelivered, longTick}
 use Rattle.theory.specs.Premises.{sameTimestamp}
 use Rattle.theory.specs.LongAny.{longHeardBefore}
-use Rattle.theory.specs.LongClocks.{LongYard, longOf, longActed, reducedStamp, reducedLong, rewritten, narrowed, narrowedDelivery}
+use Rattle.theory.specs.LongClocks.{LongGroup, longOf, longActed, reducedStamp, reducedLong, rewritten, narrowed, narrowedDelivery}
 use Rattle.violations.specs.Stories.{freshTables, batchWith}
 use Rattle.violations.specs.Tests.{sameEach, implies, firstFailed, everyStep, sameFrames}
 
@@ -166,7 +166,7 @@ besideBy test s d none = false
 besideBy test s d (some o) = test s d o
 
 -- of every accepted call of a station in a list, the engines being as they are before it
-unfoldable pub besideTest : LongTest → Setup → LongYard → List Done → Bool
-besideTest test s yard [] = true
-besideTest test s yard (d ∷ ds) =
-    implies (isEvent d) (besideBy test s d (longOf (isEvent d) yard d)) && besideTest test s (longActed yard d) ds
+unfoldable pub besideTest : LongTest → Setup → LongGroup → List Done → Bool
+besideTest test s workbench [] = true
+besideTest test s workbench (d ∷ ds) =
+    implies (isEvent d) (besideBy test s d (longOf (isEvent d) workbench d)) && besideTest test s (longActed workbench d) ds

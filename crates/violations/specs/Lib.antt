@@ -1,3 +1,5 @@
 pub mod Tests
 pub mod Stories
 pub mod Engines
+pub mod Through
+pub mod Both

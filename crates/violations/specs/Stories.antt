@@ -11,6 +11,7 @@ use Rattle.model.specs.Timestamp.{Timestamp}
 use Rattle.model.specs.Frame.{encode}
 use Rattle.model.specs.Tick.{Input, holdbackSize}
 use Rattle.model.specs.Observer.{Listening}
+use Rattle.model.specs.Schedule.{Wider}
 use Rattle.model.specs.Run.{Node, Source, sentBy, stale, Call, Done, World, inputOf, listeningOf, act, atStart, runFrom, messageBytes}
 use Rattle.theory.specs.Premises.{clockAt}
 
@@ -50,12 +51,14 @@ entrySource (staleFrame bytes) = stale
 abbrev pub batchWith : List (List ℕ) → List ℕ
 batchWith entries = length entries ∷ joined (λ bytes. length bytes ∷ bytes) entries
 
--- a call for a clock, to which the node's moves by a step
-abbrev pub calling : Setup → ℕ → ℕ → ℕ → Bool → List ℕ → List (List ℕ) → List Source → Call
-calling s node step clock send payload entries sources =
+-- a call for a clock, to which the node's moves by a step, with one pair of limits or with both, spare bytes, and buffers of some setup's sizes
+abbrev pub callingIn : Setup → Option Wider → List ℕ → Setup → ℕ → ℕ → ℕ → Bool → List ℕ → List (List ℕ) → List Source → Call
+callingIn s wider spare sizes node step clock send payload entries sources =
     record {
       node = node;
       setup = s;
+      wider = wider;
+      spare = spare;
       own = node;
       clock = clock % s .modulus;
       step = step;
@@ -65,8 +68,12 @@ calling s node step clock send payload entries sources =
       payload = payload;
       outgoing = replicate 71 3;
       verdicts = replicate 255 3;
-      delivery = replicate (holdbackSize s) 3;
+      delivery = replicate (holdbackSize sizes) 3;
     }
+
+-- a plain one
+abbrev pub calling : Setup → ℕ → ℕ → ℕ → Bool → List ℕ → List (List ℕ) → List Source → Call
+calling s node step clock send payload entries sources = callingIn s none [] s node step clock send payload entries sources
 
 -- the call that a scene makes
 abbrev pub callWith : Setup → World → Scene → Call
@@ -283,8 +290,8 @@ listeningsFrom w [] = []
 listeningsFrom w (call ∷ calls) = listeningTo (getElem? (w .nodes) (call .node)) call ++ listeningsFrom (act w call) calls
 
 -- a call for clock 7 of an observer whose shelf has a frame twice
-abbrev pub unsoundShelf : Listening
-unsoundShelf = listeningOf (observerWith group 6 (2 ∷ 0 ∷ (heldTwice ++ heldTwice))) (calling group 0 1 7 false [] [] [])
+abbrev pub unsoundHoldback : Listening
+unsoundHoldback = listeningOf (observerWith group 6 (2 ∷ 0 ∷ (heldTwice ++ heldTwice))) (calling group 0 1 7 false [] [] [])
   where
     heldTwice : List ℕ
     heldTwice = bytesOf 1 6 0 (0 ∷ 1 ∷ []) (9 ∷ [])
@@ -340,8 +347,8 @@ abbrev pub packedAlone : Listening
 packedAlone = listeningOf (observerWith (aloneGroup 1) 6 (0 ∷ 0 ∷ [])) (packedCall (aloneGroup 1))
 
 -- a call for clock 7, after 5, of an observer there with ε 2: its shelf has all seven frames that it is for, and the first two are due at 6
-abbrev pub packedEarly : Listening
-packedEarly = listeningOf (observerWith (aloneGroup 2) 5 (7 ∷ 0 ∷ frames)) (calling (aloneGroup 2) 0 2 7 false [] [] [])
+abbrev pub packedOverdue : Listening
+packedOverdue = listeningOf (observerWith (aloneGroup 2) 5 (7 ∷ 0 ∷ frames)) (calling (aloneGroup 2) 0 2 7 false [] [] [])
   where
     frames : List ℕ
     frames = bytesOf 0 2 1 (0 ∷ 0 ∷ 0 ∷ 1 ∷ []) [] ++ joined (λ r. bytesOf 0 r 0 (0 ∷ 0 ∷ 1 ∷ 0 ∷ []) []) (3 ∷ 4 ∷ 5 ∷ 6 ∷ 7 ∷ 8 ∷ [])

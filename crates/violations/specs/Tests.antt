@@ -14,6 +14,9 @@ use Rattle.model.specs.Batch.{batchEntries}
 use Rattle.model.specs.Holdback.{heldBytes, soundHoldback, encodeFrames, encodeHoldback}
 use Rattle.model.specs.Question.{firstNo}
 use Rattle.model.specs.Judge.{Asking, Heard, judgeQuestions, observerQuestions}
+use Rattle.model.specs.Codec.{WriteAnswer}
+use Rattle.model.specs.Schedule.{Schedule}
+use Rattle.model.specs.Wider.{widerHeldBytes}
 use Rattle.model.specs.Published.{Process, Condition, inOrder}
 use Rattle.model.specs.Tick.{Input, holdbackSize, leastDue, sentBytes, deliveredOf, takenCount, tick}
 use Rattle.model.specs.Observer.{Listening, observerLeast, observerDelivered, listen}
@@ -21,6 +24,7 @@ use Rattle.model.specs.Run.{Source, sentBy, stale, Done, isAccepted, isEvent, m
 use Rattle.theory.specs.Premises.{sameTimestamp}
 use Rattle.theory.specs.Demand2.{Published, Outcome, outcomeOf, publish, heardBefore, observedBefore, reduced, reducedFrame}
 use Rattle.theory.specs.Demand3.{covered, isFrom, heardIn, earlier, dueHere, coveredFrame, written}
+use Rattle.theory.specs.Through.{earlierAlong, dueHereAlong, coveredAlong, writtenAlong}
 
 module _ {A : Type 0} where
   -- the test holds of every element at its position, counted from i
@@ -48,42 +52,44 @@ implies a b = cond a b true
 abbrev pub sameFrames : List (List ℕ) → List (List ℕ) → Bool
 sameFrames xs ys = sameEach sameList xs ys
 
--- Demand 3, `sending`: of one call
-abbrev pub sendsRight : Setup → ℕ → Done → Bool
-sendsRight s from d =
-    implies (covered from d) (eqb (written s d .number) 0 && (eqb (d .output .answer .sent) (written s d .size)
-    && sameList (d .output .outgoing) (written s d .buffer)))
+-- Demand 3, `sending`: of one call, by what the writer answers
+abbrev pub sendsRight : (Done → WriteAnswer) → ℕ → Done → Bool
+sendsRight writer from d =
+    implies (covered from d) (eqb (writer d .number) 0 && (eqb (d .output .answer .sent) (writer d .size)
+    && sameList (d .output .outgoing) (writer d .buffer)))
 
 -- of the list
 unfoldable pub sendingTest : Setup → ℕ → List Done → Bool
-sendingTest s from past = every (λ d. sendsRight s from d) past
+sendingTest s from past = every (λ d. sendsRight (written s) from d) past
 
 -- Demand 3, `hearing`: of entry e of the call at j, which comes from the call at k
-abbrev pub verdictRight : Setup → ℕ → List Done → ℕ → Done → ℕ → ℕ → Option Done → Bool
-verdictRight s from past j d e k none = true
-verdictRight s from past j d e k (some m) =
+abbrev pub verdictRight : ℕ → List Done → ℕ → Done → ℕ → ℕ → Option Done → Bool
+verdictRight from past j d e k none = true
+verdictRight from past j d e k (some m) =
     implies (covered from m) (eqb (getD (d .output .verdicts) e 0)
     (cond (any (heardIn (d .node) k) (take j past) || any (isFrom k) (take e (d .call .sources))) 16 0))
 
 -- by the entry's source
-abbrev pub entryRight : Setup → ℕ → List Done → ℕ → Done → ℕ → Source → Bool
-entryRight s from past j d e (sentBy k) = verdictRight s from past j d e k (getElem? past k)
-entryRight s from past j d e stale = true
+abbrev pub entryRight : ℕ → List Done → ℕ → Done → ℕ → Source → Bool
+entryRight from past j d e (sentBy k) = verdictRight from past j d e k (getElem? past k)
+entryRight from past j d e stale = true
+
+abbrev pub hearsRight : ℕ → List Done → ℕ → Done → Bool
+hearsRight from past j d = implies (isAccepted (d .output)) (everyFrom (entryRight from past j d) 0 (d .call .sources))
 
 -- of the list
 unfoldable pub hearingTest : Setup → ℕ → List Done → Bool
-hearingTest s from past =
-    everyFrom (λ j d. implies (isAccepted (d .output)) (everyFrom (entryRight s from past j d) 0 (d .call .sources))) 0 past
+hearingTest s from past = everyFrom (hearsRight from past) 0 past
 
--- Demand 3, `delivering`: of the call at j
-abbrev pub deliversRight : Setup → ℕ → List Done → ℕ → Done → Bool
-deliversRight s from past j d =
-    implies (isAccepted (d .output)) (sameFrames (select (coveredFrame s from (d .clock)) (heldBytes (s .epsilon) (d .output .delivery)))
-    (map messageBytes (sortBy (earlier s) (dueHere s from (take (j + 1) past) (d .node) (d .last) (d .clock)))))
+-- Demand 3, `delivering`: of one call, by its covered frames and what they should be
+abbrev pub deliversRight : Done → List (List ℕ) → List (List ℕ) → Bool
+deliversRight d handed expected = implies (isAccepted (d .output)) (sameFrames handed expected)
 
 -- of the list
 unfoldable pub deliveringTest : Setup → ℕ → List Done → Bool
-deliveringTest s from past = everyFrom (deliversRight s from past) 0 past
+deliveringTest s from past =
+    everyFrom (λ j d. deliversRight d (select (coveredFrame s from (d .clock)) (heldBytes (s .epsilon) (d .output .delivery)))
+    (map messageBytes (sortBy (earlier s) (dueHere s from (take (j + 1) past) (d .node) (d .last) (d .clock))))) 0 past
 
 -- Demand 3, `Leads`, one step: the call at j is a later one of the station of the call at i
 abbrev pub laterThan : ℕ → Done → ℕ → Option Done → Bool
@@ -100,16 +106,34 @@ stepTo past j b i = laterThan j b i (getElem? past i) || takesFrom b i
 
 -- Demand 3, `causality`: of the call a and every call from j on that it leads to, through the positions led to so far. One walk along the
 -- list finds them all, since a step leads on in the list
-unfoldable pub causesRight : Setup → ℕ → List Done → Done → List ℕ → ℕ → List Done → Bool
-causesRight s from past a led j [] = true
-causesRight s from past a led j (b ∷ bs) =
+unfoldable pub causesRight : (Done → Done → Bool) → ℕ → List Done → Done → List ℕ → ℕ → List Done → Bool
+causesRight first from past a led j [] = true
+causesRight first from past a led j (b ∷ bs) =
     cond (any (stepTo past j b) led)
-    (implies (covered from b) (earlier s a b) && causesRight s from past a (j ∷ led) (suc j) bs)
-    (causesRight s from past a led (suc j) bs)
+    (implies (covered from b) (first a b) && causesRight first from past a (j ∷ led) (suc j) bs)
+    (causesRight first from past a led (suc j) bs)
+
+abbrev pub causeRight : (Done → Done → Bool) → ℕ → List Done → ℕ → Done → Bool
+causeRight first from past i a = implies (covered from a) (causesRight first from past a (i ∷ []) 0 past)
 
 -- of the list
 unfoldable pub causalityTest : Setup → ℕ → List Done → Bool
-causalityTest s from past = everyFrom (λ i a. implies (covered from a) (causesRight s from past a (i ∷ []) 0 past)) 0 past
+causalityTest s from past = everyFrom (causeRight (earlier s) from past) 0 past
+
+-- 02, 2.10: the same by a schedule
+unfoldable pub sendingAlong : Schedule → ℕ → List Done → Bool
+sendingAlong g from past = every (λ d. sendsRight (writtenAlong g) from d) past
+
+unfoldable pub hearingAlong : Schedule → ℕ → List Done → Bool
+hearingAlong g from past = everyFrom (hearsRight from past) 0 past
+
+unfoldable pub deliveringAlong : Schedule → ℕ → List Done → Bool
+deliveringAlong g from past =
+    everyFrom (λ j d. deliversRight d (select (coveredAlong g from (d .clock)) (widerHeldBytes g (d .output .delivery)))
+    (map messageBytes (sortBy (earlierAlong g) (dueHereAlong g from (take (j + 1) past) (d .node) (d .last) (d .clock))))) 0 past
+
+unfoldable pub causalityAlong : Schedule → ℕ → List Done → Bool
+causalityAlong g from past = everyFrom (causeRight (earlierAlong g) from past) 0 past
 
 -- Demand 2 from any state, of an accepted call: a test for each clause. The verdicts, by what is asked
 abbrev pub firstFailed : Asking → (ℕ → Heard) → List (List ℕ) → List ℕ → Bool

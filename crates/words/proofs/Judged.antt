@@ -21,11 +21,11 @@ use Rattle.model.specs.Judge.{hear}
 use Rattle.model.specs.Tick.{Input, holdbackSize, holdbackQuestions, callQuestions, heardOf}
 use Rattle.model.specs.Observer.{Listening, listenQuestions, observerHeard}
 use Rattle.lemmas.proofs.Questions.{first-yes, other-yes, yes-cons, setup-to}
-use Rattle.lemmas.proofs.Board.{hear-length}
+use Rattle.lemmas.proofs.Receiving.{hear-length}
 use Rattle.lemmas.proofs.OneTick.{accepted-call, no-question-fails, verdicts-are, verdict-byte}
 use Rattle.lemmas.proofs.OneListening.{listen-accepted, listen-no-fails, listen-verdicts, listen-verdict}
 use Rattle.words.specs.Words.{given, lineOf, lineAt, wordLines, textOf, longestLine, wordsQuestions, wordsBy, words}
-use Rattle.words.specs.Statements.{Judging, queueAt, numberAt, callWords, CallTold, tickJudging, TrueWords, listenJudging, TrueObserverWords}
+use Rattle.words.specs.Statements.{Judging, queueAt, judgedNumber, callWords, CallTold, tickJudging, TrueWords, listenJudging, TrueObserverWords}
 use Rattle.words.proofs.Given.{judged-given, observed-given}
 use Rattle.words.proofs.Asking.{none-left}
 
@@ -39,7 +39,7 @@ record Judged (j : Judging) : Type 0 where
   wrote : j .verdicts ≡ overlay (hear (j .setup) (j .clock) (j .asking) (j .opening) (batchEntries (j .batch)) .verdicts) buffer
   byte :
       (position : ℕ) (entry : List ℕ) → getElem? (batchEntries (j .batch)) position ≡ some entry
-      → getD (j .verdicts) position 0 ≡ numberAt j position entry
+      → getD (j .verdicts) position 0 ≡ judgedNumber j position entry
   known : (queue : List Frame) (bytes : List ℕ) → given (firstNo (j .asking queue bytes)) ≡ true
 
 module _ (j : Judging) (a : Judged j) where
@@ -48,7 +48,7 @@ module _ (j : Judging) (a : Judged j) where
 
   judged-line :
       (position : ℕ) (entry : List ℕ) → getElem? entries position ≡ some entry
-      → getElem? (callWords j) position ≡ some (lineOf (j .setup) position (numberAt j position entry) (decode (j .setup .epsilon) entry))
+      → getElem? (callWords j) position ≡ some (lineOf (j .setup) position (judgedNumber j position entry) (decode (j .setup .epsilon) entry))
   unfolding wordLines lineAt
   judged-line position entry there =
       let below : position < length entries = getElem?-lt entries position there in
@@ -77,7 +77,7 @@ module _ (j : Judging) (a : Judged j) where
       each k h =
           let below : k < length entries = omega (arith, length-take (length entries) (j .verdicts)) in
           rw (getD-take (length entries) (j .verdicts) k 0 below, a .byte k (getD entries k []) (getElem?-in entries k [] below))
-          (unfold numberAt in a .known (queueAt j k) (getD entries k []))
+          (unfold judgedNumber in a .known (queueAt j k) (getD entries k []))
 
   -- what the words ask again gets a yes
   module _ (own : ℕ) (valid : (inLimits (j .setup) && isMember (j .setup) own) ≡ true) (exact : exactBatch (j .batch) ≡ true) where
@@ -119,7 +119,7 @@ judged-words i ok =
     record {
       buffer = i .verdicts;
       wrote = unfold heardOf in verdicts-are i a;
-      byte = unfold numberAt queueAt in verdict-byte i a;
+      byte = unfold judgedNumber queueAt in verdict-byte i a;
       known = judged-given (i .setup) (i .clock);
     } in
     call-told (tickJudging i) judged (i .own) (asked .0) (asked .1)
@@ -136,7 +136,7 @@ observed-words i own below ok =
     record {
       buffer = i .verdicts;
       wrote = unfold observerHeard in listen-verdicts i a;
-      byte = unfold numberAt queueAt in listen-verdict i a;
+      byte = unfold judgedNumber queueAt in listen-verdict i a;
       known = observed-given (i .setup) (i .clock);
     } in
     call-told (listenJudging i) judged own (setup-to (i .setup) own (a .limits) below) (listen-asked i (listen-no-fails i ok))

@@ -6,7 +6,7 @@ use lib.ListN.{length}
 use Rattle.model.specs.Setup.{Setup}
 use Rattle.model.specs.Frame.{Frame}
 use Rattle.text.specs.Text.{glyph, digits, countBy, digitCount, decimal}
-use Rattle.words.specs.Words.{ruleWord, wordOf, limitsOf, orDash, partsOf, spaced, lineOf, longestLine}
+use Rattle.words.specs.Words.{ruleWord, wordOf, ruleLimitsOf, orDash, partsOf, spaced, lineOf, longestLine}
 
 -- a setup whose n and B are as long as they can be
 abbrev widest : Setup
@@ -22,7 +22,7 @@ longText = 50 ∷ 53 ∷ 52 ∷ 32 ∷ 50 ∷ 53 ∷ 53 ∷ 32 ∷ 54 ∷ 53 ∷
 
 -- one line has 29 bytes
 pub long-line : lineOf widest 254 11 farthest ≡ longText
-unfolding glyph digits countBy digitCount decimal ruleWord wordOf limitsOf orDash partsOf spaced lineOf
+unfolding glyph digits countBy digitCount decimal ruleWord wordOf ruleLimitsOf orDash partsOf spaced lineOf
 long-line = refl
 
 pub long-size : length longText ≡ longestLine

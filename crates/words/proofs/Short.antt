@@ -11,7 +11,7 @@ use Rattle.lemmas.proofs.Bounds.{Limits}
 use Rattle.lemmas.proofs.Questions.{limits-from}
 use Rattle.text.specs.Text.{decimal, digitCount}
 use Rattle.text.proofs.Numerals.{length-decimal, digitCount-le}
-use Rattle.words.specs.Words.{given, rangeWord, stampWord, lateWord, earlyWord, countWord, dash, ruleWord, wordOf, limitsOf, orDash, partsOf, spaced, lineOf}
+use Rattle.words.specs.Words.{given, rangeWord, stampWord, lateWord, earlyWord, countWord, dash, ruleWord, wordOf, ruleLimitsOf, orDash, partsOf, spaced, lineOf}
 use Rattle.words.specs.Statements.{ShortLines}
 use Rattle.words.proofs.Given.{given-all}
 
@@ -36,7 +36,7 @@ or-dash-most k number x h one = go (eqb number 10)
 module _ (s : Setup) (lim : Limits s) where
   -- the end of a line, by the word and its limits
   abbrev tail : ℕ → ℕ
-  tail number = length (spaced (wordOf number ∷ map decimal (limitsOf s number)))
+  tail number = length (spaced (wordOf number ∷ map decimal (ruleLimitsOf s number)))
 
   two-limits : (word : List ℕ) (x y : ℕ) → length word ≤ 5 → digitCount x ≤ 2 → digitCount y ≤ 5 → length (spaced (word ∷ decimal x ∷ decimal y ∷ [])) ≤ 16
   unfolding spaced
@@ -48,7 +48,7 @@ module _ (s : Setup) (lim : Limits s) where
   one-limit word x h p = omega (arith, length-spaced word (decimal x ∷ []), spaced-decimal 4 x [] p)
 
   tail-most : (number : ℕ) → given number ≡ true → tail number ≤ 16
-  unfolding wordOf ruleWord limitsOf spaced
+  unfolding wordOf ruleWord ruleLimitsOf spaced
   tail-most number g =
       given-all (λ x. tail x ≤ 16)
       (omega arith)
@@ -65,7 +65,7 @@ module _ (s : Setup) (lim : Limits s) where
 pub short-lines : ShortLines
 unfolding lineOf partsOf
 short-lines s position number f within g place station r =
-    let rest : List (List ℕ) = wordOf number ∷ map decimal (limitsOf s number) in
+    let rest : List (List ℕ) = wordOf number ∷ map decimal (ruleLimitsOf s number) in
     let whole : length (lineOf s position number f) ≡ length (decimal position) + length (spaced (partsOf s number f))
     = length-append (decimal position) (spaced (partsOf s number f)) in
     let first : length (spaced (partsOf s number f)) ≡ 1 + length (orDash number (f .station)) + length (spaced (orDash number (f .stamp .r) ∷ rest))

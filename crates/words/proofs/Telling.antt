@@ -13,7 +13,7 @@ use Rattle.model.specs.Setup.{Setup}
 use Rattle.model.specs.Frame.{Frame}
 use Rattle.text.specs.Text.{decimal}
 use Rattle.text.proofs.Decimals.{decimal-injective, decimal-plain}
-use Rattle.words.specs.Words.{given, takenWord, formWord, rangeWord, stampWord, lateWord, earlyWord, countWord, dash, ruleWord, wordOf, limitsOf, orDash, partsOf, spaced, lineOf}
+use Rattle.words.specs.Words.{given, takenWord, formWord, rangeWord, stampWord, lateWord, earlyWord, countWord, dash, ruleWord, wordOf, ruleLimitsOf, orDash, partsOf, spaced, lineOf}
 use Rattle.words.specs.Statements.{TellingLines}
 use Rattle.words.proofs.Given.{given-all}
 
@@ -83,7 +83,7 @@ plain-parts : (s : Setup) (number : ℕ) (f : Frame) → given number ≡ true �
 unfolding partsOf every
 plain-parts s number f g =
     and-intro (plain-or-dash number (f .station))
-    (and-intro (plain-or-dash number (f .stamp .r)) (and-intro (plain-word number g) (plain-decimals (limitsOf s number))))
+    (and-intro (plain-or-dash number (f .stamp .r)) (and-intro (plain-word number g) (plain-decimals (ruleLimitsOf s number))))
 
 -- ---- a word tells its number
 

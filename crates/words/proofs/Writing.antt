@@ -19,7 +19,7 @@ use Rattle.batch.specs.Walk.{countOf, entryAt, nextAt}
 use Rattle.batch.proofs.Walk.{walked, batch-walked, batch-count}
 use Rattle.text.specs.Text.{Put, decimal, space}
 use Rattle.text.proofs.Putting.{put-nothing, put-then, put-as, put-length}
-use Rattle.words.specs.Words.{given, repeatWord, ruleWord, wordOf, limitsOf, orDash, partsOf, spaced, lineOf, lineAt, wordLines, textOf, longestLine}
+use Rattle.words.specs.Words.{given, repeatWord, ruleWord, wordOf, ruleLimitsOf, orDash, partsOf, spaced, lineOf, lineAt, wordLines, textOf, longestLine}
 use Rattle.words.specs.Answers.{Answered}
 
 -- ---- the parts
@@ -40,14 +40,14 @@ unfolding orDash
 no-dash number x h = rw (ne-eqb number 10 h)
 
 pub no-limits : (s : Setup) (number : ℕ) → (number ≡ 11 → ⊥) → (number ≡ 12 → ⊥) → (number ≡ 13 → ⊥) → (number ≡ 14 → ⊥) → (number ≡ 15 → ⊥)
-    → [] ≡ limitsOf s number
-unfolding limitsOf
+    → [] ≡ ruleLimitsOf s number
+unfolding ruleLimitsOf
 no-limits s number b c d e f =
     rw (ne-eqb number 11 b, ne-eqb number 12 c, ne-eqb number 13 d, ne-eqb number 14 e, ne-eqb number 15 f)
 
 -- a line of the parts that were written
 pub line-made :
-    (s : Setup) (position number : ℕ) (f : Frame) (station r : ℕ) (limits : List ℕ) → station ≡ f .station → r ≡ f .stamp .r → limits ≡ limitsOf s number
+    (s : Setup) (position number : ℕ) (f : Frame) (station r : ℕ) (limits : List ℕ) → station ≡ f .station → r ≡ f .stamp .r → limits ≡ ruleLimitsOf s number
     → lineOf s position number f
     ≡ decimal position ++ ((space ++ orDash number station) ++ ((space ++ orDash number r) ++ ((space ++ wordOf number) ++ spaced (map decimal limits))))
 unfolding lineOf partsOf spaced

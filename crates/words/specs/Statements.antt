@@ -30,8 +30,8 @@ unfoldable pub queueAt : Judging → ℕ → List Frame
 queueAt j position = hear (j .setup) (j .clock) (j .asking) (j .opening) (take position (batchEntries (j .batch))) .queue
 
 -- the number of the first question about that entry that gets a no; 0 where it is taken
-unfoldable pub numberAt : Judging → ℕ → List ℕ → ℕ
-numberAt j position entry = firstNo (j .asking (queueAt j position) entry)
+unfoldable pub judgedNumber : Judging → ℕ → List ℕ → ℕ
+judgedNumber j position entry = firstNo (j .asking (queueAt j position) entry)
 
 -- the lines of its batch and of the verdict buffer that it leaves
 abbrev pub callWords : Judging → List (List ℕ)
@@ -43,7 +43,7 @@ pub record CallTold (j : Judging) (own : ℕ) : Type 0 where
   pub each-one : length (callWords j) ≡ length (batchEntries (j .batch))
   pub line-by-line :
       (position : ℕ) (entry : List ℕ) → getElem? (batchEntries (j .batch)) position ≡ some entry
-      → getElem? (callWords j) position ≡ some (lineOf (j .setup) position (numberAt j position entry) (decode (j .setup .epsilon) entry))
+      → getElem? (callWords j) position ≡ some (lineOf (j .setup) position (judgedNumber j position entry) (decode (j .setup .epsilon) entry))
   pub written :
       (text : List ℕ) → longestLine * length (batchEntries (j .batch)) ≤ length text
       → words (j .setup) own (j .batch) (j .verdicts) text ≡ wordsBy 0 (joined (λ line. line) (callWords j)) text

@@ -55,8 +55,8 @@ unfoldable pub wordOf : ℕ → List ℕ
 wordOf number = cond (eqb number 0) takenWord (ruleWord number)
 
 -- 02: "that rule's limits (n and B for 11, n and ε − 1 for 12, δ + ε for 13, ε − 1 for 14, n − 1 for 15, …, none for the others)"
-unfoldable pub limitsOf : Setup → ℕ → List ℕ
-limitsOf s number =
+unfoldable pub ruleLimitsOf : Setup → ℕ → List ℕ
+ruleLimitsOf s number =
     cond (eqb number 11) (s .n ∷ s .modulus ∷ []) (cond (eqb number 12) (s .n ∷ (s .epsilon - 1) ∷ [])
     (cond (eqb number 13) ((s .delta + s .epsilon) ∷ []) (cond (eqb number 14) ((s .epsilon - 1) ∷ [])
     (cond (eqb number 15) ((s .n - 1) ∷ []) []))))
@@ -69,7 +69,7 @@ orDash number x = cond (eqb number 10) dash (decimal x)
 -- the position. The station and r of an entry that is no frame are the bytes in their places; one that is missing reads as 0
 unfoldable pub partsOf : Setup → ℕ → Frame → List (List ℕ)
 partsOf s number f =
-    orDash number (f .station) ∷ orDash number (f .stamp .r) ∷ wordOf number ∷ map decimal (limitsOf s number)
+    orDash number (f .station) ∷ orDash number (f .stamp .r) ∷ wordOf number ∷ map decimal (ruleLimitsOf s number)
 
 -- 02: "one space between and a newline last": what follows a part of a line
 unfoldable pub spaced : List (List ℕ) → List ℕ

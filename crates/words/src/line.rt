@@ -1,6 +1,12 @@
 // The parts of a line, each written at a position where there is room for it; the answer is where it ends.
 use frame::r_of;
 use frame::station_of;
+use setup::BAD_COUNT;
+use setup::BAD_FORM;
+use setup::BAD_RANGE;
+use setup::BAD_STAMP;
+use setup::EARLY;
+use setup::LATE;
 use setup::Setup;
 use text::put_decimal;
 use text::put_field;
@@ -14,7 +20,7 @@ ghost use Rattle.model.specs.Setup.{inLimits};
 ghost use Rattle.model.specs.Frame.{decode};
 ghost use Rattle.setup.specs.Views.{setupOf};
 ghost use Rattle.text.specs.Text.{Put, decimal, space};
-ghost use Rattle.words.specs.Words.{given, longestLine, orDash, ruleWord, wordOf, limitsOf, spaced, lineOf};
+ghost use Rattle.words.specs.Words.{given, longestLine, orDash, ruleWord, wordOf, ruleLimitsOf, spaced, lineOf};
 ghost use Rattle.words.specs.Answers.{shown};
 
 // 02: "For frames refused by 10 the station and r are a dash each".
@@ -22,7 +28,7 @@ fn put_or_dash(buf: &mut [u8], at: usize, number: u8, x: usize) -> usize
     requires { ⌜ at + length (space ++ orDash number x) ≤ length (now buf) ⌝ }
     ensures { λ r. ⌜ Put (now (buf .entry)) at (space ++ orDash number x) (now (buf .exit)) r ⌝ }
 {
-    if number == 10 {
+    if number == BAD_FORM {
         return put_word(buf, at, b" -");
     }
     put_field(buf, at, b" ", x)
@@ -33,22 +39,22 @@ fn put_rule(buf: &mut [u8], at: usize, number: u8) -> usize
     requires { ⌜ at + length (space ++ ruleWord number) ≤ length (now buf) ⌝ }
     ensures { λ r. ⌜ Put (now (buf .entry)) at (space ++ ruleWord number) (now (buf .exit)) r ⌝ }
 {
-    if number == 10 {
+    if number == BAD_FORM {
         return put_word(buf, at, b" form");
     }
-    if number == 11 {
+    if number == BAD_RANGE {
         return put_word(buf, at, b" range");
     }
-    if number == 12 {
+    if number == BAD_STAMP {
         return put_word(buf, at, b" stamp");
     }
-    if number == 13 {
+    if number == LATE {
         return put_word(buf, at, b" late");
     }
-    if number == 14 {
+    if number == EARLY {
         return put_word(buf, at, b" early");
     }
-    if number == 15 {
+    if number == BAD_COUNT {
         return put_word(buf, at, b" count");
     }
     put_word(buf, at, b" repeat")
@@ -95,26 +101,26 @@ fn one(first: usize) -> RuleLimits
 }
 
 // 02: "that rule's limits (n and B for 11, n and ε − 1 for 12, δ + ε for 13, ε − 1 for 14, n − 1 for 15, …, none for the others)".
-fn limits_of(setup: Setup, number: u8) -> RuleLimits
+fn rule_limits_of(setup: Setup, number: u8) -> RuleLimits
     requires { ⌜ inLimits (setupOf setup) ≡ true ⌝ }
-    ensures { λ r. ⌜ shown r ≡ limitsOf (setupOf setup) number ⌝ }
+    ensures { λ r. ⌜ shown r ≡ ruleLimitsOf (setupOf setup) number ⌝ }
 {
     let n = setup.n as usize;
     let epsilon = setup.epsilon as usize;
     let delta = setup.delta as usize;
-    if number == 11 {
+    if number == BAD_RANGE {
         return two(n, setup.modulus as usize);
     }
-    if number == 12 {
+    if number == BAD_STAMP {
         return two(n, epsilon - 1);
     }
-    if number == 13 {
+    if number == LATE {
         return one(delta + epsilon);
     }
-    if number == 14 {
+    if number == EARLY {
         return one(epsilon - 1);
     }
-    if number == 15 {
+    if number == BAD_COUNT {
         return one(n - 1);
     }
     RuleLimits {
@@ -125,7 +131,7 @@ fn limits_of(setup: Setup, number: u8) -> RuleLimits
 }
 
 // The limits, each after a space, and the end of the line.
-fn put_limits(buf: &mut [u8], at: usize, l: RuleLimits) -> usize
+fn put_rule_limits(buf: &mut [u8], at: usize, l: RuleLimits) -> usize
     requires { ⌜ at + length (spaced (map decimal (shown l))) ≤ length (now buf) ⌝ }
     ensures { λ r. ⌜ Put (now (buf .entry)) at (spaced (map decimal (shown l))) (now (buf .exit)) r ⌝ }
 {
@@ -155,12 +161,12 @@ pub fn put_line(
     ensures { λ e. ⌜ Put (now (buf .entry)) at (lineOf (setupOf setup) position number (decode (setup .epsilon) (now (entry .entry)))) (now (buf .exit)) e ⌝ }
     ensures { λ e. ⌜ e ≤ at + longestLine ⌝ }
 {
-    let limits = limits_of(setup, number);
+    let limits = rule_limits_of(setup, number);
     let station = station_of(entry);
     let r = r_of(entry);
     let after_position = put_decimal(buf, at, position);
     let after_station = put_or_dash(buf, after_position, number, station);
     let after_r = put_or_dash(buf, after_station, number, r);
     let after_word = put_verdict(buf, after_r, number);
-    put_limits(buf, after_word, limits)
+    put_rule_limits(buf, after_word, limits)
 }

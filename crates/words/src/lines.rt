@@ -2,7 +2,7 @@
 use crate::line::put_line;
 use crate::questions::check_words;
 use batch::count_of;
-use batch::walker::walk_step;
+use batch::walker::walk_entry;
 use setup::Setup;
 ghost use mathlib.Core.Path.{_≡_};
 ghost use Prim.Native.Nat.{_*_, _≤_};
@@ -23,9 +23,9 @@ fn put_lines(setup: Setup, batch: &[u8], verdicts: &[u8], text: &mut [u8]) -> us
     let mut at = 1;
     let mut end = 0;
     while position < count {
-        let step = walk_step(batch, at);
-        let start = step.start;
-        let next = step.end;
+        let span = walk_entry(batch, at);
+        let start = span.start;
+        let next = span.end;
         let entry = &batch[start..next];
         end = put_line(text, end, setup, position, verdicts[position], entry);
         at = next;

@@ -1,6 +1,11 @@
 // What is asked before anything is written.
 use batch::count_of;
 use batch::exact;
+use setup::BAD_BATCH;
+use setup::BAD_BUFFERS;
+use setup::BAD_FORM;
+use setup::BAD_SETUP;
+use setup::REPEAT;
 use setup::Setup;
 use setup::valid_for;
 ghost use mathlib.Core.Path.{_≡_};
@@ -21,10 +26,10 @@ fn is_given(number: u8) -> bool
     if number == 0 {
         return true;
     }
-    if number < 10 {
+    if number < BAD_FORM {
         return false;
     }
-    number <= 16
+    number <= REPEAT
 }
 
 // Whether a judgement gives each of the first `count` verdicts.
@@ -47,20 +52,20 @@ pub fn check_words(setup: Setup, own: u32, batch: &[u8], verdicts: &[u8], text: 
     ensures { λ r. ⌜ r ≡ firstNo (wordsQuestions (setupOf setup) own (now (batch .entry)) (now (verdicts .entry)) (now (text .entry))) ⌝ }
 {
     if !valid_for(setup, own) {
-        return 1;
+        return BAD_SETUP;
     }
     if !exact(batch) {
-        return 5;
+        return BAD_BATCH;
     }
     let count = count_of(batch);
     if verdicts.len() < count {
-        return 6;
+        return BAD_BUFFERS;
     }
     if text.len() < LONGEST_LINE * count {
-        return 6;
+        return BAD_BUFFERS;
     }
     if !all_given(verdicts, count) {
-        return 6;
+        return BAD_BUFFERS;
     }
     0
 }

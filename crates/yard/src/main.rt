@@ -1,7 +1,7 @@
 // 02, 2.8, "Rehearse the whole yard": the steps of all stations from a trace on standard input, and
 // their lines on standard output, those of each step before the next is read.
+use input::read_next;
 use libc::STDOUT_FILENO;
-use reading::read_next;
 use rehearsal::GROUP_SETUP_LENGTH;
 use rehearsal::Rehearsal;
 use rehearsal::new_group;
@@ -23,7 +23,7 @@ ghost use Prim.Native.Nat.{_≤_};
 ghost use lib.ListN.{length, drop};
 ghost use Rattle.setup.specs.Views.{setupOf};
 ghost use Rattle.playing.specs.Playing.{among, runNumbers, replayNumbers};
-ghost use Rattle.reading.specs.Coming.{Came};
+ghost use Rattle.input.specs.Coming.{Came};
 ghost use Rattle.rehearsal.specs.Step.{stepEnd, longestStep};
 ghost use Rattle.yard.specs.Running.{Usable, Begun, Ran, Ended};
 

@@ -4,7 +4,7 @@ use mathlib.Core.Path.{_≡_, _∙_, ap}
 use borrow.Author.Needs.{needs}
 use Rattle.model.specs.Comparison.{CompareAnswer}
 use Rattle.comparing.proofs.Asking.{call-small}
-use Rattle.abi.specs.Packing.{setupBy, compareWord}
+use Rattle.abi.specs.Packing.{setupBy, packedComparison}
 use Rattle.abi.proofs.yarngravel_compare.Statement.{statement}
 use Rattle.abi.proofs.yarngravel_compare.Tie as tie
 
@@ -21,7 +21,7 @@ pack-compared-requires c κs =
     )
 
 returns : tie.Need-returns
-returns c = c .pack-compared .ensures ∙ ap compareWord (c .before .compare-call .ensures)
+returns c = c .pack-compared .ensures ∙ ap packedComparison (c .before .compare-call .ensures)
 
 pub yarngravel-compare-spec : {M : Type 1} → statement M
 yarngravel-compare-spec = tie.close (tie.spec compare-call-requires pack-compared-requires returns)

@@ -30,6 +30,9 @@ made c = tablesBytes (widened (fresh (c .args .epsilon) (c .args .clock)))
 valid-for-requires : tie.Need-valid-for-requires
 valid-for-requires c κs = search needs
 
+cast-result : tie.Need-cast-result
+cast-result c = search needs
+
 returns : tie.Need-returns
 unfolding freshNumber freshBytes askSetup
 returns c =
@@ -43,6 +46,9 @@ valid c = sym (c .before .valid-for .ensures) ∙ not-false (c .before .valid-fo
 
 limits : (c : tie.Else1) → Limits (setup (c .before .before))
 limits c = setup-from (setup (c .before .before)) (c .before .before .args .own) (valid c) .0
+
+cast-result-2 : tie.Need-cast-result-2
+cast-result-2 c = search needs
 
 returns-2 : tie.Need-returns-2
 unfolding freshNumber freshBytes askSetup
@@ -68,4 +74,4 @@ returns-3 c =
     (both .0, c .put-tables .ensures ∙ ap tablesBytes (c .before .before .fresh .ensures) ∙ both .1)
 
 pub yarngravel-fresh-spec : {M : Type 1} → statement M
-yarngravel-fresh-spec = tie.close (tie.spec valid-for-requires returns returns-2 fresh-requires put-tables-requires returns-3)
+yarngravel-fresh-spec = tie.close (tie.spec valid-for-requires cast-result returns cast-result-2 returns-2 fresh-requires put-tables-requires returns-3)

@@ -21,6 +21,9 @@ setup c = setupBy (c .args .n) (c .args .epsilon) (c .args .delta) (c .args .mod
 in-limits-requires : tie.Need-in-limits-requires
 in-limits-requires c κs = search needs
 
+cast-result : tie.Need-cast-result
+cast-result c = search needs
+
 returns : tie.Need-returns
 unfolding freshLastNumber freshLastBytes
 returns c =
@@ -31,6 +34,9 @@ returns c =
 -- the setup is in its limits
 valid : (c : tie.Else1) → inLimits (setup (c .before .before)) ≡ true
 valid c = sym (c .before .in-limits .ensures) ∙ not-false (c .before .in-limits .result) (c .if1 .left)
+
+cast-result-2 : tie.Need-cast-result-2
+cast-result-2 c = search needs
 
 returns-2 : tie.Need-returns-2
 unfolding freshLastNumber freshLastBytes
@@ -52,4 +58,4 @@ returns-3 c =
 
 pub yarngravel-fresh-last-spec : {M : Type 1} → statement M
 yarngravel-fresh-last-spec =
-    tie.close (tie.spec in-limits-requires returns returns-2 put-u16-requires returns-3)
+    tie.close (tie.spec in-limits-requires cast-result returns cast-result-2 returns-2 put-u16-requires returns-3)

@@ -6,7 +6,7 @@ use lib.ListN.{length}
 use borrow.Author.Needs.{needs}
 use Rattle.model.specs.Frame.{twoAt, twoBytes}
 use Rattle.model.specs.Observer.{Listening, listen}
-use Rattle.abi.specs.Packing.{setupBy, listenWord}
+use Rattle.abi.specs.Packing.{setupBy, packedListened}
 use Rattle.abi.proofs.Words.{listened-small, last-written, refused-listening, accepted-listening}
 use Rattle.abi.proofs.yarngravel_listen.Statement.{statement}
 use Rattle.abi.proofs.yarngravel_listen.Tie as tie
@@ -55,9 +55,9 @@ two c = sym (ap length (c .last-of .ensures .1))
 small : (c : tie.Else1) → (c .before .before .before .before .before .before .before .before .listen .result .taken < 256) × ((c .before .before .before .before .before .before .before .before .listen .result .delivered < 65536) × (c .before .before .before .before .before .before .before .before .listen .result .last < 65536))
 small c =
     let start = c .before .before .before .before .before .before .before .before .before .before .before .before .before .before .before .before .before .before .before in
-    let figures =
+    let packedNumbers =
     listened-small (input start (twoAt (start .args .last .now) 0)) _ (c .before .before .before .before .before .before .before .before .listen .ensures ∙ ap (λ (l : ℕ). listen (input start l)) (c .before .before .before .before .before .before .before .before .before .before .before .before .last-of .ensures .0)) (c .if1 .left) (omega (arith, c .before .before .before .before .before .before .before .before .before .before .before .before .before .before .before .before .before .shared-slice-known .given 0)) in
-    (figures .taken-small, (figures .delivered-small, figures .last-small))
+    (packedNumbers .taken-small, (packedNumbers .delivered-small, packedNumbers .last-small))
 
 put-u16-requires : tie.Need-put-u16-requires
 put-u16-requires c κs = (search needs, small (c .before) .1 .1)
@@ -75,7 +75,7 @@ same-length-6 : tie.Need-same-length-6
 same-length-6 c = search needs
 
 returns-2 : tie.Need-returns-2
-unfolding listenWord
+unfolding packedListened
 returns-2 c =
     let start = c .before .before .before .before .before .before .before .before .before .before .before .before .before .before .before .before .before .before .before .before .before .before in
     accepted-listening (input start (twoAt (start .args .last .now) 0)) _ (c .pack-listened .result) _ (c .before .before .before .before .before .before .before .before .before .before .before .listen .ensures ∙ ap (λ (l : ℕ). listen (input start l)) (c .before .before .before .before .before .before .before .before .before .before .before .before .before .before .before .last-of .ensures .0)) (c .pack-listened .ensures)

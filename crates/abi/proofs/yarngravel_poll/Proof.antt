@@ -5,7 +5,7 @@ use borrow.Author.Needs.{needs}
 use Rattle.model.specs.Poll.{PollAnswer}
 use Rattle.polling.specs.Answers.{SmallNext}
 use Rattle.polling.proofs.Asking.{poll-small}
-use Rattle.abi.specs.Packing.{setupBy, pollWord}
+use Rattle.abi.specs.Packing.{setupBy, packedPoll}
 use Rattle.abi.proofs.yarngravel_poll.Statement.{statement}
 use Rattle.abi.proofs.yarngravel_poll.Tie as tie
 
@@ -19,7 +19,7 @@ pack-polled-requires c κs =
     (poll-small (setupBy (a .n) (a .epsilon) (a .delta) (a .modulus)) (a .own) (a .clock) (a .within) (a .holdback .now))
 
 returns : tie.Need-returns
-returns c = c .pack-polled .ensures ∙ ap pollWord (c .before .poll .ensures)
+returns c = c .pack-polled .ensures ∙ ap packedPoll (c .before .poll .ensures)
 
 pub yarngravel-poll-spec : {M : Type 1} → statement M
 yarngravel-poll-spec = tie.close (tie.spec poll-requires pack-polled-requires returns)

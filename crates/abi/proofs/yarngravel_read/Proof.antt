@@ -7,7 +7,7 @@ use borrow.Author.Needs.{needs}
 use Rattle.model.specs.Frame.{decode, payloadCountAt}
 use Rattle.model.specs.Question.{firstNo}
 use Rattle.model.specs.Codec.{ReadAnswer, readQuestions, read}
-use Rattle.abi.specs.Packing.{setupBy, tablesBytes, readWord, readTables}
+use Rattle.abi.specs.Packing.{setupBy, tablesBytes, packedRead, readTables}
 use Rattle.abi.proofs.Words.{Fair, fair, read-is, refused-reading, accepted-word, accepted-tables}
 use Rattle.abi.proofs.yarngravel_read.Statement.{statement}
 use Rattle.abi.proofs.yarngravel_read.Tie as tie
@@ -29,7 +29,7 @@ cast-result : tie.Need-cast-result
 cast-result c = search needs
 
 returns : tie.Need-returns
-unfolding readWord readTables
+unfolding packedRead readTables
 returns c =
     let start = c .before .before .before .before .before in
     let s = setupBy (start .args .n) (start .args .epsilon) (start .args .delta) (start .args .modulus) in
@@ -70,7 +70,7 @@ pack-reading-requires c κs =
     )
 
 returns-2 : tie.Need-returns-2
-unfolding readWord readTables
+unfolding packedRead readTables
 returns-2 c =
     let start = c .before .before .before .before .before .before .before .before .before in
     let taken = c .before .before .before .before .before in

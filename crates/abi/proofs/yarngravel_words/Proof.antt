@@ -4,7 +4,7 @@ use native.Mathlib.Omega.{arith}
 use mathlib.Core.Path.{_≡_, _∙_, ap}
 use borrow.Author.Needs.{needs}
 use Rattle.words.specs.Words.{WordsAnswer}
-use Rattle.abi.specs.Packing.{wordsWord}
+use Rattle.abi.specs.Packing.{packedWords}
 use Rattle.abi.proofs.yarngravel_words.Statement.{statement}
 use Rattle.abi.proofs.yarngravel_words.Tie as tie
 
@@ -18,7 +18,7 @@ same-length : tie.Need-same-length
 same-length c = search needs
 
 returns : tie.Need-returns
-unfolding wordsWord
+unfolding packedWords
 returns c = (
   c .pack-written .ensures ∙ ap (λ (a : WordsAnswer). a .number + 256 * a .size) (c .before .before .before .write-words .ensures .0),
   ap (λ (a : WordsAnswer). a .text) (c .before .before .before .write-words .ensures .0),

@@ -7,7 +7,7 @@ use Rattle.model.specs.Setup.{Setup}
 use Rattle.model.specs.Timestamp.{Timestamp}
 use Rattle.model.specs.Codec.{WriteAnswer, write}
 use Rattle.timestamp.specs.Views.{stampOf}
-use Rattle.abi.specs.Packing.{setupBy, tablesIn, writeWord}
+use Rattle.abi.specs.Packing.{setupBy, tablesIn, packedWrite}
 use Rattle.abi.proofs.Words.{write-small}
 use Rattle.abi.proofs.yarngravel_write.Statement.{statement}
 use Rattle.abi.proofs.yarngravel_write.Tie as tie
@@ -32,7 +32,7 @@ same : (c : tie.After-write) (x : WriteAnswer) → x ≡ write (setup (c .before
 same c x e = e ∙ ap (λ (t : Timestamp). write (setup (c .before .before .before .before .before .before)) (c .before .before .before .before .before .before .args .own) (c .before .before .before .before .before .before .args .station) t (c .before .before .before .before .before .before .args .payload .now) (c .before .before .before .before .before .before .args .out .now)) (c .before .before .tables-of .ensures .0)
 
 returns : tie.Need-returns
-unfolding writeWord
+unfolding packedWrite
 returns c = (
   c .pack-written .ensures ∙ ap (λ (a : WriteAnswer). a .number + 256 * a .size) (same (c .before .before .before) _ (c .before .before .before .write .ensures)),
   ap (λ (a : WriteAnswer). a .buffer) (same (c .before .before .before) _ (c .before .before .before .write .ensures)),

@@ -9,7 +9,7 @@ use Rattle.timestamp.specs.Views.{stampOf}
 use Rattle.setup.specs.Views.{setupOf}
 use Rattle.trace.specs.Views.{nodeSetupOf}
 use Rattle.node.specs.Answers.{answerOf, callOutput}
-use Rattle.trace.specs.declared.lines.TickFigures.{TickFigures}
+use Rattle.trace.specs.declared.lines.TickNumbers.{TickNumbers}
 use Rattle.trace.specs.Text.{tickLines, textWritten, textEnd}
 use Rattle.trace.specs.Trace.{tickNumber}
 use Rattle.trace.specs.Replay.{callOf}
@@ -93,8 +93,8 @@ returns-2 c =
           ∙ turn-refused (nodeSetupOf (a .node)) (stampOf (a .station .tables)) (a .holdback .now) (a .bytes .now) (a .text .now) (output called) (one-tick called) (same called) (c .before .if2 .taken),
     )
 
-figures-of-requires : tie.Need-figures-of-requires
-figures-of-requires c κs = search needs
+tick-numbers-of-requires : tie.Need-tick-numbers-of-requires
+tick-numbers-of-requires c κs = search needs
 
 slice-aggregate-put-lines : tie.Need-slice-aggregate-put-lines
 slice-aggregate-put-lines c = search needs
@@ -104,8 +104,8 @@ put-lines-requires c κs =
     let called = c .before .before .before .before .before .before .before .before .before .before .before in
     let at = start called in
     turn-given (nodeSetupOf (at .args .node)) (stampOf (at .args .station .tables)) (at .args .holdback .now) (at .args .bytes .now) (at .args .text .now) (output called)
-    (c .before .figures-of .result .clock) (at .pre .ready) (same called) (c .before .before .before .before .if2 .left)
-    (ap (λ (f : TickFigures). f .clock) (c .before .figures-of .ensures) ∙ reading called .read-call .ensures .1 .0)
+    (c .before .tick-numbers-of .result .clock) (at .pre .ready) (same called) (c .before .before .before .before .if2 .left)
+    (ap (λ (f : TickNumbers). f .clock) (c .before .tick-numbers-of .ensures) ∙ reading called .read-call .ensures .1 .0)
 
 same-length-2 : tie.Need-same-length-2
 same-length-2 c = search needs
@@ -129,13 +129,13 @@ returns-3 c =
     let else2 = c .before .before .before .before .before .before .before in
     let called = else2 .before .before .before .before .before .before .before in
     let a = start called .args in
-    let line : TickFigures → List ℕ = λ f. tickLines (f .clock) (f .repair) (f .c) (f .taken) (f .sent) (f .delivered) (setupOf (a .node .setup)) (output called .delivery) in
-    let figures = c .before .before .before .before .figures-of .ensures in (
+    let line : TickNumbers → List ℕ = λ f. tickLines (f .clock) (f .repair) (f .c) (f .taken) (f .sent) (f .delivered) (setupOf (a .node .setup)) (output called .delivery) in
+    let figures = c .before .before .before .before .tick-numbers-of .ensures in (
       refl,
       turn-played (nodeSetupOf (a .node)) (stampOf (a .station .tables)) (a .holdback .now) (a .bytes .now) (a .text .now) (output called) (reading called .read-call .result .clock)
           (start called .pre .ready) (start called .pre .room) (one-tick called) (same called) (else2 .if2 .left) (reading called .read-call .ensures .1 .0) (figured else2)
-          (c .before .before .put-lines .ensures .0 ∙ ap (λ (f : TickFigures). textEnd (a .text .now) 0 (line f)) figures)
-          (c .before .before .put-lines .ensures .1 ∙ ap (λ (f : TickFigures). textWritten (a .text .now) 0 (line f)) figures),
+          (c .before .before .put-lines .ensures .0 ∙ ap (λ (f : TickNumbers). textEnd (a .text .now) 0 (line f)) figures)
+          (c .before .before .put-lines .ensures .1 ∙ ap (λ (f : TickNumbers). textWritten (a .text .now) 0 (line f)) figures),
     )
 
 pub play-spec : {M : Type 1} → statement M
@@ -154,7 +154,7 @@ play-spec =
     refused-requires-2
     same-length
     returns-2
-    figures-of-requires
+    tick-numbers-of-requires
     slice-aggregate-put-lines
     put-lines-requires
     same-length-2

@@ -8,7 +8,7 @@ use borrow.Author.Needs.{needs}
 use borrow.Rule.Slice.PartMut.{putMid}
 use Rattle.trace.specs.Trace.{tickEnd, longestTick}
 use Rattle.trace.proofs.Whole.{never-past}
-use Rattle.reading.proofs.Coming.{Coming, coming-none, coming-all, came-few, next-long, came-cut, came-more}
+use Rattle.input.proofs.Coming.{Coming, coming-none, coming-all, came-few, next-long, came-cut, came-more}
 use Rattle.replay.proofs.read_tick.Statement.{statement}
 use Rattle.replay.proofs.read_tick.Tie as tie
 

@@ -8,7 +8,7 @@ use borrow.Author.Needs.{needs}
 use borrow.Rule.Slice.PartMut.{putMid}
 use Rattle.rehearsal.specs.Step.{stepEnd, longestStep}
 use Rattle.rehearsal.proofs.Whole.{never-past}
-use Rattle.reading.proofs.Coming.{Coming, coming-none, coming-all, coming-past, came-few, next-long, came-cut, cut-past, came-more}
+use Rattle.input.proofs.Coming.{Coming, coming-none, coming-all, coming-past, came-few, next-long, came-cut, cut-past, came-more}
 use Rattle.yard.proofs.read_step.Statement.{statement}
 use Rattle.yard.proofs.read_step.Tie as tie
 

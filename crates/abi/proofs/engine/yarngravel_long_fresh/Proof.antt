@@ -27,6 +27,9 @@ made c = longTablesBytes (widened (fresh (c .args .epsilon) (c .args .clock)))
 valid-for-requires : tie.Need-valid-for-requires
 valid-for-requires c κs = search needs
 
+cast-result : tie.Need-cast-result
+cast-result c = search needs
+
 returns : tie.Need-returns
 unfolding longFreshNumber longFreshBytes askLongSetup
 returns c =
@@ -40,6 +43,9 @@ is-valid c = sym (c .before .valid-for .ensures) ∙ not-false (c .before .valid
 
 limits : (c : tie.Else1) → LongLimits (setup (c .before .before))
 limits c = setup-from (setup (c .before .before)) (c .before .before .args .own) (is-valid c)
+
+cast-result-2 : tie.Need-cast-result-2
+cast-result-2 c = search needs
 
 returns-2 : tie.Need-returns-2
 unfolding longFreshNumber longFreshBytes askLongSetup
@@ -66,7 +72,9 @@ yarngravel-long-fresh-spec =
     tie.close
     (tie.spec
     valid-for-requires
+    cast-result
     returns
+    cast-result-2
     returns-2
     fresh-requires
     put-long-tables-requires

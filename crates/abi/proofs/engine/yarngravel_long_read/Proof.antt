@@ -9,7 +9,7 @@ use Rattle.model.specs.Frame.{payloadCountAt}
 use Rattle.model.specs.Question.{firstNo}
 use Rattle.model.specs.Codec.{ReadAnswer}
 use Rattle.model.specs.Long.{askLongSetup, longFrameQuestions, longDecode, longRead}
-use Rattle.abi.specs.Packing.{longSetupBy, longTablesBytes, longReadWord, longReadTables}
+use Rattle.abi.specs.Packing.{longSetupBy, longTablesBytes, longPackedRead, longReadTables}
 use Rattle.abi.proofs.Words.{Fair, refused-reading, accepted-word, accepted-tables}
 use Rattle.abi.proofs.LongWords.{long-fair, long-read-is}
 use Rattle.abi.proofs.engine.yarngravel_long_read.Statement.{statement}
@@ -32,7 +32,7 @@ cast-result : tie.Need-cast-result
 cast-result c = search needs
 
 returns : tie.Need-returns
-unfolding longReadWord longReadTables
+unfolding longPackedRead longReadTables
 returns c =
     let start = c .before .before .before .before .before in
     let s = longSetupBy (start .args .n) (start .args .epsilon) (start .args .delta) in
@@ -73,7 +73,7 @@ pack-reading-requires c κs =
     )
 
 returns-2 : tie.Need-returns-2
-unfolding longReadWord longReadTables
+unfolding longPackedRead longReadTables
 returns-2 c =
     let start = c .before .before .before .before .before .before .before .before .before in
     let taken = c .before .before .before .before .before in

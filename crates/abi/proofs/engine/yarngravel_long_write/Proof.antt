@@ -8,7 +8,7 @@ use Rattle.model.specs.Timestamp.{Timestamp}
 use Rattle.model.specs.Codec.{WriteAnswer}
 use Rattle.model.specs.Long.{longWrite}
 use Rattle.timestamp.specs.Views.{stampOf}
-use Rattle.abi.specs.Packing.{longSetupBy, longTablesIn, writeWord}
+use Rattle.abi.specs.Packing.{longSetupBy, longTablesIn, packedWrite}
 use Rattle.abi.proofs.LongWords.{long-write-small}
 use Rattle.abi.proofs.engine.yarngravel_long_write.Statement.{statement}
 use Rattle.abi.proofs.engine.yarngravel_long_write.Tie as tie
@@ -33,7 +33,7 @@ same : (c : tie.After-write) (x : WriteAnswer) → x ≡ longWrite (setup (c .be
 same c x e = e ∙ ap (λ (t : Timestamp). longWrite (setup (c .before .before .before .before .before .before)) (c .before .before .before .before .before .before .args .own) (c .before .before .before .before .before .before .args .station) t (c .before .before .before .before .before .before .args .payload .now) (c .before .before .before .before .before .before .args .out .now)) (c .before .before .long-tables-of .ensures .0)
 
 returns : tie.Need-returns
-unfolding writeWord
+unfolding packedWrite
 returns c = (
   c .pack-written .ensures ∙ ap (λ (a : WriteAnswer). a .number + 256 * a .size) (same (c .before .before .before) _ (c .before .before .before .write .ensures)),
   ap (λ (a : WriteAnswer). a .buffer) (same (c .before .before .before) _ (c .before .before .before .write .ensures)),

@@ -1,7 +1,7 @@
 -- `abi::packing::pack_compared` meets its contract. Assumes nothing.
 use mathlib.Core.Path.{refl}
 use borrow.Author.Needs.{needs}
-use Rattle.abi.specs.Packing.{compareWord}
+use Rattle.abi.specs.Packing.{packedComparison}
 use Rattle.abi.proofs.packing.pack_compared.Statement.{statement}
 use Rattle.abi.proofs.packing.pack_compared.Tie as tie
 
@@ -33,7 +33,7 @@ add-result-3 : tie.Need-add-result-3
 add-result-3 c = search needs
 
 returns : tie.Need-returns
-unfolding compareWord
+unfolding packedComparison
 returns c = refl
 
 pub pack-compared-spec : {M : Type 1} → statement M

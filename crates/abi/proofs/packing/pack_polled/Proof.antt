@@ -2,7 +2,7 @@
 use Prim.Native.Nat.{ℕ, _+_, _*_}
 use mathlib.Core.Path.{ap}
 use borrow.Author.Needs.{needs}
-use Rattle.abi.specs.Packing.{pollWord}
+use Rattle.abi.specs.Packing.{packedPoll}
 use Rattle.abi.proofs.packing.pack_polled.Statement.{statement}
 use Rattle.abi.proofs.packing.pack_polled.Tie as tie
 
@@ -25,7 +25,7 @@ add-result-2 : tie.Need-add-result-2
 add-result-2 c = search needs
 
 returns : tie.Need-returns
-unfolding pollWord
+unfolding packedPoll
 returns c =
     let a = c .before .before .args .a in
     ap (λ (bits : ℕ). a .number + 256 * (bits + 16777216 * a .within)) (c .pack-next .ensures .0)

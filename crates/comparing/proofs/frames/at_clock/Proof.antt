@@ -17,7 +17,7 @@ enum-known-reason c = search needs
 returns : tie.Need-returns
 returns c =
     let a = c .before .args in
-    stays tags (countClock (setupOf (a .s)) (a .v) (a .sum)) (a .reason) (c .match .keys2)
+    stays tags (countClock (setupOf (a .setup)) (a .clock) (a .sum)) (a .reason) (c .match .keys2)
 
 count-clock-requires : tie.Need-count-clock-requires
 count-clock-requires c κs =
@@ -27,7 +27,7 @@ count-clock-requires c κs =
 returns-2 : tie.Need-returns-2
 returns-2 c =
     let a = c .before .before .before .before .args in
-    named (countClock (setupOf (a .s)) (a .v) (a .sum)) (a .reason) (c .before .before .reason .given .0 .0) (c .count-clock .result) (c .before .before .reason .given .1) (c .count-clock .ensures)
+    named (countClock (setupOf (a .setup)) (a .clock) (a .sum)) (a .reason) (c .before .before .reason .given .0 .0) (c .count-clock .result) (c .before .before .reason .given .1) (c .count-clock .ensures)
 
 pub at-clock-spec : {M : Type 1} → statement M
 at-clock-spec = tie.close (tie.spec enum-known-reason returns count-clock-requires returns-2)

@@ -28,17 +28,17 @@ enum-told c = search needs
 returns : tie.Need-returns
 returns c =
     let a = c .before .before .before .before .args in
-    named-first (a .comparison) (c .before .before .comparison .given .0 .0) (countClock (setupOf (a .s)) (a .v) (a .sum)) (c .at-clock .result) (c .at-clock .ensures) (c .before .before .comparison .given .1)
+    named-first (a .comparison) (c .before .before .comparison .given .0 .0) (countClock (setupOf (a .setup)) (a .clock) (a .sum)) (c .at-clock .result) (c .at-clock .ensures) (c .before .before .comparison .given .1)
 
 returns-2 : tie.Need-returns-2
 returns-2 c =
     let a = c .before .before .before .before .args in
-    named-second (a .comparison) (c .before .before .comparison2 .given .0 .0) (countClock (setupOf (a .s)) (a .v) (a .sum)) (c .at-clock2 .result) (c .at-clock2 .ensures) (c .before .before .comparison2 .given .1)
+    named-second (a .comparison) (c .before .before .comparison2 .given .0 .0) (countClock (setupOf (a .setup)) (a .clock) (a .sum)) (c .at-clock2 .result) (c .at-clock2 .ensures) (c .before .before .comparison2 .given .1)
 
 returns-3 : tie.Need-returns-3
 returns-3 c =
     let a = c .before .before .args in
-    named-alike (a .comparison) (countClock (setupOf (a .s)) (a .v) (a .sum)) (c .enum-told .given .1)
+    named-alike (a .comparison) (countClock (setupOf (a .setup)) (a .clock) (a .sum)) (c .enum-told .given .1)
 
 pub at-clocks-spec : {M : Type 1} → statement M
 at-clocks-spec =

@@ -20,7 +20,7 @@ use Rattle.comparing.proofs.frames.compare_frames.Statement.{statement}
 use Rattle.comparing.proofs.frames.compare_frames.Tie as tie
 
 abbrev setup : tie.Start → Setup
-setup c = setupOf (c .args .s)
+setup c = setupOf (c .args .setup)
 
 limits : (c : tie.Start) → Limits (setup c)
 limits c = limits-from (setup c) (c .pre .0 .0)
@@ -41,27 +41,27 @@ rank-of-requires-2 c κs =
 counts-part-requires : tie.Need-counts-part-requires
 counts-part-requires c κs =
     let start = c .before .before .before .before .before in
-    (limits start .epsilon-most, counts-end (start .args .s .epsilon) (start .args .f .now) (passing (setup start) (start .args .f .now) (start .pre .1 .0) .well))
+    (limits start .epsilon-most, counts-end (start .args .setup .epsilon) (start .args .f .now) (passing (setup start) (start .args .f .now) (start .pre .1 .0) .well))
 
 counts-part-requires-2 : tie.Need-counts-part-requires-2
 counts-part-requires-2 c κs =
     let start = c .before .before .before .before .before .before in
-    (limits start .epsilon-most, counts-end (start .args .s .epsilon) (start .args .g .now) (passing (setup start) (start .args .g .now) (start .pre .1 .1) .well))
+    (limits start .epsilon-most, counts-end (start .args .setup .epsilon) (start .args .g .now) (passing (setup start) (start .args .g .now) (start .pre .1 .1) .well))
 
 abbrev from : tie.After-counts-part2 → tie.Start
 from c = c .before .before .before .before .before .before .before
 
-ranked-f : (c : tie.After-counts-part2) → Ranked (from c .args .s .epsilon) (c .before .before .before .rank-of .result) (c .before .counts-part .result .now)
+ranked-f : (c : tie.After-counts-part2) → Ranked (from c .args .setup .epsilon) (c .before .before .before .rank-of .result) (c .before .counts-part .result .now)
 ranked-f c =
     let start = from c in
-    ranked (setup start) (start .args .v) (start .args .f .now) (c .before .counts-part .result .now) (c .before .before .before .rank-of .result)
-    (limits start) (start .pre .1 .0) (counts-decoded (start .args .s .epsilon) (start .args .f .now) (c .before .counts-part .ensures)) (c .before .before .before .rank-of .ensures)
+    ranked (setup start) (start .args .clock) (start .args .f .now) (c .before .counts-part .result .now) (c .before .before .before .rank-of .result)
+    (limits start) (start .pre .1 .0) (counts-decoded (start .args .setup .epsilon) (start .args .f .now) (c .before .counts-part .ensures)) (c .before .before .before .rank-of .ensures)
 
-ranked-g : (c : tie.After-counts-part2) → Ranked (from c .args .s .epsilon) (c .before .before .rank-of2 .result) (c .counts-part2 .result .now)
+ranked-g : (c : tie.After-counts-part2) → Ranked (from c .args .setup .epsilon) (c .before .before .rank-of2 .result) (c .counts-part2 .result .now)
 ranked-g c =
     let start = from c in
-    ranked (setup start) (start .args .v) (start .args .g .now) (c .counts-part2 .result .now) (c .before .before .rank-of2 .result)
-    (limits start) (start .pre .1 .1) (counts-decoded (start .args .s .epsilon) (start .args .g .now) (c .counts-part2 .ensures)) (c .before .before .rank-of2 .ensures)
+    ranked (setup start) (start .args .clock) (start .args .g .now) (c .counts-part2 .result .now) (c .before .before .rank-of2 .result)
+    (limits start) (start .pre .1 .1) (counts-decoded (start .args .setup .epsilon) (start .args .g .now) (c .counts-part2 .ensures)) (c .before .before .rank-of2 .ensures)
 
 compare-ranked-requires : tie.Need-compare-ranked-requires
 compare-ranked-requires c κs = (ranked-f c, ranked-g c)
@@ -74,12 +74,12 @@ at-clocks-requires c κs =
     let called = c .before .before in
     let start = from called in
     let rank : Rank = called .before .before .before .rank-of .result in
-    let low = reading-low (setup start) (start .args .v) (decode (start .args .s .epsilon) (start .args .f .now)) (limits start) in
-    let high = reading-high (setup start) (start .args .v) (decode (start .args .s .epsilon) (start .args .f .now)) (limits start) in
+    let low = reading-low (setup start) (start .args .clock) (decode (start .args .setup .epsilon) (start .args .f .now)) (limits start) in
+    let high = reading-high (setup start) (start .args .clock) (decode (start .args .setup .epsilon) (start .args .f .now)) (limits start) in
     let reading = ap (λ (q : Rank). q .reading) (called .before .before .before .rank-of .ensures) in (
       start .pre .0,
       (
-        counted-keys (start .args .s .epsilon) (rank .reading + rank .c) _ _ _ (c .before .compare-ranked .ensures) (omega (arith, low, reading)),
+        counted-keys (start .args .setup .epsilon) (rank .reading + rank .c) _ _ _ (c .before .compare-ranked .ensures) (omega (arith, low, reading)),
         omega (arith, high, reading, ranked-f called .lead, limits start .epsilon-most, limits start .modulus-most),
       ),
     )
@@ -88,9 +88,9 @@ returns : tie.Need-returns
 returns c =
     let called = c .before .before .before in
     let start = from called in
-    let epsilon = start .args .s .epsilon in
+    let epsilon = start .args .setup .epsilon in
     c .at-clocks .ensures
-    ∙ by-ranks (setup start) (start .args .v) (decode epsilon (start .args .f .now)) (decode epsilon (start .args .g .now))
+    ∙ by-ranks (setup start) (start .args .clock) (decode epsilon (start .args .f .now)) (decode epsilon (start .args .g .now))
     (called .before .before .before .rank-of .result) (called .before .before .rank-of2 .result) (called .before .counts-part .result .now) (called .counts-part2 .result .now)
     (called .before .before .before .rank-of .ensures) (counts-decoded epsilon (start .args .f .now) (called .before .counts-part .ensures))
     (called .before .before .rank-of2 .ensures) (counts-decoded epsilon (start .args .g .now) (called .counts-part2 .ensures))

@@ -22,27 +22,27 @@ limits : (c : tie.Start) → Limits (setupOf (c .args .setup))
 limits c = limits-from (setupOf (c .args .setup)) (c .pre)
 
 -- what the first three tests leave
-form : (c : tie.Else1) → let a = c .before .before .before .before .before .before .args in wellFormed (a .setup .epsilon) (a .s .now) ≡ true
+form : (c : tie.Else1) → let a = c .before .before .before .before .before .before .args in wellFormed (a .setup .epsilon) (a .frame .now) ≡ true
 form c = sym (c .before .well-formed .ensures) ∙ not-false (c .before .well-formed .result) (c .if1 .left)
 
-station : (c : tie.Else2) → let a = c .before .before .before .before .before .before .before .before .args in decode (a .setup .epsilon) (a .s .now) .station < a .setup .n
+station : (c : tie.Else2) → let a = c .before .before .before .before .before .before .before .before .args in decode (a .setup .epsilon) (a .frame .now) .station < a .setup .n
 station c = omega (arith, c .before .station-of .ensures (c .before .before .before .before .before .before .before .before .args .setup .epsilon))
 
-clock : (c : tie.Else3) → let a = c .before .before .before .before .before .before .before .before .before .before .args in decode (a .setup .epsilon) (a .s .now) .stamp .r < a .setup .modulus
+clock : (c : tie.Else3) → let a = c .before .before .before .before .before .before .before .before .before .before .args in decode (a .setup .epsilon) (a .frame .now) .stamp .r < a .setup .modulus
 clock c = omega (arith, c .before .r-of .ensures (c .before .before .before .before .before .before .before .before .before .before .args .setup .epsilon))
 
 asked : (c : tie.Else3) → let a = c .before .before .before .before .before .before .before .before .before .before .args in
-    firstNo (frameQuestions (setupOf (a .setup)) (a .s .now)) ≡ firstNo (askStamp (setupOf (a .setup)) (decode (a .setup .epsilon) (a .s .now)) ∷ [])
+    firstNo (frameQuestions (setupOf (a .setup)) (a .frame .now)) ≡ firstNo (askStamp (setupOf (a .setup)) (decode (a .setup .epsilon) (a .frame .now)) ∷ [])
 asked c =
     let a = c .before .before .before .before .before .before .before .before .before .before .args in
-    form-right (setupOf (a .setup)) (a .s .now) (form (c .before .before .before .before))
-    ∙ in-range (setupOf (a .setup)) (decode (a .setup .epsilon) (a .s .now)) (askStamp (setupOf (a .setup)) (decode (a .setup .epsilon) (a .s .now)) ∷ []) (station (c .before .before)) (clock c)
+    form-right (setupOf (a .setup)) (a .frame .now) (form (c .before .before .before .before))
+    ∙ in-range (setupOf (a .setup)) (decode (a .setup .epsilon) (a .frame .now)) (askStamp (setupOf (a .setup)) (decode (a .setup .epsilon) (a .frame .now)) ∷ []) (station (c .before .before)) (clock c)
 
 sound : (c : tie.After-sound-counts) → let a = c .before .before .before .before .before .before .before .before .before .before .before .before .before .args in
-    soundTimestamp (a .setup .n) (a .setup .epsilon) (decode (a .setup .epsilon) (a .s .now) .stamp) ≡ c .sound-counts .result
+    soundTimestamp (a .setup .n) (a .setup .epsilon) (decode (a .setup .epsilon) (a .frame .now) .stamp) ≡ c .sound-counts .result
 sound c =
     let a = c .before .before .before .before .before .before .before .before .before .before .before .before .before .args in
-    sym (c .sound-counts .ensures ∙ counts-sound (a .setup .n) (a .setup .epsilon) (c .before .before .c-of .result) (a .s .now) (c .before .before .c-of .ensures (a .setup .epsilon)))
+    sym (c .sound-counts .ensures ∙ counts-sound (a .setup .n) (a .setup .epsilon) (c .before .before .c-of .result) (a .frame .now) (c .before .before .c-of .ensures (a .setup .epsilon)))
 
 cast-n : tie.Need-cast-n
 cast-n c = search needs
@@ -59,7 +59,7 @@ well-formed-requires c κs = limits (c .before .before .before .before) .epsilon
 returns : tie.Need-returns
 returns c =
     let a = c .before .before .before .before .before .before .args in
-    sym (form-no (setupOf (a .setup)) (a .s .now) (sym (c .before .well-formed .ensures) ∙ not-true (c .before .well-formed .result) (c .if1 .taken)))
+    sym (form-no (setupOf (a .setup)) (a .frame .now) (sym (c .before .well-formed .ensures) ∙ not-true (c .before .well-formed .result) (c .if1 .taken)))
 
 station-of-requires : tie.Need-station-of-requires
 station-of-requires c κs = search needs
@@ -67,8 +67,8 @@ station-of-requires c κs = search needs
 returns-2 : tie.Need-returns-2
 returns-2 c =
     let a = c .before .before .before .before .before .before .before .before .args in
-    let h : a .setup .n ≤ decode (a .setup .epsilon) (a .s .now) .station = omega (arith, c .before .station-of .ensures (a .setup .epsilon)) in
-    sym (form-right (setupOf (a .setup)) (a .s .now) (form (c .before .before)) ∙ station-no (setupOf (a .setup)) _ _ h)
+    let h : a .setup .n ≤ decode (a .setup .epsilon) (a .frame .now) .station = omega (arith, c .before .station-of .ensures (a .setup .epsilon)) in
+    sym (form-right (setupOf (a .setup)) (a .frame .now) (form (c .before .before)) ∙ station-no (setupOf (a .setup)) _ _ h)
 
 r-of-requires : tie.Need-r-of-requires
 r-of-requires c κs = search needs
@@ -76,8 +76,8 @@ r-of-requires c κs = search needs
 returns-3 : tie.Need-returns-3
 returns-3 c =
     let a = c .before .before .before .before .before .before .before .before .before .before .args in
-    let h : a .setup .modulus ≤ decode (a .setup .epsilon) (a .s .now) .stamp .r = omega (arith, c .before .r-of .ensures (a .setup .epsilon)) in
-    sym (form-right (setupOf (a .setup)) (a .s .now) (form (c .before .before .before .before)) ∙ r-no (setupOf (a .setup)) _ _ (station (c .before .before)) h)
+    let h : a .setup .modulus ≤ decode (a .setup .epsilon) (a .frame .now) .stamp .r = omega (arith, c .before .r-of .ensures (a .setup .epsilon)) in
+    sym (form-right (setupOf (a .setup)) (a .frame .now) (form (c .before .before .before .before)) ∙ r-no (setupOf (a .setup)) _ _ (station (c .before .before)) h)
 
 c-of-requires : tie.Need-c-of-requires
 c-of-requires c κs = search needs
@@ -98,24 +98,24 @@ part-sound-counts-end : tie.Need-part-sound-counts-end
 unfolding width
 part-sound-counts-end c =
     let a = c .before .before .before .before .before .before .before .before .before .before .before .args in
-    let f : Formed (a .setup .epsilon) (a .s .now) = formed-from (a .setup .epsilon) (a .s .now) (form (c .before .before .before .before .before)) in
+    let f : Formed (a .setup .epsilon) (a .frame .now) = formed-from (a .setup .epsilon) (a .frame .now) (form (c .before .before .before .before .before)) in
     omega arith
 
 sound-counts-requires : tie.Need-sound-counts-requires
 sound-counts-requires c κs =
     let start = c .before .before .before .before .before .before .before .before .before .before .before .before in
-    (limits start .n-most, (limits start .epsilon-pos, (limits start .epsilon-most, counts-long (start .args .setup .epsilon) (start .args .s .now) (form (c .before .before .before .before .before .before)))))
+    (limits start .n-most, (limits start .epsilon-pos, (limits start .epsilon-most, counts-long (start .args .setup .epsilon) (start .args .frame .now) (form (c .before .before .before .before .before .before)))))
 
 returns-4 : tie.Need-returns-4
 returns-4 c =
     let a = c .before .before .before .before .before .before .before .before .before .before .before .before .before .before .args in
-    sym (asked (c .before .before .before .before) ∙ stamp-no (setupOf (a .setup)) (decode (a .setup .epsilon) (a .s .now)) [] (sound (c .before) ∙ not-true (c .before .sound-counts .result) (c .if4 .taken)))
+    sym (asked (c .before .before .before .before) ∙ stamp-no (setupOf (a .setup)) (decode (a .setup .epsilon) (a .frame .now)) [] (sound (c .before) ∙ not-true (c .before .sound-counts .result) (c .if4 .taken)))
 
 returns-5 : tie.Need-returns-5
 unfolding firstNo
 returns-5 c =
     let a = c .before .before .before .before .before .before .before .before .before .before .before .before .before .before .args in
-    sym (asked (c .before .before .before .before) ∙ stamp-sound (setupOf (a .setup)) (decode (a .setup .epsilon) (a .s .now)) [] (sound (c .before) ∙ not-false (c .before .sound-counts .result) (c .if4 .left)))
+    sym (asked (c .before .before .before .before) ∙ stamp-sound (setupOf (a .setup)) (decode (a .setup .epsilon) (a .frame .now)) [] (sound (c .before) ∙ not-false (c .before .sound-counts .result) (c .if4 .left)))
 
 pub check-spec : {M : Type 1} → statement M
 check-spec =

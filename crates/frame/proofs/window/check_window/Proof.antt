@@ -10,7 +10,7 @@ use Rattle.lemmas.proofs.Questions.{limits-from}
 use Rattle.setup.specs.Views.{setupOf}
 use Rattle.model.specs.Frame.{wellFormed, frameEnd}
 use Rattle.frame.proofs.Asking.{form-no}
-use Rattle.frame.proofs.Windows.{ranged, range-no, window-no, window-right, limits-long, window-long}
+use Rattle.frame.proofs.Windows.{ranged, range-no, window-no, window-right, ceilings-long, window-long}
 use Rattle.frame.proofs.window.check_window.Statement.{statement}
 use Rattle.frame.proofs.window.check_window.Tie as tie
 
@@ -68,7 +68,7 @@ part-sound-window-end c = search needs
 sound-window-requires : tie.Need-sound-window-requires
 sound-window-requires c κs =
     let start = c .before .before .before .before .before .before .before .before .before .before .before in
-    (limits start .epsilon-pos, (limits start .epsilon-most, (window-long (start .args .w .now) (omega arith), limits-long (start .args .setup .n) (start .args .setup .epsilon) (start .args .limits .now) (start .pre .0 .1))))
+    (limits start .epsilon-pos, (limits start .epsilon-most, (window-long (start .args .w .now) (omega arith), ceilings-long (start .args .setup .n) (start .args .setup .epsilon) (start .args .ceilings .now) (start .pre .0 .1))))
 
 returns-3 : tie.Need-returns-3
 returns-3 c =

@@ -20,32 +20,32 @@ cast-epsilon c = search needs
 rank-of-requires : tie.Need-rank-of-requires
 rank-of-requires c κs =
     let start = c .before .before .before in
-    (start .pre .0, passing (setupOf (start .args .s)) (start .args .f .now) (start .pre .1 .0) .r-below)
+    (start .pre .0, passing (setupOf (start .args .setup)) (start .args .f .now) (start .pre .1 .0) .r-below)
 
 counts-part-requires : tie.Need-counts-part-requires
 counts-part-requires c κs =
     let start = c .before .before .before .before in
-    let setup = setupOf (start .args .s) in
-    (limits-from setup (start .pre .0 .0) .epsilon-most, counts-end (start .args .s .epsilon) (start .args .f .now) (passing setup (start .args .f .now) (start .pre .1 .0) .well))
+    let setup = setupOf (start .args .setup) in
+    (limits-from setup (start .pre .0 .0) .epsilon-most, counts-end (start .args .setup .epsilon) (start .args .f .now) (passing setup (start .args .f .now) (start .pre .1 .0) .well))
 
 counts-part-requires-2 : tie.Need-counts-part-requires-2
 counts-part-requires-2 c κs =
     let start = c .before .before .before .before .before in
-    let epsilon = start .args .s .epsilon in
-    let limits = limits-from (setupOf (start .args .s)) (start .pre .0 .0) in
+    let epsilon = start .args .setup .epsilon in
+    let limits = limits-from (setupOf (start .args .setup)) (start .pre .0 .0) in
     (limits .epsilon-most, counts-inside epsilon (start .args .sg .now) (limits .epsilon-pos) (start .pre .1 .1 .long))
 
 comes-before-requires : tie.Need-comes-before-requires
 comes-before-requires c κs =
     let start = c .before .before .before .before .before .before in
-    let setup = setupOf (start .args .s) in
+    let setup = setupOf (start .args .setup) in
     let rank = c .before .before .rank-of in
-    (ranked setup (start .args .v) (start .args .f .now) _ (rank .result) (limits-from setup (start .pre .0 .0)) (start .pre .1 .0) (counts-decoded (start .args .s .epsilon) (start .args .f .now) (c .before .counts-part .ensures)) (rank .ensures), rw (c .counts-part2 .ensures) (start .pre .1 .1))
+    (ranked setup (start .args .clock) (start .args .f .now) _ (rank .result) (limits-from setup (start .pre .0 .0)) (start .pre .1 .0) (counts-decoded (start .args .setup .epsilon) (start .args .f .now) (c .before .counts-part .ensures)) (rank .ensures), rw (c .counts-part2 .ensures) (start .pre .1 .1))
 
 returns : tie.Need-returns
 returns c =
     let start = c .before .before .before .before .before .before .before in
-    let epsilon = start .args .s .epsilon in
+    let epsilon = start .args .setup .epsilon in
     let rank = c .before .before .before .rank-of in
     c .comes-before .ensures
     ∙ (ap₂ (λ (k l : List ℕ). rankBefore epsilon (rank .result) k (start .args .g) l) (counts-decoded epsilon (start .args .f .now) (c .before .before .counts-part .ensures)) (c .before .counts-part2 .ensures)

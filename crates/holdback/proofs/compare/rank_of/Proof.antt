@@ -15,7 +15,7 @@ rank-at-requires c κs = search needs
 returns : tie.Need-returns
 returns c =
     let start = c .before .before .before in
-    rank-read (setupOf (start .args .s)) (start .args .v) (decode (start .args .s .epsilon) (start .args .frame .now)) (c .before .reading-of .result) (c .rank-at .ensures (start .args .s .epsilon)) (c .before .reading-of .ensures)
+    rank-read (setupOf (start .args .setup)) (start .args .clock) (decode (start .args .setup .epsilon) (start .args .frame .now)) (c .before .reading-of .result) (c .rank-at .ensures (start .args .setup .epsilon)) (c .before .reading-of .ensures)
 
 pub rank-of-spec : {M : Type 1} → statement M
 rank-of-spec = tie.close (tie.spec reading-of-requires rank-at-requires returns)

@@ -26,7 +26,7 @@ cast-epsilon c = search needs
 front-below-requires : tie.Need-front-below-requires
 front-below-requires c κs =
     let start = c .before .before .before .before .before in
-    let s = setupOf (start .args .s) in
+    let s = setupOf (start .args .setup) in
     let limits = limits-from s (start .pre .0 .0) in
     ((start .pre .0 .0, omega (arith, limits .epsilon-pos)), (record { least = s .modulus; recent = omega (arith, limits .epsilon-pos); sound = start .pre .1 .0 .0 }, start .pre .1 .1 .0))
 
@@ -36,7 +36,7 @@ module _ (c : tie.After-front-below) where
   start = c .before .before .before .before .before .before
 
   abbrev s : Setup
-  s = setupOf (start .args .s)
+  s = setupOf (start .args .setup)
 
   abbrev b : List ℕ
   b = start .args .buf .now
@@ -44,13 +44,13 @@ module _ (c : tie.After-front-below) where
   limits : Limits s
   limits = limits-from s (start .pre .0 .0)
 
-  stands : Stands (s .epsilon) b (leading (dueWithin s (start .args .v) 0) (held (s .epsilon) b)) (c .front-below .result .index) (c .front-below .result .at)
+  stands : Stands (s .epsilon) b (leading (dueWithin s (start .args .clock) 0) (held (s .epsilon) b)) (c .front-below .result .index) (c .front-below .result .at)
   stands =
-      record { frames = c .front-below .ensures .frames ∙ below-within s (start .args .v) b 0; starts = c .front-below .ensures .starts }
+      record { frames = c .front-below .ensures .frames ∙ below-within s (start .args .clock) b 0; starts = c .front-below .ensures .starts }
 
   spans : Spans (s .epsilon) b (start .args .count) (start .args .end) (c .front-below .result .index) (c .front-below .result .at)
   spans =
-      sound-spans s (start .args .v) (s .modulus) b (start .pre .1 .0 .0) (dueWithin s (start .args .v) 0) (start .args .count) (start .args .end) (c .front-below .result .index) (c .front-below .result .at)
+      sound-spans s (start .args .clock) (s .modulus) b (start .pre .1 .0 .0) (dueWithin s (start .args .clock) 0) (start .args .count) (start .args .end) (c .front-below .result .index) (c .front-below .result .at)
       (start .pre .1 .0 .1 .0) (start .pre .1 .0 .1 .1) (start .pre .1 .1 .1 .0 .0) stands
 
 append-prefix-requires : tie.Need-append-prefix-requires
@@ -61,7 +61,7 @@ append-prefix-requires c κs =
       spans at,
       (
         first .pre .1 .1 .1 .1 .0,
-        due-room (s at) (first .args .v) (first .args .buf .now) (first .pre .1 .0 .0) (found .result .index) (found .result .at) (stands at) (limits at) (first .pre .0 .1)
+        due-room (s at) (first .args .clock) (first .args .buf .now) (first .pre .1 .0 .0) (found .result .index) (found .result .at) (stands at) (limits at) (first .pre .0 .1)
             (first .pre .1 .1 .1 .1 .0) (first .pre .1 .1 .1 .1 .1) (first .pre .1 .1 .1 .0 .1),
       ),
     )
@@ -70,7 +70,7 @@ cut-prefix-requires : tie.Need-cut-prefix-requires
 cut-prefix-requires c κs =
     let at = c .before .before .before .before .before .before in
     let first = start at in
-    (spans at, omega (arith, count-small (s at) (first .args .v) (s at .modulus) (first .args .buf .now) (first .pre .1 .0 .0) (first .args .count) (limits at) (first .pre .1 .0 .1 .1)))
+    (spans at, omega (arith, count-small (s at) (first .args .clock) (s at .modulus) (first .args .buf .now) (first .pre .1 .0 .0) (first .args .count) (limits at) (first .pre .1 .0 .1 .1)))
 
 same-length : tie.Need-same-length
 same-length c = search needs
@@ -87,12 +87,12 @@ returns c =
     let sound = first .pre .1 .0 .0 in
     let kept = c .before .before .cut-prefix .ensures in
     let given = c .before .before .before .before .before .before .append-prefix .ensures in (
-      due-number (s at) (first .args .v) (b at) sound (found .result .index) (found .result .at) (stands at),
+      due-number (s at) (first .args .clock) (b at) sound (found .result .index) (found .result .at) (stands at),
       (
-        kept ∙ ap (encodeHoldback (length (b at))) (due-left (s at) (first .args .v) (b at) sound (found .result .index) (found .result .at) (stands at)),
+        kept ∙ ap (encodeHoldback (length (b at))) (due-left (s at) (first .args .clock) (b at) sound (found .result .index) (found .result .at) (stands at)),
         given
             ∙ ap (λ (q : List Frame). overlay (encodeFrames (held (s at .epsilon) d ++ q)) d)
-            (due-taken (s at) (first .args .v) (b at) sound (found .result .index) (found .result .at) (stands at)),
+            (due-taken (s at) (first .args .clock) (b at) sound (found .result .index) (found .result .at) (stands at)),
       ),
     )
 

@@ -10,7 +10,7 @@ use Rattle.holdback.proofs.due.front_below.Tie as tie
 
 module _ (c : tie.Start) where
   abbrev s : Setup
-  s = setupOf (c .args .s)
+  s = setupOf (c .args .setup)
 
   limits : Limits s
   limits = limits-from s (c .pre .0 .0)
@@ -21,7 +21,7 @@ mul-start c = omega (arith, c .pre .0 .1, used-most (s c) (limits c))
 shared-slice-read-start : tie.Need-shared-slice-read-start
 shared-slice-read-start c =
     let start = c .before in
-    omega (arith, start .pre .0 .1, used-most (s start) (limits start), starts-long (s start) (start .args .v) (start .args .buf .now) (start .pre .1 .1))
+    omega (arith, start .pre .0 .1, used-most (s start) (limits start), starts-long (s start) (start .args .clock) (start .args .buf .now) (start .pre .1 .1))
 
 cast-start : tie.Need-cast-start
 cast-start c = omega (arith, c .shared-slice-known .given (c .before .args .k))
@@ -29,8 +29,8 @@ cast-start c = omega (arith, c .shared-slice-known .given (c .before .args .k))
 returns : tie.Need-returns
 returns c =
     let start = c .before in
-    start-stands (s start) (start .args .v) (start .pre .1 .0 .least) (start .args .buf .now) (limits start) (start .pre .1 .0 .sound) (start .args .k) _
-    (starts-at (s start) (start .args .v) (start .args .buf .now) (limits start) (start .pre .1 .1) (start .args .k) (start .pre .0 .1))
+    start-stands (s start) (start .args .clock) (start .pre .1 .0 .least) (start .args .buf .now) (limits start) (start .pre .1 .0 .sound) (start .args .k) _
+    (starts-at (s start) (start .args .clock) (start .args .buf .now) (limits start) (start .pre .1 .1) (start .args .k) (start .pre .0 .1))
 
 pub front-below-spec : {M : Type 1} → statement M
 front-below-spec = tie.close (tie.spec mul-start shared-slice-read-start cast-start returns)

@@ -14,13 +14,13 @@ cast-epsilon c = search needs
 newest-counts-requires : tie.Need-newest-counts-requires
 newest-counts-requires c κs =
     let start = c .before .before in
-    let limits = limits-from (setupOf (start .args .s)) (start .pre .0 .0) in
+    let limits = limits-from (setupOf (start .args .setup)) (start .pre .0 .0) in
     ((limits .epsilon-most, start .pre .1 .1), (start .pre .1 .0, limits .epsilon-pos))
 
 older-counts-requires : tie.Need-older-counts-requires
 older-counts-requires c κs =
     let start = c .before .before .before in
-    ((limits-from (setupOf (start .args .s)) (start .pre .0 .0) .epsilon-most, start .pre .1 .1), start .pre .1 .0)
+    ((limits-from (setupOf (start .args .setup)) (start .pre .0 .0) .epsilon-most, start .pre .1 .1), start .pre .1 .0)
 
 add-t7 : tie.Need-add-t7
 add-t7 c = search needs
@@ -31,7 +31,7 @@ slot-requires c κs = search needs
 returns : tie.Need-returns
 returns c =
     let start = c .before .before .before .before .before .before in
-    key-made (setupOf (start .args .s)) (start .args .rank) (countsOf (start .args .s .epsilon) (start .args .w .now)) (c .before .before .before .newest-counts .ensures) (c .before .before .older-counts .ensures) (c .slot .ensures .0)
+    key-made (setupOf (start .args .setup)) (start .args .rank) (countsOf (start .args .setup .epsilon) (start .args .w .now)) (c .before .before .before .newest-counts .ensures) (c .before .before .older-counts .ensures) (c .slot .ensures .0)
 
 pub key-of-spec : {M : Type 1} → statement M
 key-of-spec =

@@ -15,24 +15,24 @@ rank-at-requires : tie.Need-rank-at-requires
 rank-at-requires c κs = search needs
 
 -- the rank with the reading that is handed on
-ranked : (c : tie.After-rank-at) → c .rank-at .result ≡ rankOf (setupOf (c .before .before .before .args .s)) (c .before .before .before .args .v) (decode (c .before .before .before .args .s .epsilon) (c .before .before .before .args .frame .now))
+ranked : (c : tie.After-rank-at) → c .rank-at .result ≡ rankOf (setupOf (c .before .before .before .args .setup)) (c .before .before .before .args .clock) (decode (c .before .before .before .args .setup .epsilon) (c .before .before .before .args .frame .now))
 ranked c =
     let start = c .before .before .before in
-    rank-read (setupOf (start .args .s)) (start .args .v) (decode (start .args .s .epsilon) (start .args .frame .now)) (start .args .reading) (c .rank-at .ensures (start .args .s .epsilon)) (start .pre .1 .1 .0 .1)
+    rank-read (setupOf (start .args .setup)) (start .args .clock) (decode (start .args .setup .epsilon) (start .args .frame .now)) (start .args .reading) (c .rank-at .ensures (start .args .setup .epsilon)) (start .pre .1 .1 .0 .1)
 
 -- its place is the frame's
-placed : (c : tie.After-rank-at) → rankSlot (setupOf (c .before .before .before .args .s)) (c .rank-at .result) ≡ slotOf (setupOf (c .before .before .before .args .s)) (c .before .before .before .args .v) (decode (c .before .before .before .args .s .epsilon) (c .before .before .before .args .frame .now))
+placed : (c : tie.After-rank-at) → rankSlot (setupOf (c .before .before .before .args .setup)) (c .rank-at .result) ≡ slotOf (setupOf (c .before .before .before .args .setup)) (c .before .before .before .args .clock) (decode (c .before .before .before .args .setup .epsilon) (c .before .before .before .args .frame .now))
 placed c =
     let start = c .before .before .before in
-    rank-slot (setupOf (start .args .s)) (start .args .v) (decode (start .args .s .epsilon) (start .args .frame .now)) (c .rank-at .result) (ranked c)
+    rank-slot (setupOf (start .args .setup)) (start .args .clock) (decode (start .args .setup .epsilon) (start .args .frame .now)) (c .rank-at .result) (ranked c)
 
 set-mark-requires : tie.Need-set-mark-requires
 unfolding isMarked
 set-mark-requires c κs =
     let start = c .before .before .before .before in
-    let setup = setupOf (start .args .s) in
+    let setup = setupOf (start .args .setup) in
     let read = c .before .rank-at in (
-      (start .pre .0 .0, within setup (start .args .v) (limits-from setup (start .pre .0 .0)) (start .pre .0 .1) (decode (start .args .s .epsilon) (start .args .frame .now)) (read .result) (start .pre .1 .0) (ranked (c .before))),
+      (start .pre .0 .0, within setup (start .args .clock) (limits-from setup (start .pre .0 .0)) (start .pre .0 .1) (decode (start .args .setup .epsilon) (start .args .frame .now)) (read .result) (start .pre .1 .0) (ranked (c .before))),
       (start .pre .1 .1 .0 .0, ap (hasMark (start .args .seen .now)) (placed (c .before)) ∙ start .pre .1 .1 .1),
     )
 

@@ -37,7 +37,7 @@ add-result-2 c = search needs
 returns : tie.Need-returns
 returns c =
     let start = c .before .before .before .before .before in
-    (refl, rank-below (setupOf (start .args .s)) (limits-from (setupOf (start .args .s)) (start .pre .0)) (start .args .rank) (start .pre .1))
+    (refl, rank-below (setupOf (start .args .setup)) (limits-from (setupOf (start .args .setup)) (start .pre .0)) (start .args .rank) (start .pre .1))
 
 pub slot-spec : {M : Type 1} → statement M
 slot-spec =

@@ -16,7 +16,8 @@ use Rattle.holdback.specs.declared.keys.Key.{Key}
 use Rattle.holdback.specs.Queue.{bytesAt}
 use Rattle.holdback.specs.Sound.{fits, Walking}
 use Rattle.holdback.proofs.RoundTrip.{Bytes}
-use Rattle.holdback.proofs.Frames.{lent, end-small, bytes-take, bytes-drop}
+use Rattle.lemmas.proofs.FrameWalk.{lent}
+use Rattle.holdback.proofs.Frames.{end-small, bytes-take, bytes-drop}
 use Rattle.holdback.proofs.Walks.{room-there, lent-room, judged-failed, passes-there, next-inside, part-below, rank-small, judged-untimely, fit-of, own-within, slot-low, key-roomy, judged-unordered, table-long, judged-repeated, judged-sound}
 use borrow.Author.Needs.{needs}
 use Rattle.holdback.proofs.soundness.judge_at.Statement.{statement}
@@ -24,12 +25,12 @@ use Rattle.holdback.proofs.soundness.judge_at.Tie as tie
 
 module _ (c : tie.Start) where
   abbrev setup : Setup
-  setup = setupOf (c .args .s)
+  setup = setupOf (c .args .setup)
 
   abbrev buffer : List ℕ
   buffer = c .args .buf .now
 
-  abbrev walk : Walking setup (c .args .v) (c .args .least) buffer (c .args .seen .now) (c .args .i) (c .args .last) (c .args .at)
+  abbrev walk : Walking setup (c .args .clock) (c .args .least) buffer (c .args .seen .now) (c .args .i) (c .args .last) (c .args .at)
   walk = c .pre .1 .1
 
   limits : Limits setup
@@ -67,7 +68,7 @@ add-next : tie.Need-add-next
 add-next c =
     let first = c .before .before .before .before .before .before in
     let at = first .args .at in
-    let small = end-small (first .args .s .epsilon) (lent (buffer first) at) (limits first .epsilon-most) (bytes-take (length (buffer first) - at) (drop at (buffer first)) (bytes-drop at (buffer first) (λ i. omega (arith, c .before .before .before .before .shared-slice-known2 .given i)))) in
+    let small = end-small (first .args .setup .epsilon) (lent (buffer first) at) (limits first .epsilon-most) (bytes-take (length (buffer first) - at) (drop at (buffer first)) (bytes-drop at (buffer first) (λ i. omega (arith, c .before .before .before .before .shared-slice-known2 .given i)))) in
     omega (arith, room first, c .window-end .ensures)
 
 sub-check-window : tie.Need-sub-check-window
@@ -141,7 +142,7 @@ returns-2 c =
     let asked = c .before .before .timely in
     c .unsound2 .ensures ∙ judged-untimely (walk (start (known read))) (passed (known read)) (size (ended (known read))) (ends (ended (known read))) (rank read) (read .rank-of .ensures) (asked .result) (asked .ensures) (c .before .if2 .taken)
 
--- it is neither early nor overdue
+-- it is neither early nor expired
 module _ (c : tie.Else2) where
   abbrev read : tie.After-rank-of
   read = c .before .before
@@ -149,7 +150,7 @@ module _ (c : tie.Else2) where
   abbrev first : tie.Start
   first = start (known read)
 
-  fit : fits (setup first) (first .args .v) (first .args .least) (bytesAt (setup first .epsilon) (buffer first) (first .args .i)) ≡ true
+  fit : fits (setup first) (first .args .clock) (first .args .least) (bytesAt (setup first .epsilon) (buffer first) (first .args .i)) ≡ true
   fit = let asked = c .before .timely in fit-of (walk first) (passed (known read)) (size (ended (known read))) (ends (ended (known read))) (rank read) (read .rank-of .ensures) (asked .result) (asked .ensures) (c .if2 .left)
 
 sub-key-of : tie.Need-sub-key-of

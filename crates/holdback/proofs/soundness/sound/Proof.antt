@@ -27,7 +27,7 @@ cast-depth-3 c = search needs
 depth-requires : tie.Need-depth-requires
 depth-requires c κs =
     let start = c .before .before .before .before .before .before .before in
-    let limits = limits-from (setupOf (start .args .s)) (start .pre .0 .0) in
+    let limits = limits-from (setupOf (start .args .setup)) (start .pre .0 .0) in
     omega arith
 
 emptied-requires : tie.Need-emptied-requires
@@ -36,8 +36,8 @@ emptied-requires c κs = search needs
 returns : tie.Need-returns
 returns c =
     let start = c .before .before .before .before .before .before .before .before .before .before in
-    let many : depth (start .args .s .n) (start .args .s .epsilon) (start .args .s .delta) < twoAt (start .args .buf .now) 0 = omega (arith, c .before .before .before .before .before .before .two-at .ensures, c .before .before .depth .ensures, c .before .if1 .taken) in
-    walked-no (c .emptied .ensures) (too-many (setupOf (start .args .s)) (start .args .v) (start .args .least) (start .args .buf .now) many) (start .pre .1 .1 .0 ∙ seen-none (setupOf (start .args .s)) (start .args .v)) (start .pre .1 .1 .1)
+    let many : depth (start .args .setup .n) (start .args .setup .epsilon) (start .args .setup .delta) < twoAt (start .args .buf .now) 0 = omega (arith, c .before .before .before .before .before .before .two-at .ensures, c .before .before .depth .ensures, c .before .if1 .taken) in
+    walked-no (c .emptied .ensures) (too-many (setupOf (start .args .setup)) (start .args .clock) (start .args .least) (start .args .buf .now) many) (start .pre .1 .1 .0 ∙ seen-none (setupOf (start .args .setup)) (start .args .clock)) (start .pre .1 .1 .1)
 
 returns-2 : tie.Need-returns-2
 returns-2 c =
@@ -47,20 +47,20 @@ returns-2 c =
       room = start .pre .1 .0;
       count-is = left .before .before .before .before .before .two-at .ensures;
       few = omega (arith, left .before .depth .ensures, left .if1 .left);
-      empty = start .pre .1 .1 .0 ∙ seen-none (setupOf (start .args .s)) (start .args .v);
+      empty = start .pre .1 .1 .0 ∙ seen-none (setupOf (start .args .setup)) (start .args .clock);
       all-front = start .pre .1 .1 .1;
     }) (omega (arith, c .if2 .taken))
 
-cast-limits-of : tie.Need-cast-limits-of
-cast-limits-of c = search needs
+cast-ceilings-of : tie.Need-cast-ceilings-of
+cast-ceilings-of c = search needs
 
-cast-limits-of-2 : tie.Need-cast-limits-of-2
-cast-limits-of-2 c = search needs
+cast-ceilings-of-2 : tie.Need-cast-ceilings-of-2
+cast-ceilings-of-2 c = search needs
 
-limits-of-requires : tie.Need-limits-of-requires
-limits-of-requires c κs =
+ceilings-of-requires : tie.Need-ceilings-of-requires
+ceilings-of-requires c κs =
     let start = c .before .before .before .before .before .before .before .before .before .before .before .before in
-    let limits = limits-from (setupOf (start .args .s)) (start .pre .0 .0) in
+    let limits = limits-from (setupOf (start .args .setup)) (start .pre .0 .0) in
     (limits .n-most, limits .epsilon-most)
 
 slice-aggregate-walk-frames : tie.Need-slice-aggregate-walk-frames
@@ -70,14 +70,14 @@ walk-frames-requires : tie.Need-walk-frames-requires
 walk-frames-requires c κs =
     let left = c .before .before .before .before .before .before .before in
     let start = left .before .before .before .before .before .before .before .before .before in (
-      (start .pre .0 .0, (start .pre .0 .1 .0, c .before .before .before .limits-of .ensures)),
+      (start .pre .0 .0, (start .pre .0 .1 .0, c .before .before .before .ceilings-of .ensures)),
       (
         start .pre .0 .1 .1,
         record {
           room = start .pre .1 .0;
           count-is = left .before .before .before .before .before .two-at .ensures;
           few = omega (arith, left .before .depth .ensures, left .if1 .left);
-          empty = start .pre .1 .1 .0 ∙ seen-none (setupOf (start .args .s)) (start .args .v);
+          empty = start .pre .1 .1 .0 ∙ seen-none (setupOf (start .args .setup)) (start .args .clock);
           all-front = start .pre .1 .1 .1;
         },
       ),
@@ -104,9 +104,9 @@ sound-spec =
     emptied-requires
     returns
     returns-2
-    cast-limits-of
-    cast-limits-of-2
-    limits-of-requires
+    cast-ceilings-of
+    cast-ceilings-of-2
+    ceilings-of-requires
     slice-aggregate-walk-frames
     walk-frames-requires
     same-length

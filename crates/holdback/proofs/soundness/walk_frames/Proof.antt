@@ -12,7 +12,7 @@ use Rattle.model.specs.Frame.{twoAt}
 use Rattle.lemmas.proofs.Questions.{limits-from}
 use Rattle.holdback.specs.declared.soundness.Judged.{Judged}
 use Rattle.holdback.specs.Sound.{Walking}
-use Rattle.holdback.specs.Starts.{startUnit, startPlaces, front}
+use Rattle.holdback.specs.Starts.{startUnit, startEntries, front}
 use Rattle.holdback.proofs.Seen.{seen-none}
 use Rattle.holdback.proofs.Started.{used-most, all-front}
 use Rattle.holdback.proofs.Walks.{walk-starts, starting-long, table-long, Right, judged-bad, judged-good, walk-fails, walked-no, walked-yes, judged-slot, judged-new, judged-small, judged-place, walk-turns, next-low, Ending, ending-starts, ending-turns, ending-ends}
@@ -30,7 +30,7 @@ no-key-requires : tie.Need-no-key-requires Inv-loop μ-loop
 no-key-requires c κs = search needs
 
 loop-holds : tie.Need-loop-holds Inv-loop μ-loop
-loop-holds c = let start = c .before .before .before .before .before in (walk-starts (c .no-key .ensures) (start .pre .1 .1), (ending-starts (limits-from (setupOf (start .args .s)) (start .pre .0 .0)) (start .pre .1 .1 .all-front), omega arith))
+loop-holds c = let start = c .before .before .before .before .before in (walk-starts (c .no-key .ensures) (start .pre .1 .1), (ending-starts (limits-from (setupOf (start .args .setup)) (start .pre .0 .0)) (start .pre .1 .1 .all-front), omega arith))
 
 judge-at-requires : tie.Need-judge-at-requires Inv-loop μ-loop
 judge-at-requires c κs =
@@ -43,7 +43,7 @@ module _ (c : tie.At-loop Inv-loop μ-loop) where
   seen-same = table-long (c .loop .inv .0) ∙ sym (starting-long (c .before .before .before .before .before .before .pre .1 .1))
 
   starts-same : length (c .loop .starts) ≡ length (c .before .before .before .before .before .before .args .starts .now)
-  starts-same = c .loop .inv .1 .0 .long ∙ sym (ap length (c .before .before .before .before .before .before .pre .1 .1 .all-front) ∙ length-replicate startPlaces front)
+  starts-same = c .loop .inv .1 .0 .long ∙ sym (ap length (c .before .before .before .before .before .before .pre .1 .1 .all-front) ∙ length-replicate startEntries front)
 
 clear-marks-requires : tie.Need-clear-marks-requires Inv-loop μ-loop
 clear-marks-requires c κs = table-long (c .before .before .before .before .before .loop .inv .0)
@@ -68,9 +68,9 @@ returns c =
     let judged = c .before .before .before .before .before .before .before .before .before .before .judge-at in
     let l : loop .i < twoAt b 0 = omega (arith, c .before .before .before .before .before .before .before .before .before .before .before .before .loop-test .taken, start .pre .1 .1 .count-is) in
     walked-no (c .emptied .ensures)
-    (walk-fails (setupOf (start .args .s)) (start .args .v) (start .args .least) b (loop .i) l
-    (judged-bad (setupOf (start .args .s)) (start .args .v) (start .args .least) b (loop .i) (judged .result) (judged .ensures) (c .before .before .before .before .before .before .before .before .before .if1 .taken)))
-    (c .before .before .before .before .before .before .before .clear-marks .ensures ∙ seen-none (setupOf (start .args .s)) (start .args .v))
+    (walk-fails (setupOf (start .args .setup)) (start .args .clock) (start .args .least) b (loop .i) l
+    (judged-bad (setupOf (start .args .setup)) (start .args .clock) (start .args .least) b (loop .i) (judged .result) (judged .ensures) (c .before .before .before .before .before .before .before .before .before .if1 .taken)))
+    (c .before .before .before .before .before .before .before .clear-marks .ensures ∙ seen-none (setupOf (start .args .setup)) (start .args .clock))
     (all-front (loop .starts) (c .before .before .before .fill .ensures))
 
 -- a frame that is sound, and where it ends
@@ -82,16 +82,16 @@ module _ (c : tie.Else1 Inv-loop μ-loop) where
   buffer = start .args .buf .now
 
   abbrev setup : Setup
-  setup = setupOf (start .args .s)
+  setup = setupOf (start .args .setup)
 
-  abbrev walk : Walking setup (start .args .v) (start .args .least) buffer (c .before .before .before .before .loop .seen) (c .before .before .before .before .loop .i) (c .before .before .before .before .loop .last) (c .before .before .before .before .loop .at)
+  abbrev walk : Walking setup (start .args .clock) (start .args .least) buffer (c .before .before .before .before .loop .seen) (c .before .before .before .before .loop .i) (c .before .before .before .before .loop .last) (c .before .before .before .before .loop .at)
   walk = c .before .before .before .before .loop .inv .0
 
   abbrev judged : Judged
   judged = c .before .judge-at .result
 
-  right : Right setup (start .args .v) (start .args .least) buffer (c .before .before .before .before .loop .i) (judged .end) (judged .key)
-  right = judged-good setup (start .args .v) (start .args .least) buffer (c .before .before .before .before .loop .i) judged (c .before .judge-at .ensures) (c .if1 .left)
+  right : Right setup (start .args .clock) (start .args .least) buffer (c .before .before .before .before .loop .i) (judged .end) (judged .key)
+  right = judged-good setup (start .args .clock) (start .args .least) buffer (c .before .before .before .before .loop .i) judged (c .before .judge-at .ensures) (c .if1 .left)
 
 put-mark-requires : tie.Need-put-mark-requires Inv-loop μ-loop
 put-mark-requires c κs =
@@ -104,13 +104,13 @@ put-mark-requires c κs =
       ),
     )
 
-places-to-requires : tie.Need-places-to-requires Inv-loop μ-loop
-places-to-requires c κs =
+entries-to-requires : tie.Need-entries-to-requires Inv-loop μ-loop
+entries-to-requires c κs =
     let at = c .before .before .before .before .before in
     (start at .pre .0 .0, judged-small (walk at) (right at) (limits-from (setup at) (start at .pre .0 .0)))
 
 -- its sum has a place, and its entry room for where it ends
-module _ (c : tie.After-places-to Inv-loop μ-loop) where
+module _ (c : tie.After-entries-to Inv-loop μ-loop) where
   abbrev judging : tie.Else1 Inv-loop μ-loop
   judging = c .before .before .before .before .before .before
 
@@ -120,8 +120,8 @@ module _ (c : tie.After-places-to Inv-loop μ-loop) where
   few : c .before .before .before .before .before .before .before .before .before .before .loop .i < depth (setup judging .n) (setup judging .epsilon) (setup judging .delta)
   few = omega (arith, c .before .before .before .before .before .before .before .before .before .loop-test .taken, start judging .pre .1 .1 .few)
 
-  placed : c .places-to .result < startPlaces
-  placed = omega (arith, c .places-to .ensures, judged-place (walk judging) (right judging) limits, used-most (setup judging) limits)
+  placed : c .entries-to .result < startEntries
+  placed = omega (arith, c .entries-to .ensures, judged-place (walk judging) (right judging) limits, used-most (setup judging) limits)
 
   low : (c .before .before .before .before .before .before .before .before .before .before .loop .i + 1 ≤ 1792) × (judged judging .end < startUnit)
   low = next-low (walk judging) (right judging) limits (start judging .pre .0 .1 .0) (start judging .pre .1 .0) few
@@ -151,16 +151,16 @@ loop-again : tie.Need-loop-again Inv-loop μ-loop
 loop-again c =
     let at = judging c in (
       walk-turns (walk at) (right at) (limits c) (start at .pre .0 .1 .0) (start at .pre .1 .0) _ (c .before .before .before .put-mark .ensures),
-      (ending-turns (walk at) (right at) (limits c) (few c) (c .before .before .before .before .before .before .before .before .before .before .loop .inv .1 .0) (c .places-to .ensures) refl, omega (arith, c .before .before .before .before .before .before .before .before .before .loop-test .taken)),
+      (ending-turns (walk at) (right at) (limits c) (few c) (c .before .before .before .before .before .before .before .before .before .before .loop .inv .1 .0) (c .entries-to .ensures) refl, omega (arith, c .before .before .before .before .before .before .before .before .before .loop-test .taken)),
     )
 
-used-places-requires : tie.Need-used-places-requires Inv-loop μ-loop
-used-places-requires c κs = c .before .before .before .before .before .before .before .before .pre .0 .0
+used-entries-requires : tie.Need-used-entries-requires Inv-loop μ-loop
+used-entries-requires c κs = c .before .before .before .before .before .before .before .before .pre .0 .0
 
 spread-requires : tie.Need-spread-requires Inv-loop μ-loop
 spread-requires c κs =
-    let s = setupOf (c .before .before .before .before .before .before .before .before .before .args .s) in
-    (c .before .before .before .loop .inv .1 .0 .long, omega (arith, c .used-places .ensures, used-most s (limits-from s (c .before .before .before .before .before .before .before .before .before .pre .0 .0))))
+    let s = setupOf (c .before .before .before .before .before .before .before .before .before .args .setup) in
+    (c .before .before .before .loop .inv .1 .0 .long, omega (arith, c .used-entries .ensures, used-most s (limits-from s (c .before .before .before .before .before .before .before .before .before .pre .0 .0))))
 
 same-length-3 : tie.Need-same-length-3 Inv-loop μ-loop
 same-length-3 c = seen-same (c .before .before .before .before .before .before)
@@ -174,7 +174,7 @@ returns-2 c =
     let start = c .before .before .before .before .before .before .before .before .before .before .before .before in
     let left = c .before .before .before .before .before .loop-test .left in
     walked-yes (start .pre .1 .1) (loop .inv .0)
-    (ending-ends (loop .inv .1 .0) (start .pre .1 .1 .count-is) (loop .inv .1 .1) left (c .before .before .before .used-places .ensures) (c .before .before .spread .ensures))
+    (ending-ends (loop .inv .1 .0) (start .pre .1 .1 .count-is) (loop .inv .1 .1) left (c .before .before .before .used-entries .ensures) (c .before .before .spread .ensures))
     (loop .inv .1 .1) left
 
 pub walk-frames-spec : {M : Type 1} → statement M
@@ -193,7 +193,7 @@ walk-frames-spec =
     same-length-2
     returns
     put-mark-requires
-    places-to-requires
+    entries-to-requires
     add-i
     mul-starts
     add-starts
@@ -202,7 +202,7 @@ walk-frames-spec =
     slice-write-starts
     loop-less
     loop-again
-    used-places-requires
+    used-entries-requires
     spread-requires
     same-length-3
     same-length-4

@@ -3,7 +3,7 @@ use Prim.Native.Nat.{_+_, _-_, _≤_}
 use native.Mathlib.Omega.{arith}
 use mathlib.Core.Path.{_≡_, refl, sym, _∙_}
 use lib.ListN.{length}
-use Rattle.holdback.specs.Starts.{startPlaces, filled}
+use Rattle.holdback.specs.Starts.{startEntries, filled}
 use Rattle.holdback.proofs.Started.{changed-starts, changed-long, changed-turns, changed-ends}
 use Rattle.holdback.proofs.starts.fill.Statement.{statement}
 use Rattle.holdback.proofs.starts.fill.Tie as tie
@@ -18,7 +18,7 @@ loop-holds : tie.Need-loop-holds Inv-loop μ-loop
 loop-holds c = let start = c in (changed-starts (λ _. start .args .start) (start .args .from) (start .args .starts .now) (start .pre .0), (omega arith, omega arith))
 
 module _ (c : tie.At-loop Inv-loop μ-loop) where
-  long : length (c .loop .starts) ≡ startPlaces
+  long : length (c .loop .starts) ≡ startEntries
   long = changed-long (λ _. c .before .args .start) (c .before .args .from) (c .before .args .starts .now) (c .loop .k) (c .loop .inv .0)
 
 mul-starts : tie.Need-mul-starts Inv-loop μ-loop

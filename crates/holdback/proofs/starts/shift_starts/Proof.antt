@@ -3,7 +3,7 @@ use Prim.Native.Nat.{ℕ, _+_, _-_, _≤_, _<_}
 use native.Mathlib.Omega.{arith}
 use mathlib.Core.Path.{_≡_, sym, ap, _∙_}
 use lib.ListN.{length, getD}
-use Rattle.holdback.specs.Starts.{startPlaces, changed}
+use Rattle.holdback.specs.Starts.{startEntries, changed}
 use Rattle.holdback.proofs.Started.{changed-starts, changed-long, changed-next, changed-turns, changed-ends}
 use Rattle.holdback.proofs.starts.shift_starts.Statement.{statement}
 use Rattle.holdback.proofs.starts.shift_starts.Tie as tie
@@ -15,17 +15,17 @@ abbrev μ-loop : tie.MeasureT-loop
 μ-loop starts₀ from to step k₀ starts k = to - k
 
 loop-holds : tie.Need-loop-holds Inv-loop μ-loop
-loop-holds c = (changed-starts (λ m. m + c .args .step) (c .args .from) (c .args .starts .now) (c .pre .0 .long), (omega arith, omega arith))
+loop-holds c = (changed-starts (λ m. m + c .args .amount) (c .args .from) (c .args .starts .now) (c .pre .0 .long), (omega arith, omega arith))
 
 -- a place is there, and as it was
 module _ (c : tie.At-loop Inv-loop μ-loop) where
   abbrev move : ℕ → ℕ
-  move m = m + c .before .args .step
+  move m = m + c .before .args .amount
 
-  long : length (c .loop .starts) ≡ startPlaces
+  long : length (c .loop .starts) ≡ startEntries
   long = changed-long move (c .before .args .from) (c .before .args .starts .now) (c .loop .k) (c .loop .inv .0)
 
-inside : (c : tie.In-loop Inv-loop μ-loop) → c .before .loop .k < startPlaces
+inside : (c : tie.In-loop Inv-loop μ-loop) → c .before .loop .k < startEntries
 inside c = omega (arith, c .loop-test .taken, c .before .before .pre .1)
 
 next : (c : tie.In-loop Inv-loop μ-loop) → getD (c .before .loop .starts) (c .before .loop .k) 0 ≡ getD (c .before .before .args .starts .now) (c .before .loop .k) 0

@@ -5,7 +5,7 @@ use native.Mathlib.Omega.{arith}
 use borrow.Author.Needs.{needs}
 use mathlib.Core.Path.{_≡_, sym, ap, _∙_}
 use lib.ListN.{length, getD}
-use Rattle.holdback.specs.Starts.{startPlaces, highest, spreadStarts}
+use Rattle.holdback.specs.Starts.{startEntries, highest, spreadStarts}
 use Rattle.holdback.proofs.Started.{highest-none, highest-next, spread-long, spread-past, spread-starts, spread-turns}
 use Rattle.holdback.proofs.starts.spread.Statement.{statement}
 use Rattle.holdback.proofs.starts.spread.Tie as tie
@@ -20,11 +20,11 @@ loop-holds : tie.Need-loop-holds Inv-loop μ-loop
 loop-holds c = (spread-starts (c .before .args .starts .now) (c .before .pre .0), (highest-none (c .before .args .starts .now), omega arith))
 
 module _ (c : tie.At-loop Inv-loop μ-loop) where
-  long : length (c .loop .starts) ≡ startPlaces
+  long : length (c .loop .starts) ≡ startEntries
   long = spread-long (c .before .before .args .starts .now) (c .loop .k) (c .loop .inv .0)
 
 -- a place is there, and as it was
-inside : (c : tie.In-loop Inv-loop μ-loop) → c .before .loop .k < startPlaces
+inside : (c : tie.In-loop Inv-loop μ-loop) → c .before .loop .k < startEntries
 inside c = omega (arith, c .loop-test .taken, c .before .before .before .pre .1)
 
 next : (c : tie.In-loop Inv-loop μ-loop) → getD (c .before .loop .starts) (c .before .loop .k) 0 ≡ getD (c .before .before .before .args .starts .now) (c .before .loop .k) 0

@@ -21,15 +21,15 @@ r-of-requires c κs = search needs
 near-requires : tie.Need-near-requires
 near-requires c κs =
     let start = c .before .before .before .before in
-    let limits = limits-from (setupOf (start .args .s)) (start .pre .0 .0) in
-    let r = c .r-of .ensures (start .args .s .epsilon) in
+    let limits = limits-from (setupOf (start .args .setup)) (start .pre .0 .0) in
+    let r = c .r-of .ensures (start .args .setup .epsilon) in
     omega arith
 
 returns : tie.Need-returns
 unfolding readingOf
 returns c =
     let start = c .before .before .before .before .before in
-    c .near .ensures ∙ ap (near (start .args .s .epsilon) (start .args .s .modulus) (start .args .v)) (c .before .r-of .ensures (start .args .s .epsilon))
+    c .near .ensures ∙ ap (near (start .args .setup .epsilon) (start .args .setup .modulus) (start .args .clock)) (c .before .r-of .ensures (start .args .setup .epsilon))
 
 pub reading-of-spec : {M : Type 1} → statement M
 reading-of-spec = tie.close (tie.spec cast-near cast-near-2 r-of-requires near-requires returns)

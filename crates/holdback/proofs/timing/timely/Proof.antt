@@ -1,5 +1,4 @@
 -- `holdback::timing::timely` meets its contract: one test for both ends. Assumes nothing.
-use native.Mathlib.Omega.{arith}
 use Rattle.setup.specs.Views.{setupOf}
 use Rattle.lemmas.proofs.Questions.{limits-from}
 use Rattle.holdback.proofs.Testing.{timely-by}
@@ -7,62 +6,52 @@ use borrow.Author.Needs.{needs}
 use Rattle.holdback.proofs.timing.timely.Statement.{statement}
 use Rattle.holdback.proofs.timing.timely.Tie as tie
 
-cast-delta : tie.Need-cast-delta
-cast-delta c = search needs
+cast-latest : tie.Need-cast-latest
+cast-latest c = search needs
 
-cast-epsilon : tie.Need-cast-epsilon
-cast-epsilon c = search needs
+cast-latest-2 : tie.Need-cast-latest-2
+cast-latest-2 c = search needs
 
-add-due : tie.Need-add-due
-add-due c = search needs
+sub-latest : tie.Need-sub-latest
+sub-latest c = search needs
 
-add-due-2 : tie.Need-add-due-2
-add-due-2 c = search needs
+add-latest : tie.Need-add-latest
+add-latest c = search needs
 
-add-due-3 : tie.Need-add-due-3
-add-due-3 c = search needs
+add-sum-due : tie.Need-add-sum-due
+add-sum-due c = search needs
 
-cast-span : tie.Need-cast-span
-cast-span c = search needs
+sum-due-requires : tie.Need-sum-due-requires
+sum-due-requires c κs = search needs
 
-add-span : tie.Need-add-span
-add-span c = search needs
-
-mul-span : tie.Need-mul-span
-mul-span c = search needs
-
-add-span-2 : tie.Need-add-span-2
-add-span-2 c = search needs
+sum-due-requires-2 : tie.Need-sum-due-requires-2
+sum-due-requires-2 c κs = search needs
 
 sub-span : tie.Need-sub-span
 sub-span c = search needs
-
-sub-span-2 : tie.Need-sub-span-2
-sub-span-2 c = search needs
 
 wrapping-sub-u64-requires : tie.Need-wrapping-sub-u64-requires
 wrapping-sub-u64-requires c κs = search needs
 
 returns : tie.Need-returns
 returns c =
-    let start = c .before .before .before .before .before in
-    let s = setupOf (start .args .s) in
-    timely-by s (start .args .least) (start .args .rank) (limits-from s (start .pre .0 .0)) (start .pre .0 .1) (start .pre .1) (c .wrapping-sub-u64 .result) (search needs) (c .wrapping-sub-u64 .ensures)
+    let start = c .before .before .before .before .before .before in
+    let s = setupOf (start .args .setup) in
+    let own = c .before .before .sum-due in
+    let last = c .before .sum-due2 in
+    timely-by s (start .args .least) (start .args .rank) (limits-from s (start .pre .0 .0)) (start .pre .0 .1) (start .pre .1) (c .wrapping-sub-u64 .result) (own .result) (last .result) (search needs) (own .ensures) (last .ensures) (c .wrapping-sub-u64 .ensures)
 
 pub timely-spec : {M : Type 1} → statement M
 timely-spec =
     tie.close
     (tie.spec
-    cast-delta
-    cast-epsilon
-    add-due
-    add-due-2
-    add-due-3
-    cast-span
-    add-span
-    mul-span
-    add-span-2
+    cast-latest
+    cast-latest-2
+    sub-latest
+    add-latest
+    add-sum-due
+    sum-due-requires
+    sum-due-requires-2
     sub-span
-    sub-span-2
     wrapping-sub-u64-requires
     returns)

@@ -21,7 +21,7 @@ module _ (c : tie.After-r-of) where
   abbrev begin : tie.Start
   begin = c .before .before .before
 
-  clock : c .r-of .result ≡ longDecode (begin .args .setup .epsilon) (begin .args .s .now) .stamp .r
+  clock : c .r-of .result ≡ longDecode (begin .args .setup .epsilon) (begin .args .frame .now) .stamp .r
   clock = c .r-of .ensures (begin .args .setup .epsilon)
 
 absorb-counts-requires : tie.Need-absorb-counts-requires

@@ -11,10 +11,10 @@ use Rattle.model.specs.Long.{longHeld, longQuestions}
 use Rattle.lemmas.proofs.Bounds.{LongLimits}
 use Rattle.lemmas.proofs.Questions.{long-limits-from}
 use Rattle.lemmas.proofs.LongFrames.{long-passes-formed}
-use Rattle.longqueue.proofs.Standing.{stand-weaker}
+use Rattle.lemmas.proofs.FrameWalk.{stand-weaker}
 use Rattle.longqueue.proofs.Extents.{extent-stands}
 use Rattle.batch.specs.Walk.{countOf, entryAt, nextAt}
-use Rattle.batch.specs.declared.Step.{Step}
+use Rattle.batch.specs.declared.EntrySpan.{EntrySpan}
 use Rattle.batch.proofs.Walk.{step-ordered, step-within, step-next, step-entry}
 use Rattle.setup.specs.Views.{setupOf}
 use Rattle.timestamp.specs.Views.{stampOf}
@@ -60,34 +60,34 @@ more c = omega (arith, c .before .before .count-of .ensures)
 inside : (c : tie.In-loop Inv-loop μ-loop) → c .before .loop .i < length (c .before .loop .verdicts)
 inside c = omega (arith, few (c .before .before), more c, c .before .loop .inv .0 .heard .long)
 
-walk-step-requires : tie.Need-walk-step-requires Inv-loop μ-loop
-walk-step-requires c κs = search needs
+walk-entry-requires : tie.Need-walk-entry-requires Inv-loop μ-loop
+walk-entry-requires c κs = search needs
 
 -- the step is of the entry at the loop's position, and ends where the next one stands
-module _ (c : tie.After-walk-step Inv-loop μ-loop) where
+module _ (c : tie.After-walk-entry Inv-loop μ-loop) where
   abbrev batch : List ℕ
   batch = c .before .before .before .before .before .before .before .args .batch .now
 
   abbrev place : ℕ
   place = c .before .before .loop .at
 
-  abbrev step : Step
-  step = c .walk-step .result
+  abbrev step : EntrySpan
+  step = c .walk-entry .result
 
   ordered : step .start ≤ step .end
-  ordered = step-ordered batch place step (c .walk-step .ensures)
+  ordered = step-ordered batch place step (c .walk-entry .ensures)
 
   within : step .end ≤ length batch
-  within = step-within batch place step (c .walk-step .ensures)
+  within = step-within batch place step (c .walk-entry .ensures)
 
   next : step .end ≡ nextAt batch place
-  next = step-next batch place step (c .walk-step .ensures)
+  next = step-next batch place step (c .walk-entry .ensures)
 
   abbrev bytes : List ℕ
   bytes = take (step .end - step .start) (drop (step .start) batch)
 
   entry : bytes ≡ entryAt batch place
-  entry = step-entry batch place step (c .walk-step .ensures)
+  entry = step-entry batch place step (c .walk-entry .ensures)
 
 sub-s : tie.Need-sub-s Inv-loop μ-loop
 sub-s c = omega (arith, ordered c)
@@ -191,7 +191,7 @@ hear-spec =
     μ-loop
     count-of-requires
     loop-holds
-    walk-step-requires
+    walk-entry-requires
     sub-s
     part-s-start
     part-s-end

@@ -21,7 +21,7 @@ abbrev queue : tie.Start → List Frame
 queue c = longHeld (c .args .setup .epsilon) (c .args .holdback .now)
 
 abbrev frame : tie.Start → Frame
-frame c = longDecode (c .args .setup .epsilon) (c .args .s .now)
+frame c = longDecode (c .args .setup .epsilon) (c .args .frame .now)
 
 check-requires : tie.Need-check-requires
 check-requires c κs = c .before .before .pre .0 .limits
@@ -29,12 +29,12 @@ check-requires c κs = c .before .before .pre .0 .limits
 returns : tie.Need-returns
 returns c =
     let start = c .before .before .before .before in
-    form-no (setupOf (start .args .setup)) (start .args .clock) (queue start) (start .args .s .now) (c .before .check .result) (c .before .check .ensures) (c .if1 .taken)
+    form-no (setupOf (start .args .setup)) (start .args .clock) (queue start) (start .args .frame .now) (c .before .check .result) (c .before .check .ensures) (c .if1 .taken)
 
-passed : (c : tie.Else1) → firstNo (longFrameQuestions (setupOf (c .before .before .before .before .args .setup)) (c .before .before .before .before .args .s .now)) ≡ 0
+passed : (c : tie.Else1) → firstNo (longFrameQuestions (setupOf (c .before .before .before .before .args .setup)) (c .before .before .before .before .args .frame .now)) ≡ 0
 passed c = sym (c .before .check .ensures) ∙ c .if1 .left
 
-readable : (c : tie.Else1) → Readable (setupOf (c .before .before .before .before .args .setup)) (c .before .before .before .before .args .clock) (c .before .before .before .before .args .s .now)
+readable : (c : tie.Else1) → Readable (setupOf (c .before .before .before .before .args .setup)) (c .before .before .before .before .args .clock) (c .before .before .before .before .args .frame .now)
 readable c = record { timed = c .before .before .before .before .pre .0; passed = passed c }
 
 six-on-requires : tie.Need-six-on-requires
@@ -53,7 +53,7 @@ check-time-requires c κs =
     rw (c .before .six-on .ensures) (askable (c .r-of .result) (readable (c .before .before)) (clock c))
 
 -- 13 to 15
-times : (c : tie.After-check-time) → c .check-time .result ≡ firstNo (timeQuestionsAt false (setupOf (c .before .before .before .before .before .before .before .args .setup)) (c .before .before .before .before .before .before .before .args .clock) (frame (c .before .before .before .before .before .before .before) .stamp .r) (decode (c .before .before .before .before .before .before .before .args .setup .epsilon) (sixOn (c .before .before .before .before .before .before .before .args .s .now))))
+times : (c : tie.After-check-time) → c .check-time .result ≡ firstNo (timeQuestionsAt false (setupOf (c .before .before .before .before .before .before .before .args .setup)) (c .before .before .before .before .before .before .before .args .clock) (frame (c .before .before .before .before .before .before .before) .stamp .r) (decode (c .before .before .before .before .before .before .before .args .setup .epsilon) (sixOn (c .before .before .before .before .before .before .before .args .frame .now))))
 times c =
     let start = c .before .before .before .before .before .before .before in
     c .check-time .ensures
@@ -62,9 +62,9 @@ times c =
 returns-2 : tie.Need-returns-2
 returns-2 c =
     let start = c .before .before .before .before .before .before .before .before in
-    time-no (setupOf (start .args .setup)) (start .args .clock) (queue start) (start .args .s .now) (passed (c .before .before .before .before)) (c .before .check-time .result) (times (c .before)) (c .if2 .taken)
+    time-no (setupOf (start .args .setup)) (start .args .clock) (queue start) (start .args .frame .now) (passed (c .before .before .before .before)) (c .before .check-time .result) (times (c .before)) (c .if2 .taken)
 
-timely : (c : tie.Else2) → firstNo (timeQuestionsAt false (setupOf (c .before .before .before .before .before .before .before .before .args .setup)) (c .before .before .before .before .before .before .before .before .args .clock) (frame (c .before .before .before .before .before .before .before .before) .stamp .r) (decode (c .before .before .before .before .before .before .before .before .args .setup .epsilon) (sixOn (c .before .before .before .before .before .before .before .before .args .s .now)))) ≡ 0
+timely : (c : tie.Else2) → firstNo (timeQuestionsAt false (setupOf (c .before .before .before .before .before .before .before .before .args .setup)) (c .before .before .before .before .before .before .before .before .args .clock) (frame (c .before .before .before .before .before .before .before .before) .stamp .r) (decode (c .before .before .before .before .before .before .before .before .args .setup .epsilon) (sixOn (c .before .before .before .before .before .before .before .before .args .frame .now)))) ≡ 0
 timely c = sym (times (c .before)) ∙ c .if2 .left
 
 cast-repeats : tie.Need-cast-repeats
@@ -78,7 +78,7 @@ repeats-requires c κs =
 returns-3 : tie.Need-returns-3
 returns-3 c =
     let start = c .before .before .before .before .before .before .before .before .before .before .before in
-    repeat-no (setupOf (start .args .setup)) (start .args .clock) (queue start) (start .args .s .now) (passed (c .before .before .before .before .before .before .before)) (timely (c .before .before .before)) (sym (c .before .repeats .ensures) ∙ c .if3 .taken)
+    repeat-no (setupOf (start .args .setup)) (start .args .clock) (queue start) (start .args .frame .now) (passed (c .before .before .before .before .before .before .before)) (timely (c .before .before .before)) (sym (c .before .repeats .ensures) ∙ c .if3 .taken)
 
 -- the queue has so many frames
 count : (c : tie.Start) → c .args .count ≡ length (queue c)
@@ -87,12 +87,12 @@ count c = c .pre .1 .0 ∙ sym (held-length (c .args .setup .epsilon) (c .args .
 returns-4 : tie.Need-returns-4
 returns-4 c =
     let start = c .before .before .before .before .before .before .before .before .before .before .before .before in
-    held-no (setupOf (start .args .setup)) (start .args .clock) (queue start) (start .args .s .now) (passed (c .before .before .before .before .before .before .before .before)) (timely (c .before .before .before .before)) (sym (c .before .before .repeats .ensures) ∙ c .before .if3 .left) (omega (arith, count start))
+    held-no (setupOf (start .args .setup)) (start .args .clock) (queue start) (start .args .frame .now) (passed (c .before .before .before .before .before .before .before .before)) (timely (c .before .before .before .before)) (sym (c .before .before .repeats .ensures) ∙ c .before .if3 .left) (omega (arith, count start))
 
 returns-5 : tie.Need-returns-5
 returns-5 c =
     let start = c .before .before .before .before .before .before .before .before .before .before .before .before in
-    all-yes (setupOf (start .args .setup)) (start .args .clock) (queue start) (start .args .s .now) (passed (c .before .before .before .before .before .before .before .before)) (timely (c .before .before .before .before)) (sym (c .before .before .repeats .ensures) ∙ c .before .if3 .left) (omega (arith, count start))
+    all-yes (setupOf (start .args .setup)) (start .args .clock) (queue start) (start .args .frame .now) (passed (c .before .before .before .before .before .before .before .before)) (timely (c .before .before .before .before)) (sym (c .before .before .repeats .ensures) ∙ c .before .if3 .left) (omega (arith, count start))
 
 pub judge-spec : {M : Type 1} → statement M
 judge-spec =

@@ -12,7 +12,7 @@ use Rattle.longqueue.proofs.change.append.Tie as tie
 copy-into-requires : tie.Need-copy-into-requires
 copy-into-requires c κs =
     let start = c .before .before .before in
-    append-room (start .pre .0 .1) (long-limits-from (setupOf (start .args .s)) (start .pre .0 .0) .epsilon-pos) (start .args .frame .now) (λ i. omega (arith, c .before .shared-slice-known .given i)) (start .pre .1 .0) (start .pre .1 .1)
+    append-room (start .pre .0 .1) (long-limits-from (setupOf (start .args .setup)) (start .pre .0 .0) .epsilon-pos) (start .args .frame .now) (λ i. omega (arith, c .before .shared-slice-known .given i)) (start .pre .1 .0) (start .pre .1 .1)
 
 add-put-u16 : tie.Need-add-put-u16
 add-put-u16 c = search needs
@@ -33,7 +33,7 @@ returns c =
     let start = entry .before .before in
     let frame = start .args .frame .now in
     let clean : Bytes frame = λ i. omega (arith, entry .shared-slice-known .given i) in
-    let pos = long-limits-from (setupOf (start .args .s)) (start .pre .0 .0) .epsilon-pos in (
+    let pos = long-limits-from (setupOf (start .args .setup)) (start .pre .0 .0) .epsilon-pos in (
       append-bytes (start .pre .0 .1) pos frame clean (start .pre .1 .0) (start .pre .1 .1) _ _ (moved .copy-into .ensures) (written .put-u16 .ensures),
       (
         append-held (start .pre .0 .1) pos frame clean (start .pre .1 .0) (start .pre .1 .1) _ _ (moved .copy-into .ensures) (written .put-u16 .ensures),

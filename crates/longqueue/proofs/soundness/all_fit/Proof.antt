@@ -16,7 +16,7 @@ abbrev μ-loop : tie.MeasureT-loop
 loop-holds : tie.Need-loop-holds Inv-loop μ-loop
 loop-holds c =
     let start = c .before in
-    fitting-starts (setupOf (start .args .s)) (start .args .v) (start .args .least) (start .args .buf .now) (start .args .count) (omega (arith, start .pre .1, size-two (setupOf (start .args .s))))
+    fitting-starts (setupOf (start .args .setup)) (start .args .clock) (start .args .least) (start .args .buf .now) (start .args .count) (omega (arith, start .pre .1, size-two (setupOf (start .args .setup))))
 
 fitting-end-requires : tie.Need-fitting-end-requires Inv-loop μ-loop
 fitting-end-requires c κs = let start = c .before .before .before in (start .pre .0, (start .pre .1, c .before .loop .inv .inside))

@@ -24,19 +24,19 @@ part-frame-end-end c = search needs
 frame-end-requires : tie.Need-frame-end-requires
 frame-end-requires c κs =
     let start = c .before .before .before in
-    long-limits-from (setupOf (start .args .s)) (start .pre .0 .0) .epsilon-most
+    long-limits-from (setupOf (start .args .setup)) (start .pre .0 .0) .epsilon-most
 
 add-next : tie.Need-add-next
 add-next c =
     let start = c .before .before .before .before in
-    let s = setupOf (start .args .s) in
+    let s = setupOf (start .args .setup) in
     omega (arith, next-small s (start .args .buf .now) (start .args .at) (c .frame-end .result) (long-limits-from s (start .pre .0 .0) .epsilon-most) (λ i. omega (arith, c .before .before .before .shared-slice-known .given i)) (start .pre .1 .0) (start .pre .1 .1) (c .frame-end .ensures))
 
 returns : tie.Need-returns
 returns c =
     let start = c .before .before .before .before .before in
     let end = c .before .frame-end in
-    fitting-past (setupOf (start .args .s)) (start .args .v) (start .args .least) (start .args .buf .now) (start .args .at) (end .result) (start .pre .1 .1) (end .ensures) (c .if1 .taken)
+    fitting-past (setupOf (start .args .setup)) (start .args .clock) (start .args .least) (start .args .buf .now) (start .args .at) (end .result) (start .pre .1 .1) (end .ensures) (c .if1 .taken)
 
 sub-check : tie.Need-sub-check
 sub-check c = search needs
@@ -54,7 +54,7 @@ returns-2 : tie.Need-returns-2
 returns-2 c =
     let start = c .before .before .before .before .before .before .before .before in
     let end = c .before .before .before .before .frame-end in
-    fitting-refused (setupOf (start .args .s)) (start .args .v) (start .args .least) (start .args .buf .now) (start .args .at) (end .result) (start .pre .1 .1) (end .ensures) _ (c .before .check .ensures) (c .if2 .taken)
+    fitting-refused (setupOf (start .args .setup)) (start .args .clock) (start .args .least) (start .args .buf .now) (start .args .at) (end .result) (start .pre .1 .1) (end .ensures) _ (c .before .check .ensures) (c .if2 .taken)
 
 sub-timely : tie.Need-sub-timely
 sub-timely c = search needs
@@ -69,19 +69,19 @@ timely-requires : tie.Need-timely-requires
 timely-requires c κs =
     let start = c .before .before .before .before .before .before .before .before .before in
     let end = c .before .before .before .before .before .frame-end in
-    (start .pre .0, given-passes (setupOf (start .args .s)) (start .args .v) (start .args .least) (start .args .buf .now) (start .args .at) (end .result) (start .pre .1 .1) (end .ensures) _ (c .before .before .check .ensures) (c .before .if2 .left))
+    (start .pre .0, given-passes (setupOf (start .args .setup)) (start .args .clock) (start .args .least) (start .args .buf .now) (start .args .at) (end .result) (start .pre .1 .1) (end .ensures) _ (c .before .before .check .ensures) (c .before .if2 .left))
 
 returns-3 : tie.Need-returns-3
 returns-3 c =
     let start = c .before .before .before .before .before .before .before .before .before .before .before in
     let end = c .before .before .before .before .before .before .before .frame-end in
-    fitting-untimely (setupOf (start .args .s)) (start .args .v) (start .args .least) (start .args .buf .now) (start .args .at) (end .result) (start .pre .1 .1) (end .ensures) (sym (c .before .timely .ensures) ∙ false-of-not _ (c .if3 .taken))
+    fitting-untimely (setupOf (start .args .setup)) (start .args .clock) (start .args .least) (start .args .buf .now) (start .args .at) (end .result) (start .pre .1 .1) (end .ensures) (sym (c .before .timely .ensures) ∙ false-of-not _ (c .if3 .taken))
 
 returns-4 : tie.Need-returns-4
 returns-4 c =
     let start = c .before .before .before .before .before .before .before .before .before .before .before in
     let end = c .before .before .before .before .before .before .before .frame-end in
-    fitting-yes (setupOf (start .args .s)) (start .args .v) (start .args .least) (start .args .buf .now) (start .args .at) (end .result) (start .pre .1 .1) (end .ensures) (given-passes (setupOf (start .args .s)) (start .args .v) (start .args .least) (start .args .buf .now) (start .args .at) (end .result) (start .pre .1 .1) (end .ensures) _ (c .before .before .before .before .check .ensures) (c .before .before .before .if2 .left)) (sym (c .before .timely .ensures) ∙ true-of-not _ (c .if3 .left))
+    fitting-yes (setupOf (start .args .setup)) (start .args .clock) (start .args .least) (start .args .buf .now) (start .args .at) (end .result) (start .pre .1 .1) (end .ensures) (given-passes (setupOf (start .args .setup)) (start .args .clock) (start .args .least) (start .args .buf .now) (start .args .at) (end .result) (start .pre .1 .1) (end .ensures) _ (c .before .before .before .before .check .ensures) (c .before .before .before .if2 .left)) (sym (c .before .timely .ensures) ∙ true-of-not _ (c .if3 .left))
 
 pub fitting-end-spec : {M : Type 1} → statement M
 fitting-end-spec =

@@ -15,7 +15,7 @@ two-at-requires c κs = search needs
 returns : tie.Need-returns
 returns c =
     let start = c .before .before .before in
-    walked-many (setupOf (start .args .s)) (start .args .v) (start .args .least) (start .args .buf .now) _ (c .before .two-at .ensures) (c .if1 .taken)
+    walked-many (setupOf (start .args .setup)) (start .args .clock) (start .args .least) (start .args .buf .now) _ (c .before .two-at .ensures) (c .if1 .taken)
 
 all-fit-requires : tie.Need-all-fit-requires
 all-fit-requires c κs = search needs
@@ -23,7 +23,7 @@ all-fit-requires c κs = search needs
 returns-2 : tie.Need-returns-2
 returns-2 c =
     let start = c .before .before .before .before .before in
-    walked-unfit (setupOf (start .args .s)) (start .args .v) (start .args .least) (start .args .buf .now) _ (c .before .before .before .two-at .ensures) _ (c .before .all-fit .ensures) (c .if2 .taken)
+    walked-unfit (setupOf (start .args .setup)) (start .args .clock) (start .args .least) (start .args .buf .now) _ (c .before .before .before .two-at .ensures) _ (c .before .all-fit .ensures) (c .if2 .taken)
 
 cast-all-apart : tie.Need-cast-all-apart
 cast-all-apart c = search needs
@@ -31,19 +31,19 @@ cast-all-apart c = search needs
 all-apart-requires : tie.Need-all-apart-requires
 all-apart-requires c κs =
     let start = c .before .before .before .before .before .before in (
-      long-limits-from (setupOf (start .args .s)) (start .pre .0 .0) .epsilon-most,
-      all-stand (setupOf (start .args .s)) (start .args .v) (start .args .least) (start .args .buf .now) _ (c .before .before .before .before .two-at .ensures) _ (c .before .before .all-fit .ensures) (c .before .if2 .left) (start .pre .1),
+      long-limits-from (setupOf (start .args .setup)) (start .pre .0 .0) .epsilon-most,
+      all-stand (setupOf (start .args .setup)) (start .args .clock) (start .args .least) (start .args .buf .now) _ (c .before .before .before .before .two-at .ensures) _ (c .before .before .all-fit .ensures) (c .before .if2 .left) (start .pre .1),
     )
 
 returns-3 : tie.Need-returns-3
 returns-3 c =
     let start = c .before .before .before .before .before .before .before .before in
-    walked-twice (setupOf (start .args .s)) (start .args .v) (start .args .least) (start .args .buf .now) _ (c .before .before .before .before .before .before .two-at .ensures) (sym (c .before .all-apart .ensures) ∙ false-of-not _ (c .if3 .taken))
+    walked-twice (setupOf (start .args .setup)) (start .args .clock) (start .args .least) (start .args .buf .now) _ (c .before .before .before .before .before .before .two-at .ensures) (sym (c .before .all-apart .ensures) ∙ false-of-not _ (c .if3 .taken))
 
 returns-4 : tie.Need-returns-4
 returns-4 c =
     let start = c .before .before .before .before .before .before .before .before in
-    walked-sound (setupOf (start .args .s)) (start .args .v) (start .args .least) (start .args .buf .now) _ (c .before .before .before .before .before .before .two-at .ensures) _ (c .before .before .before .before .all-fit .ensures) (λ i. omega (arith, c .before .before .before .before .before .before .before .shared-slice-known .given i)) (start .pre .1) (omega (arith, c .before .before .before .before .before .if1 .left)) (c .before .before .before .if2 .left) (sym (c .before .all-apart .ensures) ∙ true-of-not _ (c .if3 .left))
+    walked-sound (setupOf (start .args .setup)) (start .args .clock) (start .args .least) (start .args .buf .now) _ (c .before .before .before .before .before .before .two-at .ensures) _ (c .before .before .before .before .all-fit .ensures) (λ i. omega (arith, c .before .before .before .before .before .before .before .shared-slice-known .given i)) (start .pre .1) (omega (arith, c .before .before .before .before .before .if1 .left)) (c .before .before .before .if2 .left) (sym (c .before .all-apart .ensures) ∙ true-of-not _ (c .if3 .left))
 
 pub sound-spec : {M : Type 1} → statement M
 sound-spec =

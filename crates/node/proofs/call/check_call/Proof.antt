@@ -13,7 +13,7 @@ use Rattle.lemmas.proofs.Questions.{setup-from, limits-to}
 use Rattle.setup.specs.Views.{setupOf}
 use Rattle.timestamp.specs.declared.stamp.Timestamp.{Timestamp}
 use Rattle.node.specs.Views.{callInput, bufferQuestions}
-use Rattle.node.proofs.Calls.{setup-no, shelf-no, buffers-left}
+use Rattle.node.proofs.Calls.{setup-no, holdback-no, buffers-left}
 use Rattle.node.proofs.call.check_call.Statement.{statement}
 use Rattle.node.proofs.call.check_call.Tie as tie
 
@@ -28,8 +28,8 @@ valid c = sym (c .before .valid-for .ensures) ∙ not-false (c .before .valid-fo
 limits : (c : tie.Else1) → Limits (setupOf (c .before .before .before .before .before .before .before .before .args .setup))
 limits c = setup-from (setupOf (c .before .before .before .before .before .before .before .before .args .setup)) (c .before .before .before .before .before .before .before .before .args .own) (valid c) .0
 
-shelf-yes : (c : tie.Else2) → firstNo (holdbackQuestions (setupOf (c .before .before .before .before .before .before .before .before .before .before .args .setup)) (c .before .before .before .before .before .before .before .before .before .before .args .clock) (c .before .before .before .before .before .before .before .before .before .before .args .holdback .now)) ≡ 0
-shelf-yes c = sym (c .before .check-holdback .ensures) ∙ c .if2 .left
+holdback-yes : (c : tie.Else2) → firstNo (holdbackQuestions (setupOf (c .before .before .before .before .before .before .before .before .before .before .args .setup)) (c .before .before .before .before .before .before .before .before .before .before .args .clock) (c .before .before .before .before .before .before .before .before .before .before .args .holdback .now)) ≡ 0
+holdback-yes c = sym (c .before .check-holdback .ensures) ∙ c .if2 .left
 
 valid-for-requires : tie.Need-valid-for-requires
 valid-for-requires c κs = search needs
@@ -41,7 +41,7 @@ check-holdback-requires : tie.Need-check-holdback-requires
 check-holdback-requires c κs = limits-to (setupOf (c .before .before .before .before .before .before .before .before .args .setup)) (limits c)
 
 returns-2 : tie.Need-returns-2
-returns-2 c = λ tables send. shelf-no (input (c .before .before .before .before .before .before .before .before .before .before) tables send) (valid (c .before .before)) (c .before .check-holdback .result) (c .before .check-holdback .ensures) (c .if2 .taken)
+returns-2 c = λ tables send. holdback-no (input (c .before .before .before .before .before .before .before .before .before .before) tables send) (valid (c .before .before)) (c .before .check-holdback .result) (c .before .check-holdback .ensures) (c .if2 .taken)
 
 cast-longest-frame : tie.Need-cast-longest-frame
 cast-longest-frame c = search needs
@@ -56,7 +56,7 @@ returns-3 : tie.Need-returns-3
 returns-3 c =
     let start = c .before .before .before .before .before .before .before .before .before .before .before .before .before in
     λ tables send.
-    buffers-left (input start tables send) (valid (c .before .before .before .before .before)) (c .check-buffers .result) (shelf-yes (c .before .before .before))
+    buffers-left (input start tables send) (valid (c .before .before .before .before .before)) (c .check-buffers .result) (holdback-yes (c .before .before .before))
     (c .check-buffers .ensures
     ∙ ap (λ (longest : ℕ). firstNo (bufferQuestions longest (length (start .args .holdback .now)) (start .args .batch .now) (start .args .payload .now) (start .args .outgoing .now) (start .args .verdicts .now) (start .args .delivery .now))) (c .before .longest-frame .ensures))
 

@@ -24,11 +24,11 @@ module _ (c : tie.After-counts-part) where
   abbrev begin : tie.Start
   begin = c .before .before .before .before
 
-  lead : c .before .c-of .result ≡ decode (begin .args .setup .epsilon) (begin .args .s .now) .stamp .c
+  lead : c .before .c-of .result ≡ decode (begin .args .setup .epsilon) (begin .args .frame .now) .stamp .c
   lead = c .before .c-of .ensures (begin .args .setup .epsilon)
 
   wide : length (c .counts-part .result .now) ≡ 2 * begin .args .setup .epsilon
-  wide = ap length (c .counts-part .ensures) ∙ counts-wide (begin .args .setup .epsilon) (begin .args .s .now) (begin .pre .0 .long)
+  wide = ap length (c .counts-part .ensures) ∙ counts-wide (begin .args .setup .epsilon) (begin .args .frame .now) (begin .pre .0 .long)
 
 absorb-requires : tie.Need-absorb-requires
 absorb-requires c κs =
@@ -39,7 +39,7 @@ returns : tie.Need-returns
 returns c =
     let start = begin (c .before) in
     c .absorb .ensures
-    ∙ ap widened (counts-absorbed (start .args .setup .epsilon) (start .args .at) (start .args .reading) (trimmed (start .args .setup .epsilon) (stampOf (start .args .stamp))) (start .args .s .now) (c .before .before .c-of .result) (c .before .counts-part .result .now) (lead (c .before)) (c .before .counts-part .ensures))
+    ∙ ap widened (counts-absorbed (start .args .setup .epsilon) (start .args .at) (start .args .reading) (trimmed (start .args .setup .epsilon) (stampOf (start .args .stamp))) (start .args .frame .now) (c .before .before .c-of .result) (c .before .counts-part .result .now) (lead (c .before)) (c .before .counts-part .ensures))
 
 pub absorb-counts-spec : {M : Type 1} → statement M
 absorb-counts-spec = tie.close (tie.spec cast-epsilon c-of-requires counts-part-requires absorb-requires returns)

@@ -21,7 +21,7 @@ absorb-counts-requires : tie.Need-absorb-counts-requires
 absorb-counts-requires c κs =
     let start = c .before .before .before in
     let a = start .args in
-    (askable (setupOf (a .setup)) (a .clock) (a .reading) (a .s .now) (start .pre .0 .0) (start .pre .0 .1), start .pre .1)
+    (askable (setupOf (a .setup)) (a .clock) (a .reading) (a .frame .now) (start .pre .0 .0) (start .pre .0 .1), start .pre .1)
 
 not-listening : (b : Bool) (x y : Timestamp) → b ≡ false → y ≡ cond b x y
 not-listening b x y e = rw e
@@ -31,7 +31,7 @@ returns-2 c =
     let start = c .before .before .before .before in
     let a = start .args in
     c .absorb-counts .ensures
-    ∙ ap (λ (x : ℕ). widened (absorb (a .setup .epsilon) (a .setup .modulus) (trimmed (a .setup .epsilon) (stampOf (a .stamp))) x (decode (a .setup .epsilon) (a .s .now) .stamp))) (start .pre .0 .1)
+    ∙ ap (λ (x : ℕ). widened (absorb (a .setup .epsilon) (a .setup .modulus) (trimmed (a .setup .epsilon) (stampOf (a .stamp))) x (decode (a .setup .epsilon) (a .frame .now) .stamp))) (start .pre .0 .1)
     ∙ not-listening (a .listens) (stampOf (a .stamp)) _ (c .before .before .if1 .left)
 
 pub absorb-frame-spec : {M : Type 1} → statement M

@@ -12,7 +12,7 @@ use Rattle.node.proofs.questions.check_time.Statement.{statement}
 use Rattle.node.proofs.questions.check_time.Tie as tie
 
 abbrev frame : tie.Start → Frame
-frame c = decode (c .args .setup .epsilon) (c .args .s .now)
+frame c = decode (c .args .setup .epsilon) (c .args .frame .now)
 
 cast-epsilon : tie.Need-cast-epsilon
 cast-epsilon c = search needs
@@ -88,7 +88,7 @@ counts : (c : tie.After-counts-at-most) → c .counts-at-most .result ≡ atMost
 counts c =
     let start = c .before .before .before .before .before .before .before .before .before .before in
     c .counts-at-most .ensures
-    ∙ ap (atMost (start .args .setup .n - 1)) (counts-there (start .args .setup .epsilon) (start .args .reading) (start .args .at) (start .args .s .now) (c .before .before .counts-part .result .now) (c .before .before .counts-part .ensures) (high (c .before .before .before .before)))
+    ∙ ap (atMost (start .args .setup .n - 1)) (counts-there (start .args .setup .epsilon) (start .args .reading) (start .args .at) (start .args .frame .now) (c .before .before .counts-part .result .now) (c .before .before .counts-part .ensures) (high (c .before .before .before .before)))
 
 returns-4 : tie.Need-returns-4
 returns-4 c =

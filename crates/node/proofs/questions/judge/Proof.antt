@@ -26,7 +26,7 @@ abbrev queue : tie.Start → List Frame
 queue c = held (c .args .setup .epsilon) (c .args .holdback .now)
 
 abbrev frame : tie.Start → Frame
-frame c = decode (c .args .setup .epsilon) (c .args .s .now)
+frame c = decode (c .args .setup .epsilon) (c .args .frame .now)
 
 check-requires : tie.Need-check-requires
 check-requires c κs = c .before .before .before .before .pre .0 .limits
@@ -34,18 +34,18 @@ check-requires c κs = c .before .before .before .before .pre .0 .limits
 returns : tie.Need-returns
 returns c =
     let start = c .before .before .before .before .before .before in
-    (form-no (start .args .listens) (setupOf (start .args .setup)) (start .args .clock) (queue start) (start .args .s .now) (c .before .check .result) (c .before .check .ensures) (c .if1 .taken), refused-located)
+    (form-no (start .args .listens) (setupOf (start .args .setup)) (start .args .clock) (queue start) (start .args .frame .now) (c .before .check .result) (c .before .check .ensures) (c .if1 .taken), refused-located)
 
-passed : (c : tie.Else1) → firstNo (frameQuestions (setupOf (c .before .before .before .before .before .before .args .setup)) (c .before .before .before .before .before .before .args .s .now)) ≡ 0
+passed : (c : tie.Else1) → firstNo (frameQuestions (setupOf (c .before .before .before .before .before .before .args .setup)) (c .before .before .before .before .before .before .args .frame .now)) ≡ 0
 passed c = sym (c .before .check .ensures) ∙ c .if1 .left
 
-readable : (c : tie.Else1) → Readable (setupOf (c .before .before .before .before .before .before .args .setup)) (c .before .before .before .before .before .before .args .clock) (c .before .before .before .before .before .before .args .s .now)
+readable : (c : tie.Else1) → Readable (setupOf (c .before .before .before .before .before .before .args .setup)) (c .before .before .before .before .before .before .args .clock) (c .before .before .before .before .before .before .args .frame .now)
 readable c = record { timed = c .before .before .before .before .before .before .pre .0; passed = passed c }
 
 reading-of-requires : tie.Need-reading-of-requires
 reading-of-requires c κs =
     let start = c .before .before .before .before .before .before in
-    ((start .pre .0 .limits, start .pre .0 .below), given (setupOf (start .args .setup)) (start .args .clock) (start .args .s .now) (readable c) .r-below)
+    ((start .pre .0 .limits, start .pre .0 .below), given (setupOf (start .args .setup)) (start .args .clock) (start .args .frame .now) (readable c) .r-below)
 
 cast-modulus : tie.Need-cast-modulus
 cast-modulus c = search needs
@@ -53,7 +53,7 @@ cast-modulus c = search needs
 check-time-requires : tie.Need-check-time-requires
 check-time-requires c κs =
     let start = c .before .before .before .before .before .before .before .before in
-    askable (setupOf (start .args .setup)) (start .args .clock) (c .before .reading-of .result) (start .args .s .now) (readable (c .before .before)) (c .before .reading-of .ensures)
+    askable (setupOf (start .args .setup)) (start .args .clock) (c .before .reading-of .result) (start .args .frame .now) (readable (c .before .before)) (c .before .reading-of .ensures)
 
 -- 13 to 15, with r read near v
 asked : (c : tie.After-check-time) → c .check-time .result ≡ firstNo (timeQuestions (c .before .before .before .before .before .before .before .before .before .args .listens) (setupOf (c .before .before .before .before .before .before .before .before .before .args .setup)) (c .before .before .before .before .before .before .before .before .before .args .clock) (frame (c .before .before .before .before .before .before .before .before .before)))
@@ -66,7 +66,7 @@ asked c =
 returns-2 : tie.Need-returns-2
 returns-2 c =
     let start = c .before .before .before .before .before .before .before .before .before .before in
-    (time-no (start .args .listens) (setupOf (start .args .setup)) (start .args .clock) (queue start) (start .args .s .now) (passed (c .before .before .before .before)) (c .before .check-time .result) (asked (c .before)) (c .if2 .taken), refused-located)
+    (time-no (start .args .listens) (setupOf (start .args .setup)) (start .args .clock) (queue start) (start .args .frame .now) (passed (c .before .before .before .before)) (c .before .check-time .result) (asked (c .before)) (c .if2 .taken), refused-located)
 
 timely : (c : tie.Else2) → firstNo (timeQuestions (c .before .before .before .before .before .before .before .before .before .before .args .listens) (setupOf (c .before .before .before .before .before .before .before .before .before .before .args .setup)) (c .before .before .before .before .before .before .before .before .before .before .args .clock) (frame (c .before .before .before .before .before .before .before .before .before .before))) ≡ 0
 timely c = sym (asked (c .before)) ∙ c .if2 .left
@@ -74,7 +74,7 @@ timely c = sym (asked (c .before)) ∙ c .if2 .left
 placeable : (c : tie.Else2) → Placeable (setupOf (c .before .before .before .before .before .before .before .before .before .before .args .setup)) (c .before .before .before .before .before .before .before .before .before .before .args .clock) (frame (c .before .before .before .before .before .before .before .before .before .before))
 placeable c =
     let start = c .before .before .before .before .before .before .before .before .before .before in
-    late-placeable (setupOf (start .args .setup)) (start .args .clock) (frame start) (given (setupOf (start .args .setup)) (start .args .clock) (start .args .s .now) (readable (c .before .before .before .before)) .frame)
+    late-placeable (setupOf (start .args .setup)) (start .args .clock) (frame start) (given (setupOf (start .args .setup)) (start .args .clock) (start .args .frame .now) (readable (c .before .before .before .before)) .frame)
     (time-late (start .args .listens) (setupOf (start .args .setup)) (start .args .clock) (frame start) (timely c))
 
 repeats-requires : tie.Need-repeats-requires
@@ -92,12 +92,12 @@ repeated c =
 returns-3 : tie.Need-returns-3
 returns-3 c =
     let start = c .before .before .before .before .before .before .before .before .before .before .before .before in
-    (repeat-no (start .args .listens) (setupOf (start .args .setup)) (start .args .clock) (queue start) (start .args .s .now) (passed (c .before .before .before .before .before .before)) (timely (c .before .before)) (sym (repeated (c .before)) ∙ c .if3 .taken), refused-located)
+    (repeat-no (start .args .listens) (setupOf (start .args .setup)) (start .args .clock) (queue start) (start .args .frame .now) (passed (c .before .before .before .before .before .before)) (timely (c .before .before)) (sym (repeated (c .before)) ∙ c .if3 .taken), refused-located)
 
-fit : (c : tie.Else2) → fits (setupOf (c .before .before .before .before .before .before .before .before .before .before .args .setup)) (c .before .before .before .before .before .before .before .before .before .before .args .clock) (c .before .before .before .before .before .before .before .before .before .before .args .setup .modulus) (c .before .before .before .before .before .before .before .before .before .before .args .s .now) ≡ true
+fit : (c : tie.Else2) → fits (setupOf (c .before .before .before .before .before .before .before .before .before .before .args .setup)) (c .before .before .before .before .before .before .before .before .before .before .args .clock) (c .before .before .before .before .before .before .before .before .before .before .args .setup .modulus) (c .before .before .before .before .before .before .before .before .before .before .args .frame .now) ≡ true
 fit c =
     let start = c .before .before .before .before .before .before .before .before .before .before in
-    fits-when (setupOf (start .args .setup)) (start .args .clock) (start .args .s .now) (passed (c .before .before .before .before)) (time-late (start .args .listens) (setupOf (start .args .setup)) (start .args .clock) (frame start) (timely c)) (time-early (start .args .listens) (setupOf (start .args .setup)) (start .args .clock) (frame start) (timely c))
+    fits-when (setupOf (start .args .setup)) (start .args .clock) (start .args .frame .now) (passed (c .before .before .before .before)) (time-late (start .args .listens) (setupOf (start .args .setup)) (start .args .clock) (frame start) (timely c)) (time-early (start .args .listens) (setupOf (start .args .setup)) (start .args .clock) (frame start) (timely c))
 
 place-for-requires : tie.Need-place-for-requires
 place-for-requires c κs =
@@ -113,7 +113,7 @@ returns-4 : tie.Need-returns-4
 returns-4 c =
     let start = c .before .before .before .before .before .before .before .before .before .before .before .before .before in (
       ap taken (c .place-for .ensures .frames)
-          ∙ all-yes (start .args .listens) (setupOf (start .args .setup)) (start .args .clock) (queue start) (start .args .s .now) (passed (c .before .before .before .before .before .before .before)) (timely (c .before .before .before)) (sym (repeated (c .before .before)) ∙ c .before .if3 .left),
+          ∙ all-yes (start .args .listens) (setupOf (start .args .setup)) (start .args .clock) (queue start) (start .args .frame .now) (passed (c .before .before .before .before .before .before .before)) (timely (c .before .before .before)) (sym (repeated (c .before .before)) ∙ c .before .if3 .left),
       taken-located (c .place-for .ensures .starts) (c .before .before .before .before .before .before .reading-of .ensures),
     )
 

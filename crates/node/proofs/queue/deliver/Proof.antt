@@ -41,7 +41,7 @@ add-result c =
     let s = setupOf (start .args .setup) in
     omega (
       arith,
-      both-small s (start .args .clock) (start .args .holdback .now) (dueNow s (start .args .clock)) (start .args .early .index) (c .before .before .before .before .before .cut-due .result) (limits-from s (start .pre .0 .timed .limits)) (start .pre .0 .sound) (start .pre .0 .few) (c .before .before .before .before .before .cut-due .ensures .0),
+      both-small s (start .args .clock) (start .args .holdback .now) (dueNow s (start .args .clock)) (start .args .overdue .index) (c .before .before .before .before .before .cut-due .result) (limits-from s (start .pre .0 .timed .limits)) (start .pre .0 .sound) (start .pre .0 .few) (c .before .before .before .before .before .cut-due .ensures .0),
     )
 
 same-length : tie.Need-same-length
@@ -55,7 +55,7 @@ returns c =
     let start = c .before .before .before .before .before .before .before .before .before .before .before in
     let done = c .before .before .before .before .before .cut-due .ensures in
     record {
-      count-is = ap (λ (n : ℕ). start .args .early .index + n) (done .0);
+      count-is = ap (λ (n : ℕ). start .args .overdue .index + n) (done .0);
       kept =
           done .1 .0
           ∙ ap (λ (n : ℕ). encodeHoldback n (select (λ f. not (dueNow (setupOf (start .args .setup)) (start .args .clock) f)) (held (start .args .setup .epsilon) (start .args .holdback .now)))) (start .pre .0 .size);

@@ -1,4 +1,4 @@
--- `node::queue::open_queue` meets its contract: judged, and then without what is handed out early. Assumes nothing.
+-- `node::queue::open_queue` meets its contract: judged, and then without what is overdue. Assumes nothing.
 use Prim.Native.Nat.{_+_, _≤_, _<_}
 use native.Mathlib.Omega.{arith}
 use mathlib.Core.Path.{sym, _∙_, ap}
@@ -6,7 +6,7 @@ use borrow.Author.Needs.{needs}
 use Rattle.holdback.specs.Queue.{frameStart}
 use Rattle.holdback.specs.Starts.{startUnit}
 use Rattle.setup.specs.Views.{setupOf}
-use Rattle.node.proofs.Places.{size-two, opened, handed, opened-fits}
+use Rattle.node.proofs.Places.{size-two, opened, overdue-given, opened-fits}
 use Rattle.node.proofs.queue.open_queue.Statement.{statement}
 use Rattle.node.proofs.queue.open_queue.Tie as tie
 
@@ -57,7 +57,7 @@ returns c =
     let start = c .before .before .before .before .before .before .before .before .before .before .before .before .before .before .before .before .before .before .before .before .before .before .before .before .before .before .before .before .before in
     let judged = c .before .before .before .before .before .before .before .before .before .before .before .before .before .before .before .before .before .before .before .before .before .judge-queue .ensures in
     let released = c .before .before .before .before .before .before .before .before .before .before .release .ensures in
-    (opened (start .pre .0 .0) judged released, handed (start .pre .0 .0) judged released)
+    (opened (start .pre .0 .0) judged released, overdue-given (start .pre .0 .0) judged released)
 
 pub open-queue-spec : {M : Type 1} → statement M
 open-queue-spec =

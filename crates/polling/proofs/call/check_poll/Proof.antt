@@ -6,7 +6,7 @@ use borrow.Author.Needs.{needs}
 use Rattle.laws.proofs.Numbers.{and-left}
 use Rattle.model.specs.Setup.{inLimits, isMember}
 use Rattle.setup.specs.Views.{setupOf}
-use Rattle.polling.proofs.Asking.{setup-no, shelf-asked}
+use Rattle.polling.proofs.Asking.{setup-no, holdback-asked}
 use Rattle.polling.proofs.call.check_poll.Statement.{statement}
 use Rattle.polling.proofs.call.check_poll.Tie as tie
 
@@ -28,7 +28,7 @@ check-holdback-requires c κs = and-left (inLimits (setupOf (c .before .before .
 returns-2 : tie.Need-returns-2
 returns-2 c =
     let a = c .before .before .before .before .args in
-    c .check-holdback .ensures ∙ shelf-asked (setupOf (a .setup)) (a .own) (a .clock) (a .holdback .now) (right (c .before))
+    c .check-holdback .ensures ∙ holdback-asked (setupOf (a .setup)) (a .own) (a .clock) (a .holdback .now) (right (c .before))
 
 pub check-poll-spec : {M : Type 1} → statement M
 check-poll-spec = tie.close (tie.spec valid-for-requires returns check-holdback-requires returns-2)

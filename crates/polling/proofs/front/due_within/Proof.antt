@@ -20,7 +20,7 @@ returns : tie.Need-returns
 unfolding dueWithin
 returns c =
     let a = c .before .before .before .args in
-    ap (λ (due : ℕ). leb due (a .s .modulus + a .d)) (c .before .due-of .ensures .0)
+    ap (λ (due : ℕ). leb due (a .setup .modulus + a .d)) (c .before .due-of .ensures .0)
 
 pub due-within-spec : {M : Type 1} → statement M
 due-within-spec = tie.close (tie.spec due-of-requires cast-result add-result returns)

@@ -20,7 +20,7 @@ cast-if1 c = search needs
 returns : tie.Need-returns
 returns c =
     let a = c .before .before .before .args in
-    sym (no-cons _ 2 _ (le-ltb (a .clock) (a .s .modulus) (c .if1 .taken)))
+    sym (no-cons _ 2 _ (le-ltb (a .clock) (a .setup .modulus) (c .if1 .taken)))
 
 cast-holdback-length : tie.Need-cast-holdback-length
 cast-holdback-length c = search needs
@@ -34,22 +34,22 @@ cast-holdback-length-3 c = search needs
 holdback-length-requires : tie.Need-holdback-length-requires
 holdback-length-requires c κs =
     let start = c .before .before .before .before .before .before in
-    let limits : Limits (setupOf (start .args .s)) = limits-from (setupOf (start .args .s)) (start .pre) in
+    let limits : Limits (setupOf (start .args .setup)) = limits-from (setupOf (start .args .setup)) (start .pre) in
     (limits .n-most, (limits .epsilon-most, limits .delta-most))
 
 returns-2 : tie.Need-returns-2
 returns-2 c =
     let a = c .before .before .before .before .before .before .before .before .args in
-    sym (yes-cons _ 2 _ (lt-ltb (a .clock) (a .s .modulus) (c .before .before .before .before .before .if1 .left))
-    ∙ no-cons _ 3 _ (ne-eqb (length (a .holdback .now)) (holdbackSize (setupOf (a .s))) (λ e. c .if2 .taken (e ∙ sym (c .before .holdback-length .ensures)))))
+    sym (yes-cons _ 2 _ (lt-ltb (a .clock) (a .setup .modulus) (c .before .before .before .before .before .if1 .left))
+    ∙ no-cons _ 3 _ (ne-eqb (length (a .holdback .now)) (holdbackSize (setupOf (a .setup))) (λ e. c .if2 .taken (e ∙ sym (c .before .holdback-length .ensures)))))
 
 returns-3 : tie.Need-returns-3
 unfolding firstNo
 returns-3 c =
     let a = c .before .before .before .before .before .before .before .before .args in
-    let sized : Bool = eqb (length (a .holdback .now)) (holdbackSize (setupOf (a .s))) in
-    sym (yes-cons (ltb (a .clock) (a .s .modulus)) 2 (ask sized 3 ∷ []) (lt-ltb (a .clock) (a .s .modulus) (c .before .before .before .before .before .if1 .left))
-    ∙ yes-cons sized 3 [] (eq-eqb (length (a .holdback .now)) (holdbackSize (setupOf (a .s))) (c .if2 .left ∙ c .before .holdback-length .ensures)))
+    let sized : Bool = eqb (length (a .holdback .now)) (holdbackSize (setupOf (a .setup))) in
+    sym (yes-cons (ltb (a .clock) (a .setup .modulus)) 2 (ask sized 3 ∷ []) (lt-ltb (a .clock) (a .setup .modulus) (c .before .before .before .before .before .if1 .left))
+    ∙ yes-cons sized 3 [] (eq-eqb (length (a .holdback .now)) (holdbackSize (setupOf (a .setup))) (c .if2 .left ∙ c .before .holdback-length .ensures)))
 
 pub check-holdback-spec : {M : Type 1} → statement M
 check-holdback-spec =

@@ -20,7 +20,7 @@ ahead-requires : tie.Need-ahead-requires
 ahead-requires c κs =
     let s = c .before in
     let some-clock : 0 < s .args .modulus = omega arith in
-    let inside : c .turned .result < s .args .modulus = omega (arith, c .turned .ensures, mod-lt (s .args .v + s .args .epsilon) some-clock) in
+    let inside : c .turned .result < s .args .modulus = omega (arith, c .turned .ensures, mod-lt (s .args .clock + s .args .epsilon) some-clock) in
     (s .pre .1 .0, (inside, s .pre .1 .1 .1))
 
 add-result : tie.Need-add-result
@@ -33,7 +33,7 @@ returns : tie.Need-returns
 returns c =
     let s = c .before .before in
     ap (λ (n : ℕ). n + s .args .epsilon) (c .ahead .ensures)
-    ∙ near-from (s .args .epsilon) (s .args .modulus) (s .args .v) (s .args .r) (c .before .turned .result) (s .pre .0 .0) (s .pre .0 .1) (s .pre .1 .1 .0) (s .pre .1 .1 .1) (c .before .turned .ensures)
+    ∙ near-from (s .args .epsilon) (s .args .modulus) (s .args .clock) (s .args .r) (c .before .turned .result) (s .pre .0 .0) (s .pre .0 .1) (s .pre .1 .1 .0) (s .pre .1 .1 .1) (c .before .turned .ensures)
 
 pub near-spec : {M : Type 1} → statement M
 near-spec = tie.close (tie.spec add-turned turned-requires ahead-requires add-result returns)

@@ -19,19 +19,19 @@ shared-slice-read-if2 c = omega arith
 returns-2 : tie.Need-returns-2
 returns-2 c = unsound-none _ _ _ _ (c .before .before .if1 .left) (c .if2 .taken)
 
-mul-within-limits : tie.Need-mul-within-limits
-mul-within-limits c = search needs
+mul-within-ceilings : tie.Need-mul-within-ceilings
+mul-within-ceilings c = search needs
 
-add-within-limits : tie.Need-add-within-limits
-add-within-limits c = search needs
+add-within-ceilings : tie.Need-add-within-ceilings
+add-within-ceilings c = search needs
 
-within-limits-requires : tie.Need-within-limits-requires
-within-limits-requires c κs = omega arith
+within-ceilings-requires : tie.Need-within-ceilings-requires
+within-ceilings-requires c κs = omega arith
 
 returns-3 : tie.Need-returns-3
 returns-3 c =
     let start = c .before .before .before .before .before in
-    c .within-limits .ensures ∙ sound-within _ _ _ _ (start .pre .1 .1 .1) (c .before .before .before .if1 .left) (c .before .if2 .left)
+    c .within-ceilings .ensures ∙ sound-within _ _ _ _ (start .pre .1 .1 .1) (c .before .before .before .if1 .left) (c .before .if2 .left)
 
 pub sound-counts-spec : {M : Type 1} → statement M
 sound-counts-spec =
@@ -41,7 +41,7 @@ sound-counts-spec =
     add-if2
     shared-slice-read-if2
     returns-2
-    mul-within-limits
-    add-within-limits
-    within-limits-requires
+    mul-within-ceilings
+    add-within-ceilings
+    within-ceilings-requires
     returns-3)

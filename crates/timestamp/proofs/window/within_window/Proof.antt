@@ -6,16 +6,16 @@ use native.Mathlib.Omega.{arith}
 use lib.Dec.{eqb}
 use lib.ListN.{take, getD}
 use borrow.Author.Needs.{needs}
-use Rattle.timestamp.specs.Views.{withinLimits}
-use Rattle.timestamp.specs.Window.{limitsOf}
+use Rattle.timestamp.specs.Views.{withinCeilings}
+use Rattle.timestamp.specs.Window.{ceilingsOf}
 use Rattle.timestamp.proofs.Windows.{window-start, window-next, window-end}
 use Rattle.timestamp.proofs.window.within_window.Statement.{statement}
 use Rattle.timestamp.proofs.window.within_window.Tie as tie
 
 abbrev Inv-loop : tie.InvT-loop
 Inv-loop kn limits top from over₀ i₀ over i =
-    (i ≤ 32) × ((n epsilon : ℕ) → epsilon ≤ 16 → top < 2 * epsilon → limits ≡ limitsOf n epsilon
-    → eqb over 0 ≡ withinLimits n top (take i (take (2 * epsilon) kn)))
+    (i ≤ 32) × ((n epsilon : ℕ) → epsilon ≤ 16 → top < 2 * epsilon → limits ≡ ceilingsOf n epsilon
+    → eqb over 0 ≡ withinCeilings n top (take i (take (2 * epsilon) kn)))
 
 abbrev μ-loop : tie.MeasureT-loop
 μ-loop kn limits top from over₀ i₀ over i = 32 - i
@@ -30,7 +30,7 @@ loop-holds : tie.Need-loop-holds Inv-loop μ-loop
 loop-holds c =
     let start = c .before .before in
     let a = start .args in
-    (omega arith, λ n epsilon narrow h e. window-start n epsilon (a .top) (a .kn .now) (a .limits .now) narrow h (start .pre .0) e)
+    (omega arith, λ n epsilon narrow h e. window-start n epsilon (a .top) (a .kn .now) (a .ceilings .now) narrow h (start .pre .0) e)
 
 shared-slice-read-beyond : tie.Need-shared-slice-read-beyond Inv-loop μ-loop
 shared-slice-read-beyond c = omega arith
@@ -67,7 +67,7 @@ loop-again c =
     let l = turn .loop in
     let byte : getD (a .kn .now) (l .i) 0 ≤ 255 = omega (arith, turn .before .before .shared-slice-known .given (l .i)) in (
       omega arith,
-      λ n epsilon narrow h e. window-next n epsilon (a .top) (a .kn .now) (a .limits .now) narrow h (start .pre .0) e (l .i) (l .over) _ _ _ (c .before .before .before .before .before .loop-test .taken)
+      λ n epsilon narrow h e. window-next n epsilon (a .top) (a .kn .now) (a .ceilings .now) narrow h (start .pre .0) e (l .i) (l .over) _ _ _ (c .before .before .before .before .before .loop-test .taken)
           byte (c .before .larger .ensures) (c .beyond .ensures) refl (l .inv .1 n epsilon narrow h e),
     )
 
@@ -76,7 +76,7 @@ returns c =
     let start = c .before .before .before .before in
     let a = start .args in
     let l = c .before .loop in
-    λ n epsilon narrow h e. window-end n epsilon (a .top) (a .kn .now) (a .limits .now) narrow h (start .pre .0) e (l .i) (l .over) (c .loop-test .left) (l .inv .1 n epsilon narrow h e)
+    λ n epsilon narrow h e. window-end n epsilon (a .top) (a .kn .now) (a .ceilings .now) narrow h (start .pre .0) e (l .i) (l .over) (c .loop-test .left) (l .inv .1 n epsilon narrow h e)
 
 pub within-window-spec : {M : Type 1} → statement M
 within-window-spec =

@@ -17,18 +17,18 @@ cast-epsilon : tie.Need-cast-epsilon
 cast-epsilon c = search needs
 
 frame-at-requires : tie.Need-frame-at-requires
-frame-at-requires c κs = limits-from (setupOf (c .before .before .args .s)) (c .before .before .pre .limits) .epsilon-most
+frame-at-requires c κs = limits-from (setupOf (c .before .before .args .setup)) (c .before .before .pre .limits) .epsilon-most
 
 frame-at-requires-2 : tie.Need-frame-at-requires-2
-frame-at-requires-2 c κs = limits-from (setupOf (c .before .before .before .args .s)) (c .before .before .before .pre .limits) .epsilon-most
+frame-at-requires-2 c κs = limits-from (setupOf (c .before .before .before .args .setup)) (c .before .before .before .pre .limits) .epsilon-most
 
 compare-frames-requires : tie.Need-compare-frames-requires
 compare-frames-requires c κs =
     let start = c .before .before .before .before in (
       (start .pre .limits, start .pre .below),
       (
-        subst (λ (l : List ℕ). passes (setupOf (start .args .s)) l ≡ true) (sym (c .before .frame-at .ensures .0)) (start .pre .last-passes),
-        subst (λ (l : List ℕ). passes (setupOf (start .args .s)) l ≡ true) (sym (c .frame-at2 .ensures .0)) (start .pre .passes-here),
+        subst (λ (l : List ℕ). passes (setupOf (start .args .setup)) l ≡ true) (sym (c .before .frame-at .ensures .0)) (start .pre .last-passes),
+        subst (λ (l : List ℕ). passes (setupOf (start .args .setup)) l ≡ true) (sym (c .frame-at2 .ensures .0)) (start .pre .passes-here),
       ),
     )
 
@@ -36,9 +36,9 @@ returns : tie.Need-returns
 returns c =
     let a = c .before .before .before .before .before .args in
     c .compare-frames .ensures
-    ∙ ap₂ (λ (f g : Frame). compared (setupOf (a .s)) (a .v) f g)
-    (decoded (a .s .epsilon) (a .delivery .now) (a .last) (c .before .before .frame-at .result .now) (c .before .before .frame-at .ensures .0))
-    (decoded (a .s .epsilon) (a .delivery .now) (a .at) (c .before .frame-at2 .result .now) (c .before .frame-at2 .ensures .0))
+    ∙ ap₂ (λ (f g : Frame). compared (setupOf (a .setup)) (a .clock) f g)
+    (decoded (a .setup .epsilon) (a .delivery .now) (a .last) (c .before .before .frame-at .result .now) (c .before .before .frame-at .ensures .0))
+    (decoded (a .setup .epsilon) (a .delivery .now) (a .at) (c .before .frame-at2 .result .now) (c .before .frame-at2 .ensures .0))
 
 pub compared-at-spec : {M : Type 1} → statement M
 compared-at-spec =

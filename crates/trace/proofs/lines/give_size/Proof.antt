@@ -20,7 +20,7 @@ compared-at-requires : tie.Need-compared-at-requires
 compared-at-requires c κs = search needs
 
 frame-at-requires : tie.Need-frame-at-requires
-frame-at-requires c κs = limits-from (setupOf (c .before .before .before .args .s)) (c .before .before .before .pre .limits) .epsilon-most
+frame-at-requires c κs = limits-from (setupOf (c .before .before .before .args .setup)) (c .before .before .before .pre .limits) .epsilon-most
 
 station-of-requires : tie.Need-station-of-requires
 station-of-requires c κs = search needs
@@ -29,7 +29,7 @@ r-of-requires : tie.Need-r-of-requires
 r-of-requires c κs = search needs
 
 payload-part-requires : tie.Need-payload-part-requires
-payload-part-requires c κs = limits-from (setupOf (c .before .before .before .before .before .before .args .s)) (c .before .before .before .before .before .before .pre .limits) .epsilon-most
+payload-part-requires c κs = limits-from (setupOf (c .before .before .before .before .before .before .args .setup)) (c .before .before .before .before .before .before .pre .limits) .epsilon-most
 
 digit-count-requires : tie.Need-digit-count-requires
 digit-count-requires c κs = search needs
@@ -51,7 +51,7 @@ add-size-3 c =
     omega (
       arith,
       c .before .before .before .before .before .before .frame-at .ensures .1,
-      payload-most (c .before .before .before .before .before .before .before .before .before .before .args .s .epsilon) (c .before .before .before .before .before .before .frame-at .result .now) (c .before .before .before .payload-part .result .now) (c .before .before .before .payload-part .ensures),
+      payload-most (c .before .before .before .before .before .before .before .before .before .before .args .setup .epsilon) (c .before .before .before .before .before .before .frame-at .result .now) (c .before .before .before .payload-part .result .now) (c .before .before .before .payload-part .ensures),
       c .payload-size .ensures .1,
       c .before .before .digit-count .ensures .1,
       c .before .digit-count2 .ensures .1,
@@ -65,7 +65,7 @@ add-result c =
     omega (
       arith,
       c .before .before .before .before .before .before .before .frame-at .ensures .1,
-      payload-most (c .before .before .before .before .before .before .before .before .before .before .before .args .s .epsilon) (c .before .before .before .before .before .before .before .frame-at .result .now) (c .before .before .before .before .payload-part .result .now) (c .before .before .before .before .payload-part .ensures),
+      payload-most (c .before .before .before .before .before .before .before .before .before .before .before .args .setup .epsilon) (c .before .before .before .before .before .before .before .frame-at .result .now) (c .before .before .before .before .payload-part .result .now) (c .before .before .before .before .payload-part .ensures),
       c .decided-size .ensures .1,
       c .before .payload-size .ensures .1,
       c .before .before .before .digit-count .ensures .1,
@@ -76,8 +76,8 @@ returns : tie.Need-returns
 returns c =
     let a = c .before .before .before .before .before .before .before .before .before .before .before .args in
     let text =
-    give-at (setupOf (a .s)) (a .v) (a .delivery .now) (a .last) (a .at) (c .before .before .before .before .before .before .station-of .result) (c .before .before .before .before .before .r-of .result) (c .before .before .before .before .before .before .before .frame-at .result .now) (c .before .before .before .before .payload-part .result .now)
-    (comparisonOf (c .before .before .before .before .before .before .before .before .compared-at .result)) (c .before .before .before .before .before .before .before .before .compared-at .ensures) (c .before .before .before .before .before .before .before .frame-at .ensures .0) (c .before .before .before .before .before .before .station-of .ensures (a .s .epsilon)) (c .before .before .before .before .before .r-of .ensures (a .s .epsilon)) (c .before .before .before .before .payload-part .ensures) in
+    give-at (setupOf (a .setup)) (a .clock) (a .delivery .now) (a .last) (a .at) (c .before .before .before .before .before .before .station-of .result) (c .before .before .before .before .before .r-of .result) (c .before .before .before .before .before .before .before .frame-at .result .now) (c .before .before .before .before .payload-part .result .now)
+    (comparisonOf (c .before .before .before .before .before .before .before .before .compared-at .result)) (c .before .before .before .before .before .before .before .before .compared-at .ensures) (c .before .before .before .before .before .before .before .frame-at .ensures .0) (c .before .before .before .before .before .before .station-of .ensures (a .setup .epsilon)) (c .before .before .before .before .before .r-of .ensures (a .setup .epsilon)) (c .before .before .before .before .payload-part .ensures) in
     omega (
       arith,
       c .before .before .before .digit-count .ensures .0,

@@ -34,8 +34,8 @@ two-at-requires c κs = omega arith
 loop-holds : tie.Need-loop-holds Inv-loop μ-loop
 loop-holds c =
     let start = c .before .before .before in
-    let s = setupOf (start .args .s) in
-    let v = start .args .v in
+    let s = setupOf (start .args .setup) in
+    let v = start .args .clock in
     let bytes = start .args .delivery .now in (
       ap (λ (l : List ℕ). leb (length l) (start .args .room)) (give-all s v bytes ∙ ap (λ (k : ℕ). giveLinesFrom s v bytes k 2 2) (sym (c .two-at .ensures))),
       (
@@ -49,25 +49,25 @@ give-size-requires c κs =
     let start = c .before .before .before .before .before in
     let now = c .before .loop in
     let e : now .left ≡ suc (now .left - 1) = omega arith in
-    two-of (setupOf (start .args .s)) (start .args .v) (start .args .delivery .now) (start .pre .limits) (start .pre .below) (now .left) (now .left - 1) (now .last) (now .at) e (now .inv .1 .0)
+    two-of (setupOf (start .args .setup)) (start .args .clock) (start .args .delivery .now) (start .pre .limits) (start .pre .below) (now .left) (now .left - 1) (now .last) (now .at) e (now .inv .1 .0)
 
 returns : tie.Need-returns Inv-loop μ-loop
 returns c =
     let a = c .before .before .before .before .before .before .before .args in
     let now = c .before .before .before .loop in
-    let s = setupOf (a .s) in
+    let s = setupOf (a .setup) in
     let bytes = a .delivery .now in
-    let next = now .at + frameEnd (a .s .epsilon) (drop (now .at) bytes) in
+    let next = now .at + frameEnd (a .setup .epsilon) (drop (now .at) bytes) in
     let e : now .left ≡ suc (now .left - 1) = omega arith in
-    let lines = give-one s (a .v) bytes (now .left) (now .left - 1) (now .last) (now .at) next e refl in
+    let lines = give-one s (a .clock) bytes (now .left) (now .left - 1) (now .last) (now .at) next e refl in
     sym
     (now .inv .0
     ∙ ap (λ (l : List ℕ). leb (length l) (now .room-left)) lines
-    ∙ fit-not (giveAfter s (a .v) (frameFrom (a .s .epsilon) bytes (now .last)) (frameFrom (a .s .epsilon) bytes (now .at))) (giveLinesFrom s (a .v) bytes (now .left - 1) (now .at) next)
+    ∙ fit-not (giveAfter s (a .clock) (frameFrom (a .setup .epsilon) bytes (now .last)) (frameFrom (a .setup .epsilon) bytes (now .at))) (giveLinesFrom s (a .clock) bytes (now .left - 1) (now .at) next)
     (c .before .give-size .result) (now .room-left) (c .before .give-size .ensures) (c .if1 .taken))
 
 next-frame-requires : tie.Need-next-frame-requires Inv-loop μ-loop
-next-frame-requires c κs = (omega arith, limits-from (setupOf (c .before .before .before .before .before .before .before .args .s)) (c .before .before .before .before .before .before .before .pre .limits) .epsilon-most)
+next-frame-requires c κs = (omega arith, limits-from (setupOf (c .before .before .before .before .before .before .before .args .setup)) (c .before .before .before .before .before .before .before .pre .limits) .epsilon-most)
 
 sub-left : tie.Need-sub-left Inv-loop μ-loop
 sub-left c = omega arith
@@ -79,16 +79,16 @@ loop-again : tie.Need-loop-again Inv-loop μ-loop
 loop-again c =
     let a = c .before .before .before .before .before .before .before .before .args in
     let now = c .before .before .before .before .loop in
-    let s = setupOf (a .s) in
+    let s = setupOf (a .setup) in
     let bytes = a .delivery .now in
     let next = c .next-frame .result in
     let e : now .left ≡ suc (now .left - 1) = omega arith in
-    let lines = give-one s (a .v) bytes (now .left) (now .left - 1) (now .last) (now .at) next e (c .next-frame .ensures .0) in (
+    let lines = give-one s (a .clock) bytes (now .left) (now .left - 1) (now .last) (now .at) next e (c .next-frame .ensures .0) in (
       now .inv .0
           ∙ ap (λ (l : List ℕ). leb (length l) (now .room-left)) lines
-          ∙ fit-one (giveAfter s (a .v) (frameFrom (a .s .epsilon) bytes (now .last)) (frameFrom (a .s .epsilon) bytes (now .at))) (giveLinesFrom s (a .v) bytes (now .left - 1) (now .at) next)
+          ∙ fit-one (giveAfter s (a .clock) (frameFrom (a .setup .epsilon) bytes (now .last)) (frameFrom (a .setup .epsilon) bytes (now .at))) (giveLinesFrom s (a .clock) bytes (now .left - 1) (now .at) next)
           (c .before .before .give-size .result) (now .room-left) (c .before .before .give-size .ensures) (c .before .if1 .left),
-      (passing-next s (a .v) bytes (now .left) (now .left - 1) (now .last) (now .at) next e (c .next-frame .ensures .0) (now .inv .1 .0), omega (arith, c .next-frame .ensures .1)),
+      (passing-next s (a .clock) bytes (now .left) (now .left - 1) (now .last) (now .at) next e (c .next-frame .ensures .0) (now .inv .1 .0), omega (arith, c .next-frame .ensures .1)),
     )
 
 returns-2 : tie.Need-returns-2 Inv-loop μ-loop
@@ -97,7 +97,7 @@ returns-2 c =
     let now = c .before .loop in
     sym
     (now .inv .0
-    ∙ ap (λ (l : List ℕ). leb (length l) (now .room-left)) (give-none (setupOf (a .s)) (a .v) (a .delivery .now) (now .left) (now .last) (now .at) (omega arith))
+    ∙ ap (λ (l : List ℕ). leb (length l) (now .room-left)) (give-none (setupOf (a .setup)) (a .clock) (a .delivery .now) (now .left) (now .last) (now .at) (omega arith))
     ∙ le-leb 0 (now .room-left) (omega arith))
 
 pub gives-fit-spec : {M : Type 1} → statement M

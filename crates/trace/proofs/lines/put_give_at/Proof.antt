@@ -17,7 +17,7 @@ compared-at-requires : tie.Need-compared-at-requires
 compared-at-requires c κs = search needs
 
 frame-at-requires : tie.Need-frame-at-requires
-frame-at-requires c κs = limits-from (setupOf (c .before .before .before .before .args .s)) (c .before .before .before .before .pre .0 .limits) .epsilon-most
+frame-at-requires c κs = limits-from (setupOf (c .before .before .before .before .args .setup)) (c .before .before .before .before .pre .0 .limits) .epsilon-most
 
 station-of-requires : tie.Need-station-of-requires
 station-of-requires c κs = search needs
@@ -26,16 +26,16 @@ r-of-requires : tie.Need-r-of-requires
 r-of-requires c κs = search needs
 
 payload-part-requires : tie.Need-payload-part-requires
-payload-part-requires c κs = limits-from (setupOf (c .before .before .before .before .before .before .before .args .s)) (c .before .before .before .before .before .before .before .pre .0 .limits) .epsilon-most
+payload-part-requires c κs = limits-from (setupOf (c .before .before .before .before .before .before .before .args .setup)) (c .before .before .before .before .before .before .before .pre .0 .limits) .epsilon-most
 
 -- the give line, from where its parts were found
 line : (c : tie.After-payload-part)
     → giveText (c .before .before .station-of .result) (c .before .r-of .result) (c .payload-part .result .now) (comparisonOf (c .before .before .before .before .compared-at .result) .reason)
-    ≡ giveAfter (setupOf (c .before .before .before .before .before .before .before .before .args .s)) (c .before .before .before .before .before .before .before .before .args .v) (frameFrom (c .before .before .before .before .before .before .before .before .args .s .epsilon) (c .before .before .before .before .before .before .before .before .args .delivery .now) (c .before .before .before .before .before .before .before .before .args .last)) (frameFrom (c .before .before .before .before .before .before .before .before .args .s .epsilon) (c .before .before .before .before .before .before .before .before .args .delivery .now) (c .before .before .before .before .before .before .before .before .args .at))
+    ≡ giveAfter (setupOf (c .before .before .before .before .before .before .before .before .args .setup)) (c .before .before .before .before .before .before .before .before .args .clock) (frameFrom (c .before .before .before .before .before .before .before .before .args .setup .epsilon) (c .before .before .before .before .before .before .before .before .args .delivery .now) (c .before .before .before .before .before .before .before .before .args .last)) (frameFrom (c .before .before .before .before .before .before .before .before .args .setup .epsilon) (c .before .before .before .before .before .before .before .before .args .delivery .now) (c .before .before .before .before .before .before .before .before .args .at))
 line c =
     let a = c .before .before .before .before .before .before .before .before .args in
-    give-at (setupOf (a .s)) (a .v) (a .delivery .now) (a .last) (a .at) (c .before .before .station-of .result) (c .before .r-of .result) (c .before .before .before .frame-at .result .now) (c .payload-part .result .now)
-    (comparisonOf (c .before .before .before .before .compared-at .result)) (c .before .before .before .before .compared-at .ensures) (c .before .before .before .frame-at .ensures .0) (c .before .before .station-of .ensures (a .s .epsilon)) (c .before .r-of .ensures (a .s .epsilon)) (c .payload-part .ensures)
+    give-at (setupOf (a .setup)) (a .clock) (a .delivery .now) (a .last) (a .at) (c .before .before .station-of .result) (c .before .r-of .result) (c .before .before .before .frame-at .result .now) (c .payload-part .result .now)
+    (comparisonOf (c .before .before .before .before .compared-at .result)) (c .before .before .before .before .compared-at .ensures) (c .before .before .before .frame-at .ensures .0) (c .before .before .station-of .ensures (a .setup .epsilon)) (c .before .r-of .ensures (a .setup .epsilon)) (c .payload-part .ensures)
 
 put-give-requires : tie.Need-put-give-requires
 put-give-requires c κs = room-as (c .before .before .before .before .before .before .before .before .before .args .buf .now) (c .before .before .before .before .before .before .before .before .before .args .end) (line (c .before)) (c .before .before .before .before .before .before .before .before .before .pre .1)

@@ -26,11 +26,11 @@ abbrev μ-loop : tie.MeasureT-loop
 
 -- nothing is left
 all-put : (c : tie.After-loop Inv-loop μ-loop)
-    → Put (c .before .before .before .before .before .before .args .buf .now) (c .before .before .before .before .before .before .args .from) (giveLines (setupOf (c .before .before .before .before .before .before .args .s)) (c .before .before .before .before .before .before .args .v) (c .before .before .before .before .before .before .args .delivery .now)) (c .before .loop .buf) (c .before .loop .end)
+    → Put (c .before .before .before .before .before .before .args .buf .now) (c .before .before .before .before .before .before .args .from) (giveLines (setupOf (c .before .before .before .before .before .before .args .setup)) (c .before .before .before .before .before .before .args .clock) (c .before .before .before .before .before .before .args .delivery .now)) (c .before .loop .buf) (c .before .loop .end)
 all-put c =
     let a = c .before .before .before .before .before .before .args in
     let now = c .before .loop in
-    let none = give-none (setupOf (a .s)) (a .v) (a .delivery .now) (now .left) (now .last) (now .at) (omega arith) in
+    let none = give-none (setupOf (a .setup)) (a .clock) (a .delivery .now) (now .left) (now .last) (now .at) (omega arith) in
     ahead-as none (now .inv .0) .done (put-nothing (now .buf) (now .end))
 
 cast-epsilon : tie.Need-cast-epsilon Inv-loop μ-loop
@@ -42,8 +42,8 @@ two-at-requires c κs = omega arith
 loop-holds : tie.Need-loop-holds Inv-loop μ-loop
 loop-holds c =
     let start = c .before .before .before .before in
-    let s = setupOf (start .args .s) in
-    let v = start .args .v in
+    let s = setupOf (start .args .setup) in
+    let v = start .args .clock in
     let bytes = start .args .delivery .now in (
       ahead-as (give-all s v bytes ∙ ap (λ (k : ℕ). giveLinesFrom s v bytes k 2 2) (sym (c .two-at .ensures)))
           (ahead (start .args .buf .now) (start .args .from) (giveLines s v bytes) (start .pre .1)),
@@ -58,18 +58,18 @@ put-give-at-requires c κs =
     let start = c .before .before .before .before .before .before .before in
     let a = start .args in
     let now = c .before .before .loop in
-    let s = setupOf (a .s) in
+    let s = setupOf (a .setup) in
     let bytes = a .delivery .now in
-    let next = now .at + frameEnd (a .s .epsilon) (drop (now .at) bytes) in
+    let next = now .at + frameEnd (a .setup .epsilon) (drop (now .at) bytes) in
     let e : now .left ≡ suc (now .left - 1) = omega arith in
-    let lines = give-one s (a .v) bytes (now .left) (now .left - 1) (now .last) (now .at) next e refl in (
-      two-of s (a .v) bytes (start .pre .0 .limits) (start .pre .0 .below) (now .left) (now .left - 1) (now .last) (now .at) e (now .inv .1 .0),
-      ahead-first (giveAfter s (a .v) (frameFrom (a .s .epsilon) bytes (now .last)) (frameFrom (a .s .epsilon) bytes (now .at))) (giveLinesFrom s (a .v) bytes (now .left - 1) (now .at) next)
+    let lines = give-one s (a .clock) bytes (now .left) (now .left - 1) (now .last) (now .at) next e refl in (
+      two-of s (a .clock) bytes (start .pre .0 .limits) (start .pre .0 .below) (now .left) (now .left - 1) (now .last) (now .at) e (now .inv .1 .0),
+      ahead-first (giveAfter s (a .clock) (frameFrom (a .setup .epsilon) bytes (now .last)) (frameFrom (a .setup .epsilon) bytes (now .at))) (giveLinesFrom s (a .clock) bytes (now .left - 1) (now .at) next)
           (ahead-as lines (now .inv .0)),
     )
 
 next-frame-requires : tie.Need-next-frame-requires Inv-loop μ-loop
-next-frame-requires c κs = (omega arith, limits-from (setupOf (c .before .before .before .before .before .before .before .before .before .before .args .s)) (c .before .before .before .before .before .before .before .before .before .before .pre .0 .limits) .epsilon-most)
+next-frame-requires c κs = (omega arith, limits-from (setupOf (c .before .before .before .before .before .before .before .before .before .before .args .setup)) (c .before .before .before .before .before .before .before .before .before .before .pre .0 .limits) .epsilon-most)
 
 sub-left : tie.Need-sub-left Inv-loop μ-loop
 sub-left c = omega arith
@@ -81,14 +81,14 @@ loop-again : tie.Need-loop-again Inv-loop μ-loop
 loop-again c =
     let a = c .before .before .before .before .before .before .before .before .before .before .before .args in
     let now = c .before .before .before .before .before .before .loop in
-    let s = setupOf (a .s) in
+    let s = setupOf (a .setup) in
     let bytes = a .delivery .now in
     let next = c .next-frame .result in
     let e : now .left ≡ suc (now .left - 1) = omega arith in
-    let lines = give-one s (a .v) bytes (now .left) (now .left - 1) (now .last) (now .at) next e (c .next-frame .ensures .0) in (
-      ahead-next (giveAfter s (a .v) (frameFrom (a .s .epsilon) bytes (now .last)) (frameFrom (a .s .epsilon) bytes (now .at))) (giveLinesFrom s (a .v) bytes (now .left - 1) (now .at) next)
+    let lines = give-one s (a .clock) bytes (now .left) (now .left - 1) (now .last) (now .at) next e (c .next-frame .ensures .0) in (
+      ahead-next (giveAfter s (a .clock) (frameFrom (a .setup .epsilon) bytes (now .last)) (frameFrom (a .setup .epsilon) bytes (now .at))) (giveLinesFrom s (a .clock) bytes (now .left - 1) (now .at) next)
           (ahead-as lines (now .inv .0)) (c .before .before .before .put-give-at .ensures),
-      (passing-next s (a .v) bytes (now .left) (now .left - 1) (now .last) (now .at) next e (c .next-frame .ensures .0) (now .inv .1 .0), omega (arith, c .next-frame .ensures .1)),
+      (passing-next s (a .clock) bytes (now .left) (now .left - 1) (now .last) (now .at) next e (c .next-frame .ensures .0) (now .inv .1 .0), omega (arith, c .next-frame .ensures .1)),
     )
 
 same-length : tie.Need-same-length Inv-loop μ-loop

@@ -35,7 +35,7 @@ abbrev word : tie.After-r-of → List ℕ
 word c = space ++ wordOf (start c .args .number)
 
 abbrev end : tie.After-r-of → List ℕ
-end c = spaced (map decimal (shown (c .before .before .limits-of .result)))
+end c = spaced (map decimal (shown (c .before .before .rule-limits-of .result)))
 
 short : (c : tie.After-r-of) → length (line c) ≤ 29
 unfolding decode
@@ -48,11 +48,11 @@ all : (c : tie.After-r-of) → Ahead (start c .args .buf .now) (start c .args .a
 all c =
     ahead-as
     (line-made (setupOf (start c .args .setup)) (start c .args .position) (start c .args .number) (frame c) (c .before .station-of .result) (c .r-of .result)
-    (shown (c .before .before .limits-of .result)) (c .before .station-of .ensures (start c .args .setup .epsilon)) (c .r-of .ensures (start c .args .setup .epsilon)) (c .before .before .limits-of .ensures))
+    (shown (c .before .before .rule-limits-of .result)) (c .before .station-of .ensures (start c .args .setup .epsilon)) (c .r-of .ensures (start c .args .setup .epsilon)) (c .before .before .rule-limits-of .ensures))
     (ahead (start c .args .buf .now) (start c .args .at) (line c) (omega (arith, short c, start c .pre .1 .1)))
 
-limits-of-requires : tie.Need-limits-of-requires
-limits-of-requires c κs = c .before .before .pre .0 .0
+rule-limits-of-requires : tie.Need-rule-limits-of-requires
+rule-limits-of-requires c κs = c .before .before .pre .0 .0
 
 station-of-requires : tie.Need-station-of-requires
 station-of-requires c κs = search needs
@@ -86,8 +86,8 @@ put-verdict-requires c κs =
     let s3 = ahead-next (clock (c .before .before .before .before .before .before .before .before .before .before .before .before .before)) (word (c .before .before .before .before .before .before .before .before .before .before .before .before .before) ++ end (c .before .before .before .before .before .before .before .before .before .before .before .before .before)) s2 (c .before .before .before .put-or-dash2 .ensures) in
     ahead-first (word (c .before .before .before .before .before .before .before .before .before .before .before .before .before)) (end (c .before .before .before .before .before .before .before .before .before .before .before .before .before)) s3
 
-put-limits-requires : tie.Need-put-limits-requires
-put-limits-requires c κs =
+put-rule-limits-requires : tie.Need-put-rule-limits-requires
+put-rule-limits-requires c κs =
     let s0 = all (c .before .before .before .before .before .before .before .before .before .before .before .before .before .before .before .before .before) in
     let s1 = ahead-next (decimal (start (c .before .before .before .before .before .before .before .before .before .before .before .before .before .before .before .before .before) .args .position)) (station (c .before .before .before .before .before .before .before .before .before .before .before .before .before .before .before .before .before) ++ (clock (c .before .before .before .before .before .before .before .before .before .before .before .before .before .before .before .before .before) ++ (word (c .before .before .before .before .before .before .before .before .before .before .before .before .before .before .before .before .before) ++ end (c .before .before .before .before .before .before .before .before .before .before .before .before .before .before .before .before .before)))) s0 (c .before .before .before .before .before .before .before .before .before .before .before .before .before .before .before .put-decimal .ensures) in
     let s2 = ahead-next (station (c .before .before .before .before .before .before .before .before .before .before .before .before .before .before .before .before .before)) (clock (c .before .before .before .before .before .before .before .before .before .before .before .before .before .before .before .before .before) ++ (word (c .before .before .before .before .before .before .before .before .before .before .before .before .before .before .before .before .before) ++ end (c .before .before .before .before .before .before .before .before .before .before .before .before .before .before .before .before .before))) s1 (c .before .before .before .before .before .before .before .before .before .before .before .put-or-dash .ensures) in
@@ -105,20 +105,20 @@ returns c =
     let s2 = ahead-next (station (c .before .before .before .before .before .before .before .before .before .before .before .before .before .before .before .before .before .before .before .before)) (clock (c .before .before .before .before .before .before .before .before .before .before .before .before .before .before .before .before .before .before .before .before) ++ (word (c .before .before .before .before .before .before .before .before .before .before .before .before .before .before .before .before .before .before .before .before) ++ end (c .before .before .before .before .before .before .before .before .before .before .before .before .before .before .before .before .before .before .before .before))) s1 (c .before .before .before .before .before .before .before .before .before .before .before .before .before .before .put-or-dash .ensures) in
     let s3 = ahead-next (clock (c .before .before .before .before .before .before .before .before .before .before .before .before .before .before .before .before .before .before .before .before)) (word (c .before .before .before .before .before .before .before .before .before .before .before .before .before .before .before .before .before .before .before .before) ++ end (c .before .before .before .before .before .before .before .before .before .before .before .before .before .before .before .before .before .before .before .before)) s2 (c .before .before .before .before .before .before .before .before .before .before .put-or-dash2 .ensures) in
     let s4 = ahead-next (word (c .before .before .before .before .before .before .before .before .before .before .before .before .before .before .before .before .before .before .before .before)) (end (c .before .before .before .before .before .before .before .before .before .before .before .before .before .before .before .before .before .before .before .before)) s3 (c .before .before .before .before .before .before .put-verdict .ensures) in
-    let put = s4 .done (c .before .before .put-limits .ensures) in
+    let put = s4 .done (c .before .before .put-rule-limits .ensures) in
     (put, omega (arith, short (c .before .before .before .before .before .before .before .before .before .before .before .before .before .before .before .before .before .before .before .before), put .ends))
 
 pub put-line-spec : {M : Type 1} → statement M
 put-line-spec =
     tie.close
     (tie.spec
-    limits-of-requires
+    rule-limits-of-requires
     station-of-requires
     r-of-requires
     put-decimal-requires
     put-or-dash-requires
     put-or-dash-requires-2
     put-verdict-requires
-    put-limits-requires
+    put-rule-limits-requires
     same-length
     returns)

@@ -7,7 +7,7 @@ use native.Mathlib.Omega.{arith}
 use lib.ListN.{length, take, drop}
 use Rattle.setup.specs.Views.{setupOf}
 use Rattle.batch.specs.Walk.{countOf, entryAt, nextAt}
-use Rattle.batch.specs.declared.Step.{Step}
+use Rattle.batch.specs.declared.EntrySpan.{EntrySpan}
 use Rattle.batch.proofs.Walk.{batch-count, step-ordered, step-within, step-next, step-entry}
 use Rattle.words.proofs.Writing.{Lining, lining-start, lining-line, lining-given, lining-room, lining-turn, lining-end}
 use Rattle.words.proofs.lines.put_lines.Statement.{statement}
@@ -33,31 +33,31 @@ few : (c : tie.In-loop Inv-loop μ-loop) → countOf (c .before .before .before 
 unfolding countOf
 few c = omega (arith, c .before .before .before .before .before .shared-slice-known .given 0)
 
-walk-step-requires : tie.Need-walk-step-requires Inv-loop μ-loop
-walk-step-requires c κs = search needs
+walk-entry-requires : tie.Need-walk-entry-requires Inv-loop μ-loop
+walk-entry-requires c κs = search needs
 
 -- the step is of the entry at the loop's position, and ends where the next one stands
-module _ (c : tie.After-walk-step Inv-loop μ-loop) where
+module _ (c : tie.After-walk-entry Inv-loop μ-loop) where
   abbrev batch : List ℕ
   batch = c .before .before .before .before .before .before .before .args .batch .now
 
   abbrev place : ℕ
   place = c .before .before .loop .at
 
-  abbrev step : Step
-  step = c .walk-step .result
+  abbrev step : EntrySpan
+  step = c .walk-entry .result
 
   ordered : step .start ≤ step .end
-  ordered = step-ordered batch place step (c .walk-step .ensures)
+  ordered = step-ordered batch place step (c .walk-entry .ensures)
 
   within : step .end ≤ length batch
-  within = step-within batch place step (c .walk-step .ensures)
+  within = step-within batch place step (c .walk-entry .ensures)
 
   next : step .end ≡ nextAt batch place
-  next = step-next batch place step (c .walk-step .ensures)
+  next = step-next batch place step (c .walk-entry .ensures)
 
   entry : take (step .end - step .start) (drop (step .start) batch) ≡ entryAt batch place
-  entry = step-entry batch place step (c .walk-step .ensures)
+  entry = step-entry batch place step (c .walk-entry .ensures)
 
 sub-entry : tie.Need-sub-entry Inv-loop μ-loop
 sub-entry c = omega (arith, ordered c)
@@ -100,7 +100,7 @@ put-lines-spec =
     μ-loop
     count-of-requires
     loop-holds
-    walk-step-requires
+    walk-entry-requires
     sub-entry
     part-entry-start
     part-entry-end

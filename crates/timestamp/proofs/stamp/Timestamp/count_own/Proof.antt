@@ -22,7 +22,7 @@ array-write-kn : tie.Need-array-write-kn
 array-write-kn c = search needs
 
 returns : tie.Need-returns
-returns c = let start = c .before in count-own-widened (start .args .epsilon) (stampOf (start .args .self)) (start .pre .0 .1 .0) (long start) (start .args .v) (start .pre .0 .0) (start .pre .1)
+returns c = let start = c .before in count-own-widened (start .args .epsilon) (stampOf (start .args .self)) (start .pre .0 .1 .0) (long start) (start .args .clock) (start .pre .0 .0) (start .pre .1)
 
 pub count-own-spec : {M : Type 1} → statement M
 count-own-spec = tie.close (tie.spec array-read-kn add-kn array-write-kn returns)

@@ -1,0 +1,2 @@
+-- `Standing` says how frames of any form stand in a buffer.
+pub mod Standing
