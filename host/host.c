@@ -6,7 +6,10 @@
  * must show what a poll before it foretold. Then it checks of the messages sent after recovery that every board, also the
  * observer's, shows each one that it heard and that was due, in its first tick at or past the due clock, no other and none of them
  * twice, and causes before effects, and that any two boards show those that both show in one order.
+ * Most tickets are press tickets. Each board charges them as it shows them, into a ledger of its own; and any two boards, from empty
+ * ledgers, charge what both show to the same total for each grower. These totals are printed for board 0 and the observer's.
  * Usage: host [SEED]. Exit status 0 where all holds; the seed is in what it prints. */
+#include <inttypes.h>
 #include <stdio.h>
 #include <stdlib.h>
 #include <string.h>
@@ -17,6 +20,8 @@ enum { N = 4, EPSILON = 3, DELTA = 6, MODULUS = 61, TICKS = 400, DIP = 150, MESS
 enum { FRAME = YARNGRAVEL_FRAME(EPSILON), SHELF = YARNGRAVEL_SHELF(N, EPSILON, DELTA), JUNK = -1, TOLD = 0 };
 /* the stations' boards, by their numbers, and then the observer's */
 enum { OBSERVER = N, BOARDS = N + 1 };
+/* charges: cents for a hundred pounds, and the growers, numbered from 1 */
+enum { RATE = 1250, GROWERS = 3 };
 
 /* a set of messages, a bit for each */
 struct set {
@@ -44,6 +49,7 @@ struct board {
     uint8_t tables[YARNGRAVEL_TABLES]; /* a station's */
     uint8_t last[YARNGRAVEL_LAST];     /* the observer's */
     uint8_t shelf[SHELF];
+    uint8_t ledger[YARNGRAVEL_LEDGER]; /* what it charged so far */
     struct set heard; /* what it heard so far */
     struct set taken; /* what it took of that */
     struct set known; /* that, what the station sent, and the causes of both */
@@ -62,6 +68,7 @@ static struct board boards[BOARDS];
 static struct message messages[MESSAGES];
 static unsigned message_count;
 static unsigned foretold; /* ticks that showed something that a poll had counted */
+static unsigned charges;  /* bales that the boards charged as they showed them */
 static unsigned long long seed;
 static uint64_t drawn;
 
@@ -174,10 +181,24 @@ static void keep(int who, const uint8_t *frame, unsigned len) {
     message_count++;
 }
 
+/* The ticket of the next message, and its length: for the press mostly, its bale the message's number; in one of eight just that number,
+ * which passes. */
+static size_t next_ticket(uint8_t ticket[YARNGRAVEL_PRESS]) {
+    uint16_t pounds = (uint16_t)(1 + draw(1000)), grower = (uint16_t)(1 + draw(GROWERS));
+    if (message_count % 8 != 7) {
+        yarngravel_press(ticket, message_count, pounds, grower);
+        return YARNGRAVEL_PRESS;
+    }
+    ticket[0] = (uint8_t)(message_count % 256);
+    ticket[1] = (uint8_t)(message_count / 256);
+    return 2;
+}
+
 /* which message a frame is: the one that its ticket names, if it is the same to the byte */
 static int message_of(const uint8_t *frame, size_t len, const uint8_t *ticket, unsigned ticket_len) {
-    if (ticket_len != 2) return JUNK;
-    unsigned number = ticket[0] + 256u * ticket[1];
+    if (ticket_len != 2 && ticket_len != YARNGRAVEL_PRESS) return JUNK;
+    const uint8_t *name = ticket_len == 2 ? ticket : ticket + 2;
+    unsigned number = name[0] + 256u * name[1];
     if (number >= message_count || messages[number].len != len) return JUNK;
     return memcmp(messages[number].bytes, frame, len) == 0 ? (int)number : JUNK;
 }
@@ -186,17 +207,21 @@ static int message_of(const uint8_t *frame, size_t len, const uint8_t *ticket, u
  * every station's. */
 static uint32_t own(int who) { return who == OBSERVER ? 0 : (uint32_t)who; }
 
-/* the board shows the frames of a hand-out; message -1 is junk */
+/* the board shows the frames of a hand-out, and charges their tickets; message -1 is junk */
 static void show(int who, int last, uint64_t answer, const uint8_t *handout) {
     struct board *s = &boards[who];
     struct yarngravel_walk walk = yarngravel_walk_of(answer, handout);
-    while (yarngravel_walk_next(&walk, EPSILON)) {
+    uint64_t charged;
+    while (yarngravel_charge_next(&walk, EPSILON, RATE, s->ledger, &charged)) {
         uint8_t stamp[YARNGRAVEL_TABLES];
         uint64_t got = yarngravel_read(N, EPSILON, DELTA, MODULUS, own(who), walk.frame, walk.len, stamp);
         expect_accepted("reader", got);
         if (s->given_count == GIVEN) fail("a board gave more than there is room for");
         int message = message_of(walk.frame, walk.len, walk.frame + yarngravel_ticket_at(got), yarngravel_ticket_len(got));
-        printf("board %d clock %d gives station %u message %d\n", who, s->clock, yarngravel_station(got), message);
+        printf("board %d clock %d gives station %u message %d", who, s->clock, yarngravel_station(got), message);
+        if (yarngravel_entered(charged)) printf(" charge %" PRIu32 "\n", yarngravel_cents(charged));
+        else printf(" %s\n", yarngravel_number(charged) == 0 ? "passes" : yarngravel_number_text(yarngravel_number(charged)));
+        charges += yarngravel_entered(charged);
         s->given[s->given_count++] = (struct given){message, last, s->clock};
     }
 }
@@ -271,9 +296,10 @@ static void tick(int who, int next, bool junk) {
     uint64_t polled = poll(who, (unsigned)(next - s->clock));
     gather(who, next, &heard, junk);
     bool send = draw(3) == 0 && message_count < MESSAGES;
-    uint8_t ticket[2] = {(uint8_t)(message_count % 256), (uint8_t)(message_count / 256)};
+    uint8_t ticket[YARNGRAVEL_PRESS];
+    size_t ticket_len = next_ticket(ticket);
     uint64_t answer = yarngravel_tick(N, EPSILON, DELTA, MODULUS, (uint32_t)who, (uint32_t)(next % MODULUS), s->tables,
-                                      s->shelf, SHELF, heard.bytes, heard.len, send, ticket, sizeof ticket, outgoing,
+                                      s->shelf, SHELF, heard.bytes, heard.len, send, ticket, ticket_len, outgoing,
                                       sizeof outgoing, verdicts, sizeof verdicts, handout, sizeof handout);
     settle(who, next, polled, answer, &heard, verdicts, handout);
     if (send) keep(who, outgoing, yarngravel_sent(answer));
@@ -391,6 +417,38 @@ static unsigned check_two(const struct board *a, const struct board *b) {
     return shared;
 }
 
+/* charges, from an empty ledger, what a board shows and another one shows too, in its own order */
+static void charge_shared(const struct board *s, const struct board *other, uint8_t ledger[YARNGRAVEL_LEDGER]) {
+    memset(ledger, 0, YARNGRAVEL_LEDGER);
+    for (unsigned k = 0; k < s->given_count; k++) {
+        if (place_of(other, s->given[k].message, other->given_count) < 0) continue;
+        const struct message *m = &messages[s->given[k].message];
+        unsigned front = 7u + 2u * EPSILON;
+        yarngravel_charge(RATE, m->bytes + front, m->len - front, ledger, YARNGRAVEL_LEDGER);
+    }
+}
+
+/* a grower's total in a ledger */
+static uint64_t cents_of(int grower, const uint8_t ledger[YARNGRAVEL_LEDGER]) {
+    uint64_t answer = yarngravel_total((uint16_t)grower, ledger, YARNGRAVEL_LEDGER);
+    expect_accepted("total", answer);
+    return yarngravel_total_cents(answer);
+}
+
+/* Two boards charge what both show to the same totals; those of one station and the observer are printed. */
+static void check_charges(int a, int b) {
+    static uint8_t first[YARNGRAVEL_LEDGER], second[YARNGRAVEL_LEDGER];
+    charge_shared(&boards[a], &boards[b], first);
+    charge_shared(&boards[b], &boards[a], second);
+    if (memcmp(first, second, sizeof first) != 0) fail("two boards charge differently what both show");
+    for (int grower = 1; grower <= GROWERS; grower++) {
+        uint64_t cents = cents_of(grower, first);
+        if (cents != cents_of(grower, second)) fail("two boards disagree on a grower's total");
+        if (cents == 0) fail("a grower has no total");
+        if (b == TOLD && a == OBSERVER) printf("grower %d: %" PRIu64 " cents on boards %d and %d\n", grower, cents, b, a);
+    }
+}
+
 int main(int argc, char **argv) {
     unsigned causes = 0, shared = 0, early = 0;
     seed = argc > 1 ? strtoull(argv[1], NULL, 10) : 20261115;
@@ -404,7 +462,10 @@ int main(int argc, char **argv) {
         check_whole(&boards[a], from);
         causes += check_board(&boards[a]);
         early += check_times(&boards[a]);
-        for (int b = 0; b < a; b++) shared += check_two(&boards[a], &boards[b]);
+        for (int b = 0; b < a; b++) {
+            shared += check_two(&boards[a], &boards[b]);
+            check_charges(a, b);
+        }
     }
     /* some six sevenths of the least that came with 1,700 seeds */
     if (shared < 1700 || causes < 90000 || early < 100) fail("too few covered messages to compare");
@@ -412,7 +473,7 @@ int main(int argc, char **argv) {
     if (boards[OBSERVER].given_count < 180) fail("too few covered messages on the observer's board");
     printf("boards agree: %u times two of them show one message, and %u times a cause before its effect; "
            "%u times a message was due before the tick that shows it; %u times a poll foretold what a tick shows; "
-           "the observer shows %u messages as the stations do\n",
-           shared, causes, early, foretold, boards[OBSERVER].given_count);
+           "the observer shows %u messages as the stations do; %u bales charged\n",
+           shared, causes, early, foretold, boards[OBSERVER].given_count, charges);
     return 0;
 }

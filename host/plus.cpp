@@ -32,13 +32,13 @@ void try_texts() {
     std::set<std::string> numbers, mends;
     for (unsigned k = 0; k < 256; k++) {
         const bool is_number = k <= YARNGRAVEL_BAD_BUFFERS || (k >= YARNGRAVEL_BAD_FORM && k <= YARNGRAVEL_REPEAT) ||
-                               k == YARNGRAVEL_TOO_MANY;
+                               k == YARNGRAVEL_TOO_MANY || (k >= YARNGRAVEL_BAD_PRESS && k <= YARNGRAVEL_FULL_LEDGER);
         expect((yarngravel_number_text(k) != std::string(yarngravel_number_text(255))) == is_number, "a number's text");
         expect((yarngravel_mend_text(k) != std::string(yarngravel_mend_text(255))) == (k < 4), "a mend's text");
         numbers.insert(yarngravel_number_text(k));
         mends.insert(yarngravel_mend_text(k));
     }
-    expect(numbers.size() == 15 + 1 && mends.size() == 4 + 1, "that no two numbers have the same text");
+    expect(numbers.size() == 18 + 1 && mends.size() == 4 + 1, "that no two numbers have the same text");
 }
 
 // fresh tables are as the header says, and a refusal leaves what was there
@@ -83,6 +83,39 @@ void try_long_fresh() {
     for (unsigned i = 0; i < 8; i++) wanted[i] = i == 0 ? 0xfe : i == 7 ? 0x7f : 0xff;
     wanted[9 + epsilon] = 1;
     expect(tables == wanted && yarngravel_long_last_clock(tables.data()) == past - 2, "the form of an engine's fresh tables");
+}
+
+// a charge is as the header says: the ticket's bytes, the answers at the limits, and every byte of the ledger
+void try_charges() {
+    const size_t size = YARNGRAVEL_PRESS;
+    uint8_t ticket[YARNGRAVEL_TICKET + 1] = {0}, other[] = {9, 3};
+    std::vector<uint8_t> ledger(YARNGRAVEL_LEDGER, 0), wanted(ledger);
+    yarngravel_press(ticket, 0x04030201, 487, 0x0605);
+    const uint8_t press[] = {9, 2, 1, 2, 3, 4, 0xe7, 1, 5, 6};
+    expect(std::memcmp(ticket, press, sizeof press) == 0, "the form of a press ticket");
+    const auto charge = [&](uint32_t rate, size_t len) { return yarngravel_charge(rate, ticket, len, ledger.data(), ledger.size()); };
+    expect(charge(YARNGRAVEL_RATE + 1, 33) == YARNGRAVEL_BAD_SETUP, "1 for a rate of 60001, before 4");
+    expect(charge(1250, 9) == YARNGRAVEL_BAD_PRESS, "20 for a ticket of nine bytes");
+    expect(charge(1250, 1) == 0, "that a ticket of one byte passes");
+    expect(yarngravel_charge(1250, other, sizeof other, ledger.data(), ledger.size()) == 0, "that another kind passes");
+    expect(yarngravel_charge(1250, ticket, size, ledger.data(), ledger.size() - 1) == YARNGRAVEL_BAD_SHELF, "3 for a short ledger");
+    expect(ledger == wanted, "that a pass or a refusal changes no byte");
+    const uint64_t charged = charge(1250, size);
+    expect(yarngravel_number(charged) == 0 && yarngravel_entered(charged) && yarngravel_cents(charged) == 6088, "6088 for 487 at 1250");
+    const uint8_t start[] = {1, 0, 1, 2, 3, 4, 5, 6, 0xc8, 0x17, 0, 0};
+    std::memcpy(wanted.data(), start, sizeof start);
+    expect(ledger == wanted, "what a charge writes");
+    expect(charge(0, size) == YARNGRAVEL_CHARGED, "21 for the same bale");
+    yarngravel_press(ticket, 7, 1000, 0x0605);
+    expect(charge(0, size) == 0x100, "that a charge of 0 is a charge");
+    yarngravel_press(ticket, 8, 1000, 0x0605);
+    expect(yarngravel_cents(charge(YARNGRAVEL_RATE, size)) == 600000, "the largest charge");
+    expect(yarngravel_total_cents(yarngravel_total(0x0605, ledger.data(), ledger.size())) == 606088, "a grower's total");
+    expect(yarngravel_total(5, ledger.data(), ledger.size()) == 0, "another grower's");
+    expect(yarngravel_total(5, ledger.data(), 0) == YARNGRAVEL_BAD_SHELF, "3 for a total of no ledger");
+    ledger[0] = ledger[1] = 0xff;
+    yarngravel_press(ticket, 9, 1, 1);
+    expect(charge(1, size) == YARNGRAVEL_FULL_LEDGER, "22 where 512 or more are counted");
 }
 
 // a bundle takes 255 frames of at most 255 bytes each, and no byte more than there is room for
@@ -252,6 +285,7 @@ int main() {
     try_fresh();
     try_fresh_last();
     try_long_fresh();
+    try_charges();
     try_bundle();
     try_sizes();
     try_frames();

@@ -20,8 +20,8 @@ extern "C" {
 #endif
 
 /* The version of this header: major * 65536 + minor * 256 + patch, and as a text. */
-#define YARNGRAVEL_VERSION (2u * 65536u + 9u * 256u + 1u)
-#define YARNGRAVEL_VERSION_TEXT "2.9.1"
+#define YARNGRAVEL_VERSION (2u * 65536u + 11u * 256u + 0u)
+#define YARNGRAVEL_VERSION_TEXT "2.11.0"
 
 /* The version of the archive that is linked, in the form of YARNGRAVEL_VERSION. */
 uint32_t yarngravel_version(void);
@@ -80,10 +80,18 @@ static inline size_t yarngravel_long_bundle_size(uint32_t epsilon, size_t frames
     return YARNGRAVEL_LONG_BUNDLE((size_t)epsilon, frames);
 }
 
+/* Of ginning charges (yarngravel_charge): a press ticket, a ledger and the most bales that it holds, and the largest rate, in cents for a
+ * hundred pounds. */
+#define YARNGRAVEL_PRESS 10u       /* a press ticket has exactly this */
+#define YARNGRAVEL_PRESS_KIND 2u   /* its second byte; tickets of another kind pass without charge */
+#define YARNGRAVEL_LEDGER 5122u    /* a ledger has exactly this: a two-byte count, low byte first, and ten bytes for each bale */
+#define YARNGRAVEL_BALES 512u
+#define YARNGRAVEL_RATE 60000u
+
 /* Numbers in an answer. 0: accepted. Of a call: */
-#define YARNGRAVEL_BAD_SETUP 1u    /* the setup is not in its limits */
+#define YARNGRAVEL_BAD_SETUP 1u    /* the setup is not in its limits; of a charge: the rate is above 60000 */
 #define YARNGRAVEL_BAD_CLOCK 2u    /* the clock is not below B, an engine's not below 2^63 */
-#define YARNGRAVEL_BAD_SHELF 3u    /* the shelf has not its exact length */
+#define YARNGRAVEL_BAD_SHELF 3u    /* the shelf has not its exact length; of a charge and a total: the ledger */
 #define YARNGRAVEL_BAD_TICKET 4u   /* the ticket is longer than 32 bytes (asked even if nothing is to be sent) */
 #define YARNGRAVEL_BAD_BUNDLE 5u   /* the bundle does not end exactly after its last entry */
 #define YARNGRAVEL_BAD_BUFFERS 6u  /* the outgoing, verdict, hand-out or text buffer is too short; of the words also: a verdict
@@ -98,14 +106,18 @@ static inline size_t yarngravel_long_bundle_size(uint32_t epsilon, size_t frames
 #define YARNGRAVEL_BAD_COUNT 15u   /* a count for this clock or later is above n - 1; an observer does not ask it */
 #define YARNGRAVEL_REPEAT 16u      /* that station and r is on the shelf already */
 #define YARNGRAVEL_TOO_MANY 18u    /* the engine holds 64 messages already; no station or observer asks it */
+/* Of a ticket, from a charge: */
+#define YARNGRAVEL_BAD_PRESS 20u   /* a ticket of kind 2 has not 10 bytes with count 9, or its pounds are not 1 to 1000 */
+#define YARNGRAVEL_CHARGED 21u     /* the bale is in the ledger already */
+#define YARNGRAVEL_FULL_LEDGER 22u /* the ledger holds 512 bales already */
 
 /* A number in English, for a log. */
 static inline const char *yarngravel_number_text(unsigned number) {
     switch (number) {
     case 0: return "accepted";
-    case YARNGRAVEL_BAD_SETUP: return "the setup is not in its limits";
+    case YARNGRAVEL_BAD_SETUP: return "the setup is not in its limits (of a charge: the rate)";
     case YARNGRAVEL_BAD_CLOCK: return "the clock is not below B (an engine's: 2^63)";
-    case YARNGRAVEL_BAD_SHELF: return "the shelf has not its exact length";
+    case YARNGRAVEL_BAD_SHELF: return "the shelf (of a charge: the ledger) has not its exact length";
     case YARNGRAVEL_BAD_TICKET: return "the ticket is longer than 32 bytes";
     case YARNGRAVEL_BAD_BUNDLE: return "the bundle does not end exactly after its last entry";
     case YARNGRAVEL_BAD_BUFFERS: return "a buffer is too short, or a verdict is none";
@@ -117,6 +129,9 @@ static inline const char *yarngravel_number_text(unsigned number) {
     case YARNGRAVEL_BAD_COUNT: return "the frame counts more events than there can be";
     case YARNGRAVEL_REPEAT: return "the frame is on the shelf already";
     case YARNGRAVEL_TOO_MANY: return "the engine holds 64 messages already";
+    case YARNGRAVEL_BAD_PRESS: return "the press ticket has not its form, or its pounds are out of range";
+    case YARNGRAVEL_CHARGED: return "the bale is charged already";
+    case YARNGRAVEL_FULL_LEDGER: return "the ledger holds 512 bales already";
     default: return "no number of this library";
     }
 }
@@ -174,6 +189,14 @@ static inline unsigned yarngravel_next(uint64_t answer) { return (unsigned)(answ
 /* frames on the shelf that are due at most `within` ticks after the clock */
 static inline unsigned yarngravel_within(uint64_t answer) { return (unsigned)(answer >> 32 & 0xffffu); }
 
+/* The fields of a charge's answer: whether the ledger got the bale (a charge of 0 cents is a charge), and the charge in cents, 0 where a
+   ticket passed or was refused. */
+static inline bool yarngravel_entered(uint64_t answer) { return answer >> 8 & 1u; }
+static inline uint32_t yarngravel_cents(uint64_t answer) { return (uint32_t)(answer >> 32); }
+
+/* A grower's total in cents, from a total's answer. */
+static inline uint64_t yarngravel_total_cents(uint64_t answer) { return answer >> 8; }
+
 /* A bundle, for what is heard between two calls. This one makes it empty, and answers its length, 1. */
 static inline size_t yarngravel_bundle_start(uint8_t *bundle) {
     bundle[0] = 0;
@@ -216,6 +239,15 @@ static inline bool yarngravel_walk_next(struct yarngravel_walk *walk, uint32_t e
     walk->frame += walk->len;
     walk->len = yarngravel_frame_len(epsilon, walk->frame);
     return true;
+}
+
+/* Makes a press ticket of a bale, its net pounds, 1 to 1000, and its grower. */
+static inline void yarngravel_press(uint8_t ticket[YARNGRAVEL_PRESS], uint32_t bale, uint16_t pounds, uint16_t grower) {
+    ticket[0] = YARNGRAVEL_PRESS - 1u;
+    ticket[1] = YARNGRAVEL_PRESS_KIND;
+    for (unsigned i = 0; i < 4; i++) ticket[2 + i] = (uint8_t)(bale >> 8 * i);
+    for (unsigned i = 0; i < 2; i++) ticket[6 + i] = (uint8_t)(pounds >> 8 * i);
+    for (unsigned i = 0; i < 2; i++) ticket[8 + i] = (uint8_t)(grower >> 8 * i);
 }
 
 /* The length of an engine's frame, and the walk over an engine's hand-out, which starts as a station's does. */
@@ -350,6 +382,38 @@ uint64_t yarngravel_listen(uint32_t n, uint32_t epsilon, uint32_t delta, uint32_
                            uint8_t last[YARNGRAVEL_LAST], uint8_t *shelf, size_t shelf_len, const uint8_t *bundle,
                            size_t bundle_len, uint8_t *verdicts, size_t verdicts_len, uint8_t *handout,
                            size_t handout_len);
+
+/* Charges one ticket that was handed out, at a rate in cents for a hundred pounds. Tickets are charged in the order of the hand-outs, one a
+ * call (yarngravel_charge_next does so for a whole hand-out); two boards that start with empty ledgers and hand out the same messages in the
+ * same order, charged at the same rate, have the same totals, however the messages were cut into hand-outs. That is proved.
+ *   rate      0 to YARNGRAVEL_RATE
+ *   ticket    at most 32 bytes. One whose second byte is not YARNGRAVEL_PRESS_KIND, or that has fewer than two, passes: the answer is 0. A
+ *             press ticket is a count of 9, the kind, bale (four bytes), net pounds (two) and grower (two), low bytes first
+ *             (yarngravel_press)
+ *   ledger    in and out, exactly YARNGRAVEL_LEDGER bytes; zeros at the start. Its count, above 512, reads as 512. A charge, of 0 cents too,
+ *             writes bale (four bytes), grower (two) and charge (four) behind the last, and the count; nothing else changes a byte of it
+ * The charge is pounds * rate / 100, rounded to the nearest cent, a half upward: 487 pounds at 1250 is 6088. It is at most 600000.
+ * Refusals: 1 (the rate), 3 (the ledger's length), 4; then of a press ticket 20, 21, 22. A refused ticket is still shown.
+ */
+uint64_t yarngravel_charge(uint32_t rate, const uint8_t *ticket, size_t ticket_len, uint8_t *ledger, size_t ledger_len);
+
+/* The total of a grower: the sum of the charges of that grower's bales in the ledger, which is only read.
+ * Refusal: 3.
+ */
+uint64_t yarngravel_total(uint16_t grower, const uint8_t *ledger, size_t ledger_len);
+
+/* Goes on to the next frame of a hand-out, as yarngravel_walk_next, and charges its ticket; the charge's answer is left in *charged.
+ *   struct yarngravel_walk walk = yarngravel_walk_of(answer, handout);
+ *   uint64_t charged;
+ *   while (yarngravel_charge_next(&walk, epsilon, rate, ledger, &charged)) show(walk.frame, walk.len, charged);
+ */
+static inline bool yarngravel_charge_next(struct yarngravel_walk *walk, uint32_t epsilon, uint32_t rate,
+                                          uint8_t ledger[YARNGRAVEL_LEDGER], uint64_t *charged) {
+    if (!yarngravel_walk_next(walk, epsilon)) return false;
+    size_t front = 7u + 2u * (size_t)epsilon;
+    *charged = yarngravel_charge(rate, walk->frame + front, walk->len - front, ledger, YARNGRAVEL_LEDGER);
+    return true;
+}
 
 /* An engine: a plain station for the workbench, with clocks of 64 bits that are never reduced. On every run from fresh tables that
  * keeps drift and delay, steps by 1 to epsilon, hears only what was sent in it, stays below 2^63 and never holds more than 64

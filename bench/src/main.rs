@@ -1,6 +1,6 @@
 //! Times the tick, an observer's call and the poll: the proved library, the oracle and a twin tuned by
-//! hand, on the same calls in one run; and the tick of an engine with long clocks beside its station's. First
-//! all must agree on every call, byte for byte, and on random ones.
+//! hand, on the same calls in one run; the tick of an engine with long clocks beside its station's; and
+//! charges and totals. First all must agree on every call, byte for byte, and on random ones.
 
 mod agreement;
 mod programs;
@@ -42,6 +42,14 @@ fn main() {
         let (answer, _) = agreement::agree(case);
         assert!(answer & 0xffff == 0, "an engine's call is refused or mends");
     }
+    // Charges and totals on a ledger with room for one bale more, and on one half as full.
+    let half = workloads::charges(["charge", "total"], 256);
+    let full = workloads::charges(["charge", "total"], 511);
+    for case in half.0.cases.iter().chain(&full.0.cases) {
+        let (answer, _) = agreement::agree(case);
+        assert!(answer & 0xffff == 0x100, "a workload's ticket is not charged");
+    }
+    half.1.cases.iter().chain(&full.1.cases).for_each(|case| drop(agreement::agree(case)));
     agreement::agree_on_random(RANDOM);
     println!("all agree on the workloads' calls and on {RANDOM} random ones\n");
     let mut rows: Vec<Row> = table.iter().map(Row::of).collect();
@@ -50,6 +58,9 @@ fn main() {
     print_table(&rows);
     print_observers(&rows);
     print_engines(&rows, &engines);
+    println!("\nledger          bales    proved    oracle   proved/oracle    to half the bales");
+    print_ledger(&half.0, &full.0);
+    print_ledger(&half.1, &full.1);
     println!("\ngrowth              frames    proved    oracle      twin");
     shelves[0].iter().zip(&shelves[1]).for_each(|(half, full)| print_growth(half, full));
     polls[0].iter().zip(&polls[1]).for_each(|(half, full)| print_growth(half, full));
@@ -101,6 +112,14 @@ fn print_engines(rows: &[Row], engines: &[Workload<LongCase>]) {
         print!("{name:<14}{frames:>7.0}{proved:>10.0}{oracle:>10.0}");
         println!("{:>16.2}{:>19.2}", proved / oracle, proved / station);
     }
+}
+
+/// A call on a ledger, and how much longer it takes where that holds twice the bales.
+fn print_ledger<C: Case>(half: &Workload<C>, full: &Workload<C>) {
+    let [before, after] = timing::measure([half, full]);
+    let (proved, oracle) = (after[0], after[1]);
+    print!("{:<14}{:>7.0}{proved:>10.0}{oracle:>10.0}", full.name, full.frames());
+    println!("{:>16.2}{:>21.2}", proved / oracle, proved / before[0]);
 }
 
 /// How much longer a call takes where the shelf has twice the frames or a little more.

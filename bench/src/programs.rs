@@ -2,7 +2,7 @@
 
 use crate::twin;
 use oracle::abi::{self, library};
-use oracle::generate::{ListenCase, LongCase, PollCase, TickCase};
+use oracle::generate::{ChargeCase, ListenCase, LongCase, PollCase, TickCase, TotalCase};
 
 /// Makes a call and answers its packed answer.
 pub type Program<C> = fn(&mut C) -> u64;
@@ -12,7 +12,7 @@ pub type Each = Vec<f64>;
 
 /// A call that is timed.
 pub trait Case: Clone + PartialEq + 'static {
-    /// The proved library, the oracle, the twin. An engine has no twin.
+    /// The proved library, the oracle, the twin. An engine, a charge and a total have no twin.
     const PROGRAMS: &'static [Program<Self>];
 
     fn shelf(&self) -> &[u8];
@@ -75,6 +75,33 @@ impl Case for LongCase {
     fn put_back(&mut self, given: &Self) {
         self.state = given.state;
         self.holdback.copy_from_slice(&given.holdback);
+    }
+}
+
+/// The ledger stands for the shelf, its bales for frames.
+impl Case for ChargeCase {
+    const PROGRAMS: &'static [Program<Self>] =
+        &[library::charge, |case| abi::pack_charge(case.run())];
+
+    fn shelf(&self) -> &[u8] {
+        &self.ledger
+    }
+
+    fn put_back(&mut self, given: &Self) {
+        self.ledger.copy_from_slice(&given.ledger);
+    }
+}
+
+impl Case for TotalCase {
+    const PROGRAMS: &'static [Program<Self>] =
+        &[library::total, |case| abi::pack_total(case.run())];
+
+    fn shelf(&self) -> &[u8] {
+        &self.ledger
+    }
+
+    fn put_back(&mut self, given: &Self) {
+        self.ledger.copy_from_slice(&given.ledger);
     }
 }
 

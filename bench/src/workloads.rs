@@ -3,7 +3,9 @@
 use crate::programs::Case;
 use crate::yard::{Engines, Yard};
 use oracle::board::{judge, Owner};
-use oracle::generate::{frames, ListenCase, LongCase, PollCase, Prng, TickCase};
+use oracle::generate::{
+    frames, ledgers, ChargeCase, ListenCase, LongCase, PollCase, Prng, TickCase, TotalCase,
+};
 use oracle::holdback::Holdback;
 use oracle::{batch, Setup, Timestamp};
 
@@ -45,6 +47,19 @@ pub fn engines() -> Vec<Workload<LongCase>> {
     let idle = Workload { name: "idle tick", cases: beside((vec![], idle())) };
     let typical = Workload { name: "typical yard", cases: beside(steady(TYPICAL, 16, TYPICAL.n)) };
     vec![idle, typical, Workload { name: "nudged yard", cases: nudged_engines() }]
+}
+
+/// Charges of new bales on ledgers that hold so many already, and totals of one of their growers.
+pub fn charges(name: [&'static str; 2], held: u16) -> (Workload<ChargeCase>, Workload<TotalCase>) {
+    let mut rng = Prng::new(7);
+    let (mut charges, mut totals) = (Vec::new(), Vec::new());
+    for _ in 0..CALLS {
+        let ledger = ledgers::holding(&mut rng, held);
+        let payload = ledgers::press(u32::MAX, rng.range(1, 1_000) as u16, 1);
+        charges.push(ChargeCase { rate: 1_250, payload, ledger: ledger.clone() });
+        totals.push(TotalCase { grower: 1, ledger });
+    }
+    (Workload { name: name[0], cases: charges }, Workload { name: name[1], cases: totals })
 }
 
 /// Calls of a yard in which nobody sends.

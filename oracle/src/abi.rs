@@ -49,6 +49,11 @@ const POLL_HAS_NEXT: Field = Field::new(8, 1);
 const POLL_NEXT: Field = Field::new(16, 16);
 const POLL_WITHIN: Field = Field::new(32, 16);
 
+const CHARGE_ENTERED: Field = Field::new(8, 1);
+const CHARGE_CENTS: Field = Field::new(32, 32);
+
+const TOTAL_CENTS: Field = Field::new(8, 56);
+
 /// The number in any answer.
 pub fn number(word: u64) -> u8 {
     NUMBER.get(word) as u8
@@ -137,6 +142,28 @@ pub fn unpack_poll(word: u64) -> Outlook {
     Outlook { next, within: POLL_WITHIN.get(word) as u16 }
 }
 
+/// The answer of a charge: whether the ledger got the bale, and its cents; or the number.
+pub fn pack_charge(answer: Result<Option<u32>, u8>) -> u64 {
+    match answer {
+        Ok(None) => 0,
+        Ok(Some(cents)) => CHARGE_ENTERED.put(1) | CHARGE_CENTS.put(cents.into()),
+        Err(number) => pack_refusal(number),
+    }
+}
+
+/// An accepted charge's answer from its packed form.
+pub fn unpack_charge(word: u64) -> Option<u32> {
+    (CHARGE_ENTERED.get(word) == 1).then_some(CHARGE_CENTS.get(word) as u32)
+}
+
+/// The answer of a total: its cents, or the number.
+pub fn pack_total(answer: Result<u64, u8>) -> u64 {
+    match answer {
+        Ok(cents) => TOTAL_CENTS.put(cents),
+        Err(number) => pack_refusal(number),
+    }
+}
+
 /// The answer of a refused call of any function but these two.
 pub fn pack_refusal(number: u8) -> u64 {
     NUMBER.put(number.into())
@@ -149,9 +176,9 @@ pub mod library_in;
 pub mod library {
     //! The calls themselves.
 
+    use crate::generate::{ChargeCase, TickCase, TotalCase, WordsCase, WriteCase};
     use crate::generate::{CompareCase, FreshCase, FreshLastCase, ListenCase, PollCase, ReadCase};
     use crate::generate::{LongCase, LongFreshCase, LongReadCase, LongWriteCase};
-    use crate::generate::{TickCase, WordsCase, WriteCase};
     use crate::{ClockState, LastClock, LongState, Setup};
 
     #[link(name = "yarngravel", kind = "static")]
@@ -278,6 +305,16 @@ pub mod library {
             delivery: *mut u8,
             delivery_len: usize,
         ) -> u64;
+
+        fn yarngravel_charge(
+            rate: u32,
+            payload: *const u8,
+            payload_len: usize,
+            ledger: *mut u8,
+            ledger_len: usize,
+        ) -> u64;
+
+        fn yarngravel_total(grower: u16, ledger: *const u8, ledger_len: usize) -> u64;
 
         fn yarngravel_long_fresh(
             n: u32,
@@ -493,6 +530,20 @@ pub mod library {
                 case.delivery.len(),
             )
         }
+    }
+
+    /// A charge.
+    pub fn charge(case: &mut ChargeCase) -> u64 {
+        let (payload, payload_len) = (case.payload.as_ptr(), case.payload.len());
+        let (ledger, ledger_len) = (case.ledger.as_mut_ptr(), case.ledger.len());
+        // SAFETY: as in `tick`.
+        unsafe { yarngravel_charge(case.rate, payload, payload_len, ledger, ledger_len) }
+    }
+
+    /// A total.
+    pub fn total(case: &mut TotalCase) -> u64 {
+        // SAFETY: as in `tick`.
+        unsafe { yarngravel_total(case.grower, case.ledger.as_ptr(), case.ledger.len()) }
     }
 
     /// An engine's start.

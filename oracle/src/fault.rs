@@ -1,4 +1,4 @@
-//! A hundred and twenty-four small faults that can be planted in the oracle, to show that a comparison finds them.
+//! A hundred and forty-four small faults that can be planted in the oracle, to show that a comparison finds them.
 //! Without the feature `plant` nothing of this is left in the code.
 //!
 //!  1. the writer alone refuses a buffer of exactly the frame's length
@@ -125,10 +125,30 @@
 //! 122. the bytes by which a queue grew are not cleared
 //! 123. a queue with a narrow frame in it is emptied past V
 //! 124. narrow tables are replaced past V
+//! 130. a half cent is rounded down
+//! 131. a rate of 60,001 passes 1
+//! 132. 21 is asked before 20
+//! 133. a 513th bale is charged, over the last one
+//! 134. a ticket that passes changes a byte of the ledger
+//! 135. a bale is put over the one before it
+//! 136. a charge of 0 is taken for a pass
+//! 137. a count above 512 reads as 0
+//! 138. 22 is asked before 21
+//! 139. a press ticket of more than 10 bytes passes 20
+//! 140. the count of a press ticket is not asked about
+//! 141. 1,001 pounds pass 20
+//! 142. 0 pounds pass 20
+//! 143. bales and charges are read with the high byte first
+//! 144. every part of a cent is rounded up
+//! 145. a total takes in every grower whose low byte is the same
+//! 146. a total leaves out the 512th bale
+//! 147. 3 is asked before 1
+//! 148. 21 is not asked
+//! 149. 4 is not asked
 
 use std::ops::RangeInclusive;
 
-/// How many faults there are.
+/// The last of those that are numbered one after the other; those of charges stand behind them.
 pub const COUNT: u8 = 124;
 /// Those that are in the program `yard` alone.
 pub const OF_YARD: RangeInclusive<u8> = 39..=47;
@@ -136,6 +156,13 @@ pub const OF_YARD: RangeInclusive<u8> = 39..=47;
 pub const OF_ENGINES: RangeInclusive<u8> = 48..=66;
 /// Those that are in calls with both pairs (02, 2.10) alone.
 pub const OF_WIDER: RangeInclusive<u8> = 70..=124;
+/// Those that are in charges and totals (02, 2.11) alone.
+pub const OF_CHARGES: RangeInclusive<u8> = 130..=149;
+
+/// All faults.
+pub fn all() -> impl Iterator<Item = u8> {
+    (1..=COUNT).chain(OF_CHARGES)
+}
 
 #[cfg(feature = "plant")]
 mod switch {

@@ -11,6 +11,7 @@ pub mod fault;
 pub mod frame;
 pub mod generate;
 pub mod holdback;
+pub mod ledger;
 pub mod limits;
 pub mod long;
 pub mod node;

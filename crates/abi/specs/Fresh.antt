@@ -43,6 +43,6 @@ unfoldable pub longFreshBytes : Setup → ℕ → ℕ → List ℕ → List ℕ
 longFreshBytes s own clock tables =
     startBytes (longFreshNumber s own clock) (longTablesBytes (widened (fresh (s .epsilon) clock))) tables
 
--- the version 2.9.1: major, minor and patch in a byte each, the patch lowest
+-- the version 2.11.0: major, minor and patch in a byte each, the patch lowest
 abbrev pub version : ℕ
-version = 133377
+version = 133888

@@ -14,7 +14,7 @@ use lib.ListN.{length, take, drop, getD, set, replicate, getElem?}
 use lib.ListN.{length-append, length-drop, length-replicate, take-append-drop, List·getD-eq-default}
 use borrow.Author.Tests.{eqb-true, eq-eqb, leb-true}
 use lib.Seq.{take-nil, length-take-le, take-append-seam, drop-append-seam, drop-append-add, drop-drop}
-use Rattle.laws.specs.Lists.{tab, every, any, select, selectFrom, sameList, leading, insertAt, overlay, joined, largest, smallest, padded}
+use Rattle.laws.specs.Lists.{tab, every, any, select, selectFrom, sameList, leading, insertAt, overlay, foldLeft, joined, largest, smallest, padded}
 use Rattle.laws.proofs.Numbers.{lt-or-ge, true-or-false, clash, and-intro, and-left, and-right, or-left, or-right, or-cases, or-false-left, or-false-right, false-of-no}
 
 module _ {A : Type 0} where
@@ -678,6 +678,12 @@ module _ {A B : Type 0} where
   unfolding joined
   joined-append f [] b = refl
   joined-append f (x ∷ a) b = rw (joined-append f a b, append-assoc)
+
+  -- folds one after the other
+  pub foldLeft-append : (f : B → A → B) (x : B) (a b : List A) → foldLeft f x (a ++ b) ≡ foldLeft f (foldLeft f x a) b
+  unfolding foldLeft
+  foldLeft-append f x [] b = refl
+  foldLeft-append f x (y ∷ a) b = foldLeft-append f (f x y) a b
 
   -- by the first k elements and the others
   pub joined-halves : (f : A → List B) (k : ℕ) (l : List A) → joined f l ≡ joined f (take k l) ++ joined f (drop k l)

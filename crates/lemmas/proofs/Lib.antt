@@ -15,6 +15,7 @@ pub mod OneTick
 pub mod OneListening
 pub mod OneCall
 pub mod LongTick
+pub mod Ledgers
 pub mod NextCall
 pub mod Comparing
 pub mod Schedules

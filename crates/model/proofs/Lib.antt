@@ -4,6 +4,7 @@ pub mod Comparisons
 pub mod Polls
 pub mod Observers
 pub mod Engines
+pub mod LedgerSamples
 pub mod ComputingWider
 pub mod Widening
 pub mod Steady

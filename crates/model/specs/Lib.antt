@@ -12,6 +12,7 @@ pub mod Tick
 pub mod Poll
 pub mod Observer
 pub mod Long
+pub mod Ledger
 pub mod Schedule
 pub mod Wider
 pub mod WiderCalls

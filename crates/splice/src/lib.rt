@@ -1,6 +1,6 @@
 // Changes to a byte buffer in place: copy into it, move a part of it down, clear a part, insert into and cut from the
-// bytes in use, and write a number in two bytes or in eight. And what stands at a position of any bytes, one of them,
-// two or eight as a number, and a part of them.
+// bytes in use, and write a number in two bytes, four or eight. And what stands at a position of any bytes, one of them,
+// two, four or eight as a number, and a part of them.
 //
 // Each contract is one equation: the buffer at exit is a definition of `specs/Bytes.antt` at the
 // buffer at entry. Each `requires` keeps the indices within the buffer; the callers are inside this
@@ -206,18 +206,34 @@ pub fn put_u16(buf: &mut [u8], at: usize, value: usize)
     buf[at + 1] = (value / 256) as u8;
 }
 
-// Writes `value` at index `at` as eight bytes, the low one first.
-pub fn put_u64(buf: &mut [u8], at: usize, value: usize)
-    requires { ⌜ at + 8 ≤ length (now buf) ⌝ }
-    ensures { λ _. ⌜ now (buf .exit) ≡ pasted (now (buf .entry)) at (lowFirst 8 value) ⌝ }
+// Writes `value` at index `at` as `size` bytes, the low one first.
+fn put_low_first(buf: &mut [u8], at: usize, size: usize, value: usize)
+    requires { ⌜ at + size ≤ length (now buf) ⌝ }
+    ensures { λ _. ⌜ now (buf .exit) ≡ pasted (now (buf .entry)) at (lowFirst size value) ⌝ }
 {
     let mut rest = value;
     let mut j = 0;
-    while j < 8 {
+    while j < size {
         buf[at + j] = (rest % 256) as u8;
         rest = rest / 256;
         j += 1;
     }
+}
+
+// The same as four bytes.
+pub fn put_u32(buf: &mut [u8], at: usize, value: usize)
+    requires { ⌜ at + 4 ≤ length (now buf) ⌝ }
+    ensures { λ _. ⌜ now (buf .exit) ≡ pasted (now (buf .entry)) at (lowFirst 4 value) ⌝ }
+{
+    put_low_first(buf, at, 4, value);
+}
+
+// The same as eight bytes.
+pub fn put_u64(buf: &mut [u8], at: usize, value: usize)
+    requires { ⌜ at + 8 ≤ length (now buf) ⌝ }
+    ensures { λ _. ⌜ now (buf .exit) ≡ pasted (now (buf .entry)) at (lowFirst 8 value) ⌝ }
+{
+    put_low_first(buf, at, 8, value);
 }
 
 // The byte at a position; past the end it reads as 0.
@@ -239,7 +255,7 @@ pub fn two_at(s: &[u8], at: usize) -> usize
 }
 
 // The number that four bytes make, the last of them the highest. The compiler reads them at once.
-fn four_at(s: &[u8], at: usize) -> u64
+pub fn four_at(s: &[u8], at: usize) -> u64
     requires { ⌜ at + 4 ≤ length (now s) ⌝ }
     ensures { λ r. ⌜ (r ≡ numberOf 4 (λ k. getD (now (s .entry)) (at + (3 - k)) 0)) × (r < 2 ^ 32) ⌝ }
 {

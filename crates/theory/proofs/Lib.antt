@@ -41,5 +41,6 @@ pub mod Along
 pub mod Demand3
 pub mod Changeover
 pub mod Through
+pub mod Charges
 pub mod WiderAny
 pub mod WiderReaders

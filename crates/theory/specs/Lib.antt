@@ -8,3 +8,4 @@ pub mod LongAny
 pub mod Changeover
 pub mod Through
 pub mod WiderAny
+pub mod Charges

@@ -3,6 +3,7 @@
 mod checks;
 mod common;
 mod group;
+mod ledger;
 mod long;
 mod memory;
 mod nudges;

@@ -98,11 +98,13 @@ fn compare_meets_every_number_and_finds_every_fault() {
             "500",
             "--wider",
             "40000",
+            "--charges",
+            "20000",
         ])
         .output();
     let output = output.unwrap();
     let text = String::from_utf8(output.stdout).unwrap();
     assert!(output.status.success(), "{text}");
     let found = text.lines().filter(|line| line.starts_with("fault ")).count();
-    assert_eq!(found, oracle::fault::COUNT.into());
+    assert_eq!(found, oracle::fault::all().count());
 }

@@ -12,6 +12,7 @@ type Row = (&'static str, &'static [(u8, u64)]);
 const CALLS: u64 = 200_000;
 const ENGINES: u64 = 200_000;
 const WIDER: u64 = 100_000;
+const CHARGES: u64 = 50_000;
 const TRACES: u64 = 4_000;
 
 /// Of calls. The numbers of `no line` are verdicts for which the words answered 6. For `sent` and
@@ -173,6 +174,18 @@ const OF_WIDER: [Row; 22] = [
     ("in writer wide", &[(0, 800), (1, 730)]),
 ];
 
+/// Of charges and totals; what is no number of an answer is a kind: see `charges`.
+const OF_CHARGES: [Row; 5] = [
+    (
+        "charge",
+        &[(0, 7_000), (1, 1_600), (3, 800), (4, 800), (20, 2_800), (21, 4_000), (22, 6_000)],
+    ),
+    ("charge held", &[(0, 400), (1, 8_500), (2, 350), (3, 6_000), (4, 5_000)]),
+    ("charge made", &[(0, 350), (1, 1_300), (2, 400), (3, 3_500), (4, 1_000)]),
+    ("total", &[(0, 5_500), (3, 750)]),
+    ("total above 0", &[(0, 4_000), (1, 1_500)]),
+];
+
 /// Of traces. 3 and 6 are not among them: the program's own buffers are right.
 const OF_TRACES: [Row; 4] = [
     ("trace", &[(0, 2_200), (1, 160), (2, 66), (4, 69), (5, 570)]),
@@ -248,14 +261,16 @@ impl Coverage {
     }
 
     /// The numbers that were met too rarely in a run of this many calls, calls of engines, calls with
-    /// both pairs, traces and rehearsals.
-    pub fn gaps(&self, [calls, engines, wider, traces, rehearsals]: [u64; 5]) -> Vec<String> {
+    /// both pairs, charges and totals, traces and rehearsals.
+    pub fn gaps(&self, lengths: [u64; 6]) -> Vec<String> {
+        let [calls, engines, wider, charges, traces, rehearsals] = lengths;
         let of_calls = self.below(&OF_CALLS, calls, CALLS);
         let of_engines = self.below(&OF_ENGINES, engines, ENGINES);
         let of_wider = self.below(&OF_WIDER, wider, WIDER);
+        let of_charges = self.below(&OF_CHARGES, charges, CHARGES);
         let of_traces = self.below(&OF_TRACES, traces, TRACES);
         let of_yards = self.below(&OF_YARDS, rehearsals, TRACES);
-        [of_calls, of_engines, of_wider, of_traces, of_yards].concat()
+        [of_calls, of_engines, of_wider, of_charges, of_traces, of_yards].concat()
     }
 
     /// The numbers of some rows that a run of this length met less often than it should.

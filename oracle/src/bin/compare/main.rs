@@ -1,17 +1,18 @@
 //! Compares the oracle with the proved library and the proved programs, call by call.
 //!
 //! ```text
-//! compare --replay PATH --yard PATH [--seed S] [--calls N] [--engines N] [--wider N] [--traces N] [--plant K]
-//! compare selfcheck [--seed S] [--calls N] [--engines N] [--wider N] [--traces N]
+//! compare --replay PATH --yard PATH [--seed S] [--calls N] [--engines N] [--wider N] [--charges N] [--traces N] [--plant K]
+//! compare selfcheck [--seed S] [--calls N] [--engines N] [--wider N] [--charges N] [--traces N]
 //! ```
 //!
 //! The first form needs the feature `abi`; `--plant K` (feature `plant`) puts fault K into the
 //! oracle, and the comparison should then fail. The second form (feature `plant`) needs no
 //! library: it compares the oracle with itself, and then with itself and each fault in turn; for
-//! those of `yard` it makes no calls, for those of engines only calls of engines, and for those of
-//! calls with both pairs only such. The library has none of the latter yet: once it has, the feature
+//! those of `yard` it makes no calls, for those of engines only calls of engines, for those of
+//! calls with both pairs only such, and for those of charges only charges and totals. The library has none of the latter yet: once it has, the feature
 //! `wider` lets the first form make them.
 
+mod charges;
 mod coverage;
 mod engines;
 mod nudges;
@@ -40,6 +41,7 @@ struct Options {
     calls: u64,
     engines: u64,
     wider: u64,
+    charges: u64,
     traces: u64,
     fault: u8,
     replay: Option<String>,
@@ -54,6 +56,7 @@ impl Options {
             calls: 200_000,
             engines: 200_000,
             wider: 100_000,
+            charges: 50_000,
             traces: 2_000,
             fault: 0,
             replay: None,
@@ -71,6 +74,7 @@ impl Options {
                 "--calls" => options.calls = number()?,
                 "--engines" => options.engines = number()?,
                 "--wider" => options.wider = number()?,
+                "--charges" => options.charges = number()?,
                 "--traces" => options.traces = number()?,
                 "--plant" => options.fault = number()?.min(255) as u8,
                 "--replay" => options.replay = Some(value),
@@ -82,8 +86,8 @@ impl Options {
     }
 
     fn check(self) -> Result<Self, String> {
-        if self.fault > fault::COUNT {
-            return Err(format!("--plant: faults are 1 to {}", fault::COUNT));
+        if self.fault > 0 && !fault::all().any(|fault| fault == self.fault) {
+            return Err(format!("--plant: there is no fault {}", self.fault));
         }
         if (self.selfcheck || self.fault > 0) && !cfg!(feature = "plant") {
             return Err("planting faults needs the feature plant".into());
@@ -115,11 +119,13 @@ fn compare<'s>(
 ) -> (Comparison<'s>, Result<(), String>) {
     let (mut rng, mut other) = (Prng::new(options.seed), Prng::new(!options.seed));
     let mut third = Prng::new(options.seed ^ 0x5555);
+    let mut fourth = Prng::new(options.seed ^ 0xaaaa);
     let mut comparison = Comparison::new(left, right);
     let result = comparison
         .run_calls(&mut rng, options.calls)
         .and_then(|()| comparison.run_engines(&mut other, options.engines))
         .and_then(|()| comparison.run_wider(&mut third, options.wider))
+        .and_then(|()| comparison.run_charges(&mut fourth, options.charges))
         .and_then(|()| comparison.run_traces(&mut rng, options.traces))
         .and_then(|()| comparison.run_yards(&mut rng, options.traces));
     (comparison, result.map_err(|difference| format!("seed {}, {difference}", options.seed)))
@@ -136,15 +142,17 @@ fn compare_alike(
     result?;
     println!("{}", done.coverage);
     let (seconds, seed) = (start.elapsed().as_secs_f64(), options.seed);
-    let Comparison { calls, engine_calls, wider_calls, pairs, traces, rehearsals, .. } = done;
+    let Comparison { calls, engine_calls, wider_calls, charge_calls, pairs, .. } = done;
+    let Comparison { traces, rehearsals, .. } = done;
     println!(
         "{calls} calls, {traces} traces and {rehearsals} rehearsals alike, seed {seed}, {seconds:.1} s"
     );
     let engines = engine_calls - pairs;
     println!("{engines} of the calls are of engines, {pairs} of a node beside one");
-    println!("{wider_calls} of the calls have both pairs");
-    let plain = calls - engine_calls - wider_calls;
-    match done.coverage.gaps([plain, engine_calls, wider_calls, traces, rehearsals]) {
+    println!("{wider_calls} of the calls have both pairs, {charge_calls} are charges and totals");
+    let plain = calls - engine_calls - wider_calls - charge_calls;
+    let lengths = [plain, engine_calls, wider_calls, charge_calls, traces, rehearsals];
+    match done.coverage.gaps(lengths) {
         gaps if gaps.is_empty() => Ok(()),
         gaps => Err(format!("met too rarely: {}", gaps.join(", "))),
     }
@@ -186,13 +194,16 @@ fn compare_with_library(options: &Options) -> Result<(), String> {
 fn for_fault(options: &Options, fault: u8) -> Options {
     let mut options = options.clone();
     if fault::OF_YARD.contains(&fault) {
-        (options.calls, options.engines, options.wider) = (0, 0, 0);
+        (options.calls, options.engines, options.wider, options.charges) = (0, 0, 0, 0);
     }
     if fault::OF_ENGINES.contains(&fault) {
-        (options.calls, options.wider, options.traces) = (0, 0, 0);
+        (options.calls, options.wider, options.charges, options.traces) = (0, 0, 0, 0);
     }
     if fault::OF_WIDER.contains(&fault) {
-        (options.calls, options.engines, options.traces) = (0, 0, 0);
+        (options.calls, options.engines, options.charges, options.traces) = (0, 0, 0, 0);
+    }
+    if fault::OF_CHARGES.contains(&fault) {
+        (options.calls, options.engines, options.wider, options.traces) = (0, 0, 0, 0);
     }
     options
 }
@@ -200,7 +211,7 @@ fn for_fault(options: &Options, fault: u8) -> Options {
 /// The oracle against itself, then against itself with each fault.
 fn selfcheck(options: &Options) -> Result<(), String> {
     compare_alike(options, &mut Oracle { fault: 0 }, &mut Oracle { fault: 0 })?;
-    for fault in 1..=fault::COUNT {
+    for fault in fault::all() {
         let (mut sound, mut faulty) = (Oracle { fault: 0 }, Oracle { fault });
         let (done, result) = compare(&for_fault(options, fault), &mut sound, &mut faulty);
         let (what, number) = match result {

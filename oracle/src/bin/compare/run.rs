@@ -238,6 +238,8 @@ pub struct Comparison<'s> {
     pub engine_calls: u64,
     /// Those with both pairs (02, 2.10).
     pub wider_calls: u64,
+    /// Those of charges and totals (02, 2.11).
+    pub charge_calls: u64,
     /// Calls that a node and its engine made side by side.
     pub pairs: u64,
     pub traces: u64,
@@ -247,7 +249,7 @@ pub struct Comparison<'s> {
 impl<'s> Comparison<'s> {
     pub fn new(left: &'s mut dyn Subject, right: &'s mut dyn Subject) -> Self {
         let coverage = Coverage::default();
-        let [calls, engine_calls, wider_calls, pairs, traces, rehearsals] = [0; 6];
+        let [calls, engine_calls, wider_calls, charge_calls, pairs, traces, rehearsals] = [0; 7];
         Comparison {
             left,
             right,
@@ -255,6 +257,7 @@ impl<'s> Comparison<'s> {
             calls,
             engine_calls,
             wider_calls,
+            charge_calls,
             pairs,
             traces,
             rehearsals,

@@ -1,9 +1,9 @@
 //! The programs that are compared.
 
 use oracle::abi;
+use oracle::generate::{ChargeCase, TickCase, TotalCase, WordsCase, WriteCase, WriteInCase};
 use oracle::generate::{CompareCase, FreshCase, FreshLastCase, ListenCase, PollCase, ReadCase};
 use oracle::generate::{LongCase, LongFreshCase, LongReadCase, LongWriteCase};
-use oracle::generate::{TickCase, WordsCase, WriteCase, WriteInCase};
 use oracle::{fault, long, replay, yard, Both, Frame, Settings};
 
 /// Something that makes the calls and plays traces. Answers are packed as the library's.
@@ -17,6 +17,8 @@ pub trait Subject {
     fn compare(&mut self, case: &mut CompareCase) -> u64;
     fn poll(&mut self, case: &mut PollCase) -> u64;
     fn listen(&mut self, case: &mut ListenCase) -> u64;
+    fn charge(&mut self, case: &mut ChargeCase) -> u64;
+    fn total(&mut self, case: &mut TotalCase) -> u64;
     fn long_fresh(&mut self, case: &mut LongFreshCase) -> u64;
     fn long_tick(&mut self, case: &mut LongCase) -> u64;
     fn long_read(&mut self, case: &mut LongReadCase) -> u64;
@@ -116,6 +118,14 @@ impl Subject for Oracle {
 
     fn listen(&mut self, case: &mut ListenCase) -> u64 {
         abi::pack_tick(&self.faulty(|| case.run()))
+    }
+
+    fn charge(&mut self, case: &mut ChargeCase) -> u64 {
+        abi::pack_charge(self.faulty(|| case.run()))
+    }
+
+    fn total(&mut self, case: &mut TotalCase) -> u64 {
+        abi::pack_total(self.faulty(|| case.run()))
     }
 
     fn long_fresh(&mut self, case: &mut LongFreshCase) -> u64 {
@@ -257,6 +267,14 @@ impl Subject for Proved {
 
     fn listen(&mut self, case: &mut ListenCase) -> u64 {
         abi::library::listen(case)
+    }
+
+    fn charge(&mut self, case: &mut ChargeCase) -> u64 {
+        abi::library::charge(case)
+    }
+
+    fn total(&mut self, case: &mut TotalCase) -> u64 {
+        abi::library::total(case)
     }
 
     fn long_fresh(&mut self, case: &mut LongFreshCase) -> u64 {

@@ -1,20 +1,20 @@
--- `splice::put_u64` meets its contract. The invariant of its loop: with the bytes of what is left of the number, all are pasted.
+-- `splice::put_low_first` meets its contract. The invariant of its loop: with the bytes of what is left of the number, all are pasted.
 -- The measure is how many are left. Assumes nothing.
 use borrow.Author.Needs.{needs}
 use Prim.Native.Nat.{_-_}
 use native.Mathlib.Omega.{arith}
 use Rattle.splice.proofs.Laws.{Digits, digits-start, digits-turn, digits-end}
-use Rattle.splice.proofs.put_u64.Statement.{statement}
-use Rattle.splice.proofs.put_u64.Tie as tie
+use Rattle.splice.proofs.put_low_first.Statement.{statement}
+use Rattle.splice.proofs.put_low_first.Tie as tie
 
 abbrev Inv-loop : tie.InvT-loop
-Inv-loop buf₀ at value rest₀ j₀ buf rest j = Digits buf₀ at 8 value buf rest j
+Inv-loop buf₀ at size value rest₀ j₀ buf rest j = Digits buf₀ at size value buf rest j
 
 abbrev μ-loop : tie.MeasureT-loop
-μ-loop buf₀ at value rest₀ j₀ buf rest j = 8 - j
+μ-loop buf₀ at size value rest₀ j₀ buf rest j = size - j
 
 loop-holds : tie.Need-loop-holds Inv-loop μ-loop
-loop-holds c = digits-start (c .args .buf .now) (c .args .at) 8 (c .args .value)
+loop-holds c = digits-start (c .args .buf .now) (c .args .at) (c .args .size) (c .args .value)
 
 cast-buf : tie.Need-cast-buf Inv-loop μ-loop
 cast-buf c = search needs
@@ -40,8 +40,8 @@ same-length c = search needs
 returns : tie.Need-returns Inv-loop μ-loop
 returns c = digits-end (c .before .loop .inv) (omega arith)
 
-pub put-u64-spec : {M : Type 1} → statement M
-put-u64-spec =
+pub put-low-first-spec : {M : Type 1} → statement M
+put-low-first-spec =
     tie.close
     (tie.spec
     Inv-loop
