@@ -3,9 +3,11 @@
  * delays and repeats frames and carries junk, and in the middle a power dip fills one station's memory, and the observer's, with
  * random bytes.
  * It prints each board's hand-outs, and of one station the words of what it hears and the clock at which it shows next. Each tick
- * must show what a poll before it foretold. Then it checks of the messages sent after recovery that every board, also the
- * observer's, shows each one that it heard and that was due, in its first tick at or past the due clock, no other and none of them
- * twice, and causes before effects, and that any two boards show those that both show in one order.
+ * must show what a poll before it foretold. At the end it prints of each board how well it heard each station in its last 256 ticks,
+ * and holds these figures to a count of its own; figures that began as random bytes must tell the same after 256 ticks. Then it
+ * checks of the messages sent after recovery that every board, also the observer's, shows each one that it heard and that was due,
+ * in its first tick at or past the due clock, no other and none of them twice, and causes before effects, and that any two boards
+ * show those that both show in one order.
  * Most tickets are press tickets. Each board charges them as it shows them, into a ledger of its own; and any two boards, from empty
  * ledgers, charge what both show to the same total for each grower. These totals are printed for board 0 and the observer's.
  * Usage: host [SEED]. Exit status 0 where all holds; the seed is in what it prints. */
@@ -22,6 +24,8 @@ enum { FRAME = YARNGRAVEL_FRAME(EPSILON), SHELF = YARNGRAVEL_SHELF(N, EPSILON, D
 enum { OBSERVER = N, BOARDS = N + 1 };
 /* charges: cents for a hundred pounds, and the growers, numbered from 1 */
 enum { RATE = 1250, GROWERS = 3 };
+/* a table of figures: a row for each station, and one for what is no station's; taken, and refused by 10 to 16 */
+enum { NO_STATION = N, ROWS = N + 1, FIGURES = 8 };
 
 /* a set of messages, a bit for each */
 struct set {
@@ -50,6 +54,10 @@ struct board {
     uint8_t last[YARNGRAVEL_LAST];     /* the observer's */
     uint8_t shelf[SHELF];
     uint8_t ledger[YARNGRAVEL_LEDGER]; /* what it charged so far */
+    uint8_t figures[YARNGRAVEL_FIGURES];    /* how well it hears the stations */
+    uint8_t recovered[YARNGRAVEL_FIGURES];  /* the same, begun with random bytes */
+    unsigned calls;                      /* how many ticks its figures were called after */
+    unsigned last_counts[256][ROWS][FIGURES]; /* what this program counts of the last ones */
     struct set heard; /* what it heard so far */
     struct set taken; /* what it took of that */
     struct set known; /* that, what the station sent, and the causes of both */
@@ -97,7 +105,11 @@ static void join(struct set *set, const struct set *more) {
     for (unsigned i = 0; i < MESSAGES / 64; i++) set->words[i] |= more->words[i];
 }
 
-/* an empty shelf, and fresh tables at a clock; for the observer that last clock */
+static void scramble(uint8_t *bytes, unsigned len) {
+    for (unsigned i = 0; i < len; i++) bytes[i] = (uint8_t)draw(256);
+}
+
+/* an empty shelf, empty figures, and fresh tables at a clock; for the observer that last clock */
 static void start(int who, int clock) {
     struct board *s = &boards[who];
     uint32_t reduced = (uint32_t)(clock % MODULUS);
@@ -105,10 +117,8 @@ static void start(int who, int clock) {
     if (who == OBSERVER) expect_accepted("start", yarngravel_fresh_last(N, EPSILON, DELTA, MODULUS, reduced, s->last));
     else expect_accepted("start", yarngravel_fresh(N, EPSILON, DELTA, MODULUS, (uint32_t)who, reduced, s->tables));
     memset(s->shelf, 0, sizeof s->shelf);
-}
-
-static void scramble(uint8_t *bytes, unsigned len) {
-    for (unsigned i = 0; i < len; i++) bytes[i] = (uint8_t)draw(256);
+    memset(s->figures, 0, sizeof s->figures);
+    scramble(s->recovered, sizeof s->recovered);
 }
 
 /* the lowest clock of the first so many boards */
@@ -235,6 +245,62 @@ static void tell(int who, const struct bundle *b, const uint8_t *verdicts) {
     printf("board %d clock %d hears\n%.*s", who, boards[who].clock, (int)yarngravel_text_len(told), (const char *)text);
 }
 
+/* the column of a verdict: taken, or refused by 10 to 16 */
+static unsigned column(unsigned verdict) { return verdict == 0 ? 0 : verdict - 9; }
+
+/* what became of the frames of a bundle, by station, as this program counts it */
+static void count_frames(const struct bundle *b, const uint8_t *verdicts, unsigned counts[ROWS][FIGURES]) {
+    memset(counts, 0, sizeof(unsigned[ROWS][FIGURES]));
+    const uint8_t *at = b->bytes + 1;
+    for (unsigned k = 0; k < b->bytes[0]; k++) {
+        unsigned station = at[0] > 1 ? at[2] : 0;
+        counts[verdicts[k] == YARNGRAVEL_BAD_FORM || station >= N ? NO_STATION : station][column(verdicts[k])]++;
+        at += 1 + at[0];
+    }
+}
+
+/* the figures after a tick, and what this program counts of it */
+static void keep_figures(int who, const struct bundle *b, const uint8_t *verdicts) {
+    struct board *s = &boards[who];
+    uint8_t *both[] = {s->figures, s->recovered};
+    for (unsigned k = 0; k < 2; k++)
+        expect_accepted("figures", yarngravel_figures(N, b->bytes, b->len, verdicts, YARNGRAVEL_VERDICTS, both[k], YARNGRAVEL_FIGURES));
+    count_frames(b, verdicts, s->last_counts[s->calls % 256]);
+    s->calls++;
+}
+
+/* what this program counted of the last 256 ticks */
+static unsigned counted(const struct board *s, unsigned row, unsigned verdict) {
+    unsigned sum = 0;
+    for (unsigned k = 0; k < 256 && k < s->calls; k++) sum += s->last_counts[k][row][column(verdict)];
+    return sum;
+}
+
+/* The table of a board's figures, a line for each station; each must be what this program counted. How many frames it tells of. */
+static unsigned show_figures(int who) {
+    static const unsigned numbers[] = {0, 11, 12, 13, 14, 15, 16};
+    const struct board *s = &boards[who];
+    unsigned all = 0, others = 0;
+    printf("board %d hears in its last %u ticks\nstation  taken  range  stamp   late  early  count repeat\n", who,
+           s->calls < 256 ? s->calls : 256);
+    for (unsigned station = 0; station < N; station++) {
+        printf("%7u", station);
+        for (unsigned k = 0; k < sizeof numbers / sizeof *numbers; k++) {
+            unsigned figure = yarngravel_figure(s->figures, station, numbers[k]);
+            if (figure != counted(s, station, numbers[k])) fail("the figures are not what became of the frames");
+            printf("%7u", figure);
+            all += figure;
+        }
+        printf("\n");
+    }
+    for (unsigned k = 0; k < FIGURES; k++) others += counted(s, NO_STATION, k == 0 ? 0 : k + 9);
+    if (yarngravel_figure_of_none(s->figures) != others) fail("the figures of no station are not what became of the frames");
+    if (s->calls < 256) fail("too few ticks for figures that began as random bytes");
+    if (memcmp(s->figures + 1, s->recovered + 1, 2 * 113) != 0) fail("figures that began as random bytes tell something else");
+    printf("   none%7u\n", others);
+    return all + others;
+}
+
 /* what the board's shelf says of so many ticks from its last one on */
 static uint64_t poll(int who, unsigned within) {
     const struct board *s = &boards[who];
@@ -284,6 +350,7 @@ static void settle(int who, int next, uint64_t polled, uint64_t answer, const st
     else check_poll(polled, last, next, answer, handout + 2);
     if (who == TOLD) tell(who, heard, verdicts);
     learn(s, heard, verdicts);
+    keep_figures(who, heard, verdicts);
     show(who, last, answer, handout);
     look_ahead(who);
 }
@@ -457,6 +524,8 @@ int main(int argc, char **argv) {
     for (int k = 0; k < N; k++) start(k, (int)draw(EPSILON + 1));
     start(OBSERVER, lowest_clock(N));
     int from = play() + DELTA + 3 * EPSILON;
+    unsigned told = 0;
+    for (int a = 0; a < BOARDS; a++) told += show_figures(a);
     for (int a = 0; a < BOARDS; a++) {
         keep_covered(&boards[a], from);
         check_whole(&boards[a], from);
@@ -473,7 +542,7 @@ int main(int argc, char **argv) {
     if (boards[OBSERVER].given_count < 180) fail("too few covered messages on the observer's board");
     printf("boards agree: %u times two of them show one message, and %u times a cause before its effect; "
            "%u times a message was due before the tick that shows it; %u times a poll foretold what a tick shows; "
-           "the observer shows %u messages as the stations do; %u bales charged\n",
-           shared, causes, early, foretold, boards[OBSERVER].given_count, charges);
+           "the observer shows %u messages as the stations do; %u bales charged; the figures tell of %u frames heard\n",
+           shared, causes, early, foretold, boards[OBSERVER].given_count, charges, told);
     return 0;
 }

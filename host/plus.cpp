@@ -277,6 +277,29 @@ void play() {
     std::printf("from C++, version %s: both boards show %s\n", YARNGRAVEL_VERSION_TEXT, station.shown.c_str());
 }
 
+// the figures: a frame taken, one refused by 16, one of no station, one without a form; refusals change nothing, and no other number has a figure
+void try_figures() {
+    std::vector<uint8_t> figures(YARNGRAVEL_FIGURES, 0);
+    const std::vector<uint8_t> bundle = {4, 2, 3, 1, 2, 3, 1, 2, 3, 3, 0}, verdicts = {0, 16, 11, 10};
+    auto call = [&](uint32_t of, size_t bundle_len, size_t verdicts_len, size_t figures_len) {
+        return yarngravel_figures(of, bundle.data(), bundle_len, verdicts.data(), verdicts_len, figures.data(), figures_len);
+    };
+    expect(call(17, 0, 0, 0) == YARNGRAVEL_BAD_SETUP && call(65536 + n, 0, 0, 0) == YARNGRAVEL_BAD_SETUP, "1 for an n above 16");
+    expect(call(n, 0, 0, YARNGRAVEL_FIGURES - 1) == YARNGRAVEL_BAD_SHELF, "3 for short figures");
+    expect(call(n, bundle.size() - 1, 0, YARNGRAVEL_FIGURES) == YARNGRAVEL_BAD_BUNDLE, "5 for a short bundle");
+    expect(call(n, bundle.size(), 3, YARNGRAVEL_FIGURES) == YARNGRAVEL_BAD_BUFFERS, "6 for too few verdicts");
+    expect(figures == std::vector<uint8_t>(YARNGRAVEL_FIGURES, 0), "that a refused call of the figures changes nothing");
+    for (unsigned k = 1; k <= 300; k++) {
+        expect(call(n, bundle.size(), verdicts.size(), YARNGRAVEL_FIGURES) == 0, "a call of the figures");
+        const unsigned told = k < 256 ? k : 256;
+        unsigned all = 0;
+        for (uint32_t station = 0; station < 40; station++)
+            for (unsigned number = 0; number < 40; number++) all += yarngravel_figure(figures.data(), station, number);
+        expect(yarngravel_figure(figures.data(), 1, 0) == told && yarngravel_figure(figures.data(), 1, YARNGRAVEL_REPEAT) == told, "a figure");
+        expect(all == 2 * told && yarngravel_figure_of_none(figures.data()) == 2 * told, "that no frame is told of twice");
+    }
+}
+
 } // namespace
 
 int main() {
@@ -290,6 +313,7 @@ int main() {
     try_sizes();
     try_frames();
     try_engine();
+    try_figures();
     play();
     return 0;
 }

@@ -20,8 +20,8 @@ extern "C" {
 #endif
 
 /* The version of this header: major * 65536 + minor * 256 + patch, and as a text. */
-#define YARNGRAVEL_VERSION (2u * 65536u + 11u * 256u + 0u)
-#define YARNGRAVEL_VERSION_TEXT "2.11.0"
+#define YARNGRAVEL_VERSION (2u * 65536u + 13u * 256u + 0u)
+#define YARNGRAVEL_VERSION_TEXT "2.13.0"
 
 /* The version of the archive that is linked, in the form of YARNGRAVEL_VERSION. */
 uint32_t yarngravel_version(void);
@@ -51,6 +51,7 @@ uint32_t yarngravel_version(void);
 #define YARNGRAVEL_SHELF(n, epsilon, delta) \
     (2u + YARNGRAVEL_FRAME(epsilon) * (n) * ((delta) + 3u * (epsilon)))
 #define YARNGRAVEL_LINE 29u                                /* the longest line of words */
+#define YARNGRAVEL_FIGURES 29155u                          /* the figures have exactly this; empty ones are zeros */
 /* A bundle of so many frames has at most this, where none is longer than YARNGRAVEL_FRAME; 255 is the most frames. */
 #define YARNGRAVEL_BUNDLE(epsilon, frames) (1u + (1u + YARNGRAVEL_FRAME(epsilon)) * (frames))
 
@@ -91,11 +92,11 @@ static inline size_t yarngravel_long_bundle_size(uint32_t epsilon, size_t frames
 /* Numbers in an answer. 0: accepted. Of a call: */
 #define YARNGRAVEL_BAD_SETUP 1u    /* the setup is not in its limits; of a charge: the rate is above 60000 */
 #define YARNGRAVEL_BAD_CLOCK 2u    /* the clock is not below B, an engine's not below 2^63 */
-#define YARNGRAVEL_BAD_SHELF 3u    /* the shelf has not its exact length; of a charge and a total: the ledger */
+#define YARNGRAVEL_BAD_SHELF 3u    /* the shelf has not its exact length; of a charge and a total: the ledger; of the figures: those */
 #define YARNGRAVEL_BAD_TICKET 4u   /* the ticket is longer than 32 bytes (asked even if nothing is to be sent) */
 #define YARNGRAVEL_BAD_BUNDLE 5u   /* the bundle does not end exactly after its last entry */
-#define YARNGRAVEL_BAD_BUFFERS 6u  /* the outgoing, verdict, hand-out or text buffer is too short; of the words also: a verdict
-                                      that no judgement gives */
+#define YARNGRAVEL_BAD_BUFFERS 6u  /* the outgoing, verdict, hand-out or text buffer is too short; of the words and the figures also: a
+                                      verdict that no judgement gives */
 /* Of a frame, in the verdict buffer (and 10 to 12 from the reader and the comparison, 11 and 12 from the writer): */
 #define YARNGRAVEL_BAD_FORM 10u    /* a section's count is wrong, or something is left over */
 #define YARNGRAVEL_BAD_RANGE 11u   /* the station is not below n, or r not below B, an engine's not below 2^63 */
@@ -117,7 +118,7 @@ static inline const char *yarngravel_number_text(unsigned number) {
     case 0: return "accepted";
     case YARNGRAVEL_BAD_SETUP: return "the setup is not in its limits (of a charge: the rate)";
     case YARNGRAVEL_BAD_CLOCK: return "the clock is not below B (an engine's: 2^63)";
-    case YARNGRAVEL_BAD_SHELF: return "the shelf (of a charge: the ledger) has not its exact length";
+    case YARNGRAVEL_BAD_SHELF: return "the shelf (the ledger, the figures) has not its exact length";
     case YARNGRAVEL_BAD_TICKET: return "the ticket is longer than 32 bytes";
     case YARNGRAVEL_BAD_BUNDLE: return "the bundle does not end exactly after its last entry";
     case YARNGRAVEL_BAD_BUFFERS: return "a buffer is too short, or a verdict is none";
@@ -196,6 +197,18 @@ static inline uint32_t yarngravel_cents(uint64_t answer) { return (uint32_t)(ans
 
 /* A grower's total in cents, from a total's answer. */
 static inline uint64_t yarngravel_total_cents(uint64_t answer) { return answer >> 8; }
+
+/* Figures, how well the stations hear each other (yarngravel_figures): of the last 256 accepted calls, or of all if there were fewer,
+   how many frames of a station were taken (number 0), or refused by 11 to 16. 0 for a station above 15 and for any other number. */
+static inline unsigned yarngravel_figure(const uint8_t figures[YARNGRAVEL_FIGURES], uint32_t station, unsigned number) {
+    if (station > 15 || (number != 0 && (number < YARNGRAVEL_BAD_RANGE || number > YARNGRAVEL_REPEAT))) return 0;
+    const uint8_t *total = figures + 1 + 2 * (7 * (size_t)station + (number == 0 ? 0 : number - YARNGRAVEL_BAD_FORM));
+    return total[0] + 256u * total[1];
+}
+/* the line of its own: frames refused by 10, or with a station not below n */
+static inline unsigned yarngravel_figure_of_none(const uint8_t figures[YARNGRAVEL_FIGURES]) {
+    return figures[225] + 256u * figures[226];
+}
 
 /* A bundle, for what is heard between two calls. This one makes it empty, and answers its length, 1. */
 static inline size_t yarngravel_bundle_start(uint8_t *bundle) {
@@ -414,6 +427,20 @@ static inline bool yarngravel_charge_next(struct yarngravel_walk *walk, uint32_t
     *charged = yarngravel_charge(rate, walk->frame + front, walk->len - front, ledger, YARNGRAVEL_LEDGER);
     return true;
 }
+
+/* Keeps the figures of how well the stations hear each other: one call after each accepted tick of a station, or each accepted call of
+ * an observer, with its bundle and its verdicts as the call left them. Then the figures tell, of the last 256 of these calls (or of all, if
+ * there were fewer), how many frames of each station were taken, and how many refused by each of 11 to 16; yarngravel_figure and
+ * yarngravel_figure_of_none read them. Frames refused by 10, and those with a station not below n, are counted together. A call that
+ * mended something counts like any other, and other limits clear nothing: of the setup the figures know n alone.
+ *   figures   in and out, exactly YARNGRAVEL_FIGURES bytes, zeros at the start: a position; 113 totals of two bytes, low byte first, of
+ *             station k at 7k those taken, then those refused by 11 to 16, the last one of no station; and 256 rows of 113 bytes, one of
+ *             each call. From any other bytes what they tell is right after 256 calls
+ * Refusals: 1 (n alone is asked for), 3 for figures of another length, 5, and 6 as of the words. With verdicts that are not these frames'
+ * own, the station is the byte in its place, 0 where it is missing.
+ */
+uint64_t yarngravel_figures(uint32_t n, const uint8_t *bundle, size_t bundle_len, const uint8_t *verdicts, size_t verdicts_len,
+                            uint8_t *figures, size_t figures_len);
 
 /* An engine: a plain station for the workbench, with clocks of 64 bits that are never reduced. On every run from fresh tables that
  * keeps drift and delay, steps by 1 to epsilon, hears only what was sent in it, stays below 2^63 and never holds more than 64

@@ -29,7 +29,8 @@ static const char help[] =
     "Starts a yard of K stations and an observer, each a process, over a radio that loses, repeats and delays frames and carries junk; kills\n"
     "one in the middle of a call and starts it again, writes random bytes over what one keeps, gives one wrong clocks, floods all with junk,\n"
     "in turn, until the clocks are at N. What the boards showed between two disturbances is judged by document 01: from X + delta + 3 epsilon\n"
-    "on all boards agree, each message heard is shown once, when due, causes first.\n"
+    "on all boards agree, each message heard is shown once, when due, causes first. At the end each board says how well it heard each station\n"
+    "in its last 256 ticks.\n"
     "  --seed S         all is drawn from it, the limits of the yard too; without it the day is, as 20261116\n"
     "  --ticks N        from 500 on; without it 3000\n"
     "  --stations K     1 to 16; without it 4\n"
@@ -452,7 +453,19 @@ static void end_yard(void) {
     for (int k = 0; k < board_count; k++) end_well(&boards[k].station, "board", k);
 }
 
-/* ten lines: what was seen */
+/* how well each board heard the stations at the end, as the last lines of its log say */
+static void report_hearing(void) {
+    for (int k = 0; k < board_count; k++) {
+        FILE *log = fopen(path_of("log", k), "r");
+        char line[512];
+        const char *hears;
+        while (log != NULL && fgets(line, sizeof line, log) != NULL)
+            if (strncmp(line, "clock ", 6) == 0 && (hears = strstr(line, ": hears ")) != NULL) printf("board %d%s", k, hears + 1);
+        if (log != NULL) fclose(log);
+    }
+}
+
+/* what was seen: nine lines, those of how the boards hear each other, and that they agree */
 static void report(double took) {
     const uint64_t *f = figures, *j = judged;
     typedef unsigned long long u;
@@ -472,6 +485,7 @@ static void report(double took) {
     printf("shown: %llu times, each heard message once on its board and when due, %llu of these past the due clock, by a nudge\n", (u)j[1],
            (u)j[2]);
     printf("causes first: %llu times; two boards show one message: %llu times, always in one order\n", (u)j[3], (u)j[4]);
+    report_hearing();
     printf("boards agree: %016llx\n", (u)boards_digest);
 }
 

@@ -25,7 +25,11 @@ first=$!
 $bin/drill --seed "$fixed" --ticks $ticks > "$work/second" 2> "$work/second.log" || { cat "$work/second.log" >&2; die "it fails with seed $fixed"; }
 wait "$first" || { cat "$work/first.log" >&2; die "it fails with seed $fixed"; }
 cat "$work/first"
-[ "$(wc -l < "$work/first")" -eq 10 ] || die "it does not say what it saw in ten lines"
+[ "$(grep -vc '^board [0-4] hears ' "$work/first")" -eq 10 ] || die "it does not say what it saw in ten lines"
+for board in 0 1 2 3 4; do
+  [ "$(grep -c "^board $board hears station [0-3]: taken " "$work/first")" -eq 4 ] || die "board $board does not say how well it hears each station"
+  [ "$(grep -c "^board $board hears no station: " "$work/first")" -eq 1 ] || die "board $board does not say what it hears of no station"
+done
 [ "$(tail -n 1 "$work/first")" = "$(tail -n 1 "$work/second")" ] || die "the same seed shows other boards"
 today=$(date -u +%Y%m%d)
 $bin/drill --seed "$today" --ticks $ticks 2> "$work/log" || { cat "$work/log" >&2; die "it fails with seed $today"; }

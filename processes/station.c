@@ -29,12 +29,12 @@ static const char help[] =
     "  modulus 91             clocks are given modulo this, at least 6 epsilon + delta + 1\n"
     "  own 2                  this station's number, below n; or the word `observer` alone\n"
     "  radio 40123            the radio's port on the loopback address\n"
-    "  memory station-2.mem   the file for tables, shelf and last clock; where there is none the station starts afresh\n"
+    "  memory station-2.mem   the file for tables, shelf, last clock and figures; where there is none the station starts afresh\n"
     "\n"
     "Standard input has the tickets, one a line of at most 32 bytes: the next one is sent in the next tick. A line - is an empty\n"
     "ticket, an empty line is none. Standard output is the board: a line `tick CLOCK mend MEND c C took TAKEN sent SENT gave GAVE` for\n"
     "each call, and then `give STATION R TICKET` for each message shown, the ticket in hexadecimal. Standard error is the log: every\n"
-    "mend, refused frame and dropped datagram, and their numbers at the end.\n"
+    "mend, refused frame and dropped datagram, and at the end their numbers and how well each station was heard in the last 256 ticks.\n"
     "  --words                a line `hear WORDS` for each frame heard: its place, station, r, and what became of it\n"
     "  --reasons              behind each ticket what put it behind the line before: sum, count CLOCK, station, r or -\n"
     "  --frames               behind that the whole frame, in hexadecimal\n"
@@ -42,7 +42,8 @@ static const char help[] =
     "  --patience SECONDS     ends where the radio is silent for so long; without it, never\n"
     "Exit status: 0 the radio or a signal ended it; 1 it could not go on; 2 the command line or the setup is wrong.\n";
 
-/* What is kept between calls, as it stands in the file: an observer uses last, a station tables. Nothing in it is trusted. */
+/* What is kept between calls, as it stands in the file: an observer uses last, a station tables. The figures stand behind the shelf. Nothing
+ * in it is trusted. */
 struct memory {
     uint8_t tables[YARNGRAVEL_TABLES];
     uint8_t last[YARNGRAVEL_LAST];
@@ -100,9 +101,11 @@ static uint32_t own(void) { return observer ? 0 : setup.own; }
 
 static const uint8_t *kept(void) { return observer ? memory->last : memory->tables; }
 
+static uint8_t *figures(void) { return memory->shelf + shelf_len; }
+
 /* maps the file, which is made where there is none */
 static void map_memory(void) {
-    size_t size = sizeof(struct memory) + shelf_len;
+    size_t size = sizeof(struct memory) + shelf_len + YARNGRAVEL_FIGURES;
     struct stat found;
     int file = open(setup.memory, O_RDWR | O_CREAT | O_CLOEXEC, 0600);
     if (file < 0 || fstat(file, &found) != 0) die(NAME, 1, "%s cannot be opened: %s", setup.memory, strerror(errno));
@@ -242,6 +245,14 @@ static uint64_t call_library(uint32_t clock, bool send, const uint8_t *ticket, s
     return answer;
 }
 
+/* what became of the frames heard is counted, after each call */
+static void keep_figures(const uint8_t *verdicts) {
+    uint64_t answer =
+        yarngravel_figures(setup.n, bundle.bytes, bundle.len, verdicts, YARNGRAVEL_VERDICTS, figures(), YARNGRAVEL_FIGURES);
+    unsigned number = yarngravel_number(answer);
+    if (number != 0) die(NAME, 1, "the figures are refused by %u: %s", number, yarngravel_number_text(number));
+}
+
 /* one call for a clock, with the bundle; the board and the log get what came of it */
 static void call(uint32_t clock) {
     static uint8_t ticket[YARNGRAVEL_TICKET], verdicts[YARNGRAVEL_VERDICTS], handout[SHELF];
@@ -261,6 +272,7 @@ static void call(uint32_t clock) {
     else printf("%u", memory->tables[2]);
     printf(" took %u sent %d gave %u\n", yarngravel_taken(answer), send, yarngravel_gave(answer));
     tell(verdicts);
+    keep_figures(verdicts);
     show(answer, handout);
     done.mend = mend;
     done.sent = yarngravel_sent(answer);
@@ -388,6 +400,17 @@ static void sum_up(void) {
     note("bundles asked for again: %llu; tickets left out: %llu", (unsigned long long)count.missing, (unsigned long long)count.bad_tickets);
 }
 
+/* how well each station was heard, a line for each, and one for what is no station's */
+static void show_figures(void) {
+    for (unsigned station = 0; station < setup.n; station++)
+        note("hears station %u: taken %u, range %u, stamp %u, late %u, early %u, count %u, repeat %u", station,
+             yarngravel_figure(figures(), station, 0), yarngravel_figure(figures(), station, YARNGRAVEL_BAD_RANGE),
+             yarngravel_figure(figures(), station, YARNGRAVEL_BAD_STAMP), yarngravel_figure(figures(), station, YARNGRAVEL_LATE),
+             yarngravel_figure(figures(), station, YARNGRAVEL_EARLY), yarngravel_figure(figures(), station, YARNGRAVEL_BAD_COUNT),
+             yarngravel_figure(figures(), station, YARNGRAVEL_REPEAT));
+    note("hears no station: %u", yarngravel_figure_of_none(figures()));
+}
+
 static void read_options(int argc, char **argv) {
     const char *path = NULL;
     for (int k = 1; k < argc; k++) {
@@ -433,5 +456,6 @@ int main(int argc, char **argv) {
     fflush(stderr);
     serve();
     sum_up();
+    show_figures();
     return fflush(stdout) == 0 ? 0 : 1;
 }

@@ -1,6 +1,6 @@
 //! Times the tick, an observer's call and the poll: the proved library, the oracle and a twin tuned by
-//! hand, on the same calls in one run; the tick of an engine with long clocks beside its station's; and
-//! charges and totals. First all must agree on every call, byte for byte, and on random ones.
+//! hand, on the same calls in one run; the tick of an engine with long clocks beside its station's; charges and totals; and the
+//! figures. First all must agree on every call, byte for byte, and on random ones.
 
 mod agreement;
 mod programs;
@@ -9,7 +9,7 @@ mod twin;
 mod workloads;
 mod yard;
 
-use oracle::generate::LongCase;
+use oracle::generate::{FiguresCase, LongCase};
 use programs::{Case, Each};
 use workloads::Workload;
 
@@ -50,6 +50,12 @@ fn main() {
         assert!(answer & 0xffff == 0x100, "a workload's ticket is not charged");
     }
     half.1.cases.iter().chain(&full.1.cases).for_each(|case| drop(agreement::agree(case)));
+    // The figures after the largest yard's ticks.
+    let figures = workloads::figures(&shelves[1][1]);
+    for case in figures.iter().flat_map(|workload| &workload.cases) {
+        let (answer, _) = agreement::agree(case);
+        assert!(answer == 0, "a call of the figures is refused");
+    }
     agreement::agree_on_random(RANDOM);
     println!("all agree on the workloads' calls and on {RANDOM} random ones\n");
     let mut rows: Vec<Row> = table.iter().map(Row::of).collect();
@@ -61,6 +67,7 @@ fn main() {
     println!("\nledger          bales    proved    oracle   proved/oracle    to half the bales");
     print_ledger(&half.0, &full.0);
     print_ledger(&half.1, &full.1);
+    print_figures(&figures);
     println!("\ngrowth              frames    proved    oracle      twin");
     shelves[0].iter().zip(&shelves[1]).for_each(|(half, full)| print_growth(half, full));
     polls[0].iter().zip(&polls[1]).for_each(|(half, full)| print_growth(half, full));
@@ -120,6 +127,15 @@ fn print_ledger<C: Case>(half: &Workload<C>, full: &Workload<C>) {
     let (proved, oracle) = (after[0], after[1]);
     print!("{:<14}{:>7.0}{proved:>10.0}{oracle:>10.0}", full.name, full.frames());
     println!("{:>16.2}{:>21.2}", proved / oracle, proved / before[0]);
+}
+
+/// The figures after a tick, and where they are counted afresh.
+fn print_figures(figures: &[Workload<FiguresCase>]) {
+    println!("\nfigures         heard    proved    oracle   proved/oracle");
+    for Row { name, frames, times } in figures.iter().map(Row::of) {
+        let (proved, oracle) = (times[0], times[1]);
+        println!("{name:<14}{frames:>7.0}{proved:>10.0}{oracle:>10.0}{:>16.2}", proved / oracle);
+    }
 }
 
 /// How much longer a call takes where the shelf has twice the frames or a little more.

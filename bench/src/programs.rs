@@ -2,7 +2,9 @@
 
 use crate::twin;
 use oracle::abi::{self, library};
-use oracle::generate::{ChargeCase, ListenCase, LongCase, PollCase, TickCase, TotalCase};
+use oracle::generate::{
+    ChargeCase, FiguresCase, ListenCase, LongCase, PollCase, TickCase, TotalCase,
+};
 
 /// Makes a call and answers its packed answer.
 pub type Program<C> = fn(&mut C) -> u64;
@@ -12,10 +14,16 @@ pub type Each = Vec<f64>;
 
 /// A call that is timed.
 pub trait Case: Clone + PartialEq + 'static {
-    /// The proved library, the oracle, the twin. An engine, a charge and a total have no twin.
+    /// The proved library, the oracle, the twin. An engine, a charge, a total and the figures have no twin.
     const PROGRAMS: &'static [Program<Self>];
 
+    /// What is kept between calls: the shelf, or the figures.
     fn shelf(&self) -> &[u8];
+
+    /// The frames on the shelf.
+    fn frames(&self) -> u16 {
+        u16::from_le_bytes([self.shelf()[0], self.shelf()[1]])
+    }
 
     /// Puts back what a call changes and a call reads.
     fn put_back(&mut self, given: &Self);
@@ -102,6 +110,31 @@ impl Case for TotalCase {
 
     fn put_back(&mut self, given: &Self) {
         self.ledger.copy_from_slice(&given.ledger);
+    }
+}
+
+impl Case for FiguresCase {
+    const PROGRAMS: &'static [Program<Self>] = &[library::figures, figures];
+
+    fn shelf(&self) -> &[u8] {
+        &self.figures
+    }
+
+    /// The frames of the batch.
+    fn frames(&self) -> u16 {
+        self.batch[0].into()
+    }
+
+    fn put_back(&mut self, given: &Self) {
+        self.figures.copy_from_slice(&given.figures);
+    }
+}
+
+/// The oracle's figures.
+fn figures(case: &mut FiguresCase) -> u64 {
+    match oracle::figures(case.n, &case.batch, &case.verdicts, &mut case.figures) {
+        Ok(()) => 0,
+        Err(number) => abi::pack_refusal(number),
     }
 }
 

@@ -4,7 +4,7 @@ use crate::programs::Case;
 use crate::yard::{Engines, Yard};
 use oracle::board::{judge, Owner};
 use oracle::generate::{
-    frames, ledgers, ChargeCase, ListenCase, LongCase, PollCase, Prng, TickCase, TotalCase,
+    frames, ledgers, ChargeCase, FiguresCase, ListenCase, LongCase, PollCase, Prng, TickCase, TotalCase,
 };
 use oracle::holdback::Holdback;
 use oracle::{batch, Setup, Timestamp};
@@ -21,10 +21,9 @@ pub struct Workload<C> {
 }
 
 impl<C: Case> Workload<C> {
-    /// The mean of the frames on the shelf.
+    /// The mean of the frames on the shelf, of the figures of those heard.
     pub fn frames(&self) -> f64 {
-        let count = |case: &C| u16::from_le_bytes([case.shelf()[0], case.shelf()[1]]);
-        self.cases.iter().map(|case| f64::from(count(case))).sum::<f64>() / self.cases.len() as f64
+        self.cases.iter().map(|case| f64::from(case.frames())).sum::<f64>() / self.cases.len() as f64
     }
 }
 
@@ -134,6 +133,22 @@ pub fn polls(ticks: &Workload<TickCase>) -> [Workload<PollCase>; 2] {
 /// An observer's calls on the shelves of these ticks, with what they hear.
 pub fn observers(name: &'static str, ticks: &Workload<TickCase>) -> Workload<ListenCase> {
     Workload { name, cases: ticks.cases.iter().cloned().map(ListenCase::of).collect() }
+}
+
+/// The figures after these ticks, of any bytes: a call that only follows, and the one in 256 that counts afresh.
+pub fn figures(ticks: &Workload<TickCase>) -> [Workload<FiguresCase>; 2] {
+    let after = |name, position: fn(&mut Prng) -> u8| {
+        let mut rng = Prng::new(4);
+        let figures = |case: &TickCase| {
+            let mut left = case.clone();
+            left.run();
+            let mut bytes = FiguresCase::start(&mut rng, false);
+            bytes[0] = position(&mut rng);
+            FiguresCase::after_tick(&left, bytes)
+        };
+        Workload { name, cases: ticks.cases.iter().map(figures).collect() }
+    };
+    [after("figures", |rng| rng.below(255) as u8), after("afresh", |_| 255)]
 }
 
 /// Calls of a yard in its steady state, where only some send until shortly before the end and then all do; before them those by

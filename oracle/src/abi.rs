@@ -179,6 +179,7 @@ pub mod library {
     use crate::generate::{ChargeCase, TickCase, TotalCase, WordsCase, WriteCase};
     use crate::generate::{CompareCase, FreshCase, FreshLastCase, ListenCase, PollCase, ReadCase};
     use crate::generate::{LongCase, LongFreshCase, LongReadCase, LongWriteCase};
+    use crate::generate::FiguresCase;
     use crate::{ClockState, LastClock, LongState, Setup};
 
     #[link(name = "yarngravel", kind = "static")]
@@ -315,6 +316,16 @@ pub mod library {
         ) -> u64;
 
         fn yarngravel_total(grower: u16, ledger: *const u8, ledger_len: usize) -> u64;
+
+        fn yarngravel_figures(
+            n: u32,
+            batch: *const u8,
+            batch_len: usize,
+            verdicts: *const u8,
+            verdicts_len: usize,
+            figures: *mut u8,
+            figures_len: usize,
+        ) -> u64;
 
         fn yarngravel_long_fresh(
             n: u32,
@@ -544,6 +555,23 @@ pub mod library {
     pub fn total(case: &mut TotalCase) -> u64 {
         // SAFETY: as in `tick`.
         unsafe { yarngravel_total(case.grower, case.ledger.as_ptr(), case.ledger.len()) }
+    }
+
+    /// The figures.
+    pub fn figures(case: &mut FiguresCase) -> u64 {
+        let n = narrow(case.n);
+        // SAFETY: as in `tick`.
+        unsafe {
+            yarngravel_figures(
+                n,
+                case.batch.as_ptr(),
+                case.batch.len(),
+                case.verdicts.as_ptr(),
+                case.verdicts.len(),
+                case.figures.as_mut_ptr(),
+                case.figures.len(),
+            )
+        }
     }
 
     /// An engine's start.

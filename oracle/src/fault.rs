@@ -1,4 +1,5 @@
-//! A hundred and forty-four small faults that can be planted in the oracle, to show that a comparison finds them.
+//! A hundred and sixty-two small faults that can be planted in the oracle, to show that a comparison finds them.
+//! Their numbers are those of `all`: some are not in use.
 //! Without the feature `plant` nothing of this is left in the code.
 //!
 //!  1. the writer alone refuses a buffer of exactly the frame's length
@@ -145,11 +146,29 @@
 //! 147. 3 is asked before 1
 //! 148. 21 is not asked
 //! 149. 4 is not asked
+//! 150. the figures have 255 rows
+//! 151. the figures tell of 255 ticks
+//! 152. the figures tell of 257 ticks, the one that has just left among them
+//! 153. a tick that leaves is not taken off the figures
+//! 154. a frame refused by 10 is counted for a node
+//! 155. a frame refused by 11 with a node not below n is counted for that node
+//! 156. a call of the figures that is refused for a verdict is counted
+//! 157. the totals are not counted afresh
+//! 158. the totals are counted afresh in every call
+//! 159. node n is counted for itself
+//! 160. a taken frame is counted as one refused by 11
+//! 161. the totals have their high byte first
+//! 162. the figures take an n of 17
+//! 163. figures that are too long pass 3
+//! 164. the figures ask 3 before 1
+//! 165. the figures ask 5 before 3
+//! 166. a tick that hears nothing is not counted
+//! 167. the figures count 17, which no judgement gives
 
 use std::ops::RangeInclusive;
 
-/// The last of those that are numbered one after the other; those of charges stand behind them.
-pub const COUNT: u8 = 124;
+/// The last of those that are numbered one after the other; those of charges and of the figures stand behind them.
+const COUNT: u8 = 124;
 /// Those that are in the program `yard` alone.
 pub const OF_YARD: RangeInclusive<u8> = 39..=47;
 /// Those that are in engines (02, 2.9) alone.
@@ -158,10 +177,12 @@ pub const OF_ENGINES: RangeInclusive<u8> = 48..=66;
 pub const OF_WIDER: RangeInclusive<u8> = 70..=124;
 /// Those that are in charges and totals (02, 2.11) alone.
 pub const OF_CHARGES: RangeInclusive<u8> = 130..=149;
+/// Those that are in the figures (02, 2.13) alone.
+pub const OF_FIGURES: RangeInclusive<u8> = 150..=167;
 
 /// All faults.
 pub fn all() -> impl Iterator<Item = u8> {
-    (1..=COUNT).chain(OF_CHARGES)
+    (1..=COUNT).chain(OF_CHARGES).chain(OF_FIGURES)
 }
 
 #[cfg(feature = "plant")]

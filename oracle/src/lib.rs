@@ -8,6 +8,7 @@ pub mod batch;
 pub mod board;
 pub mod engine;
 pub mod fault;
+pub mod figures;
 pub mod frame;
 pub mod generate;
 pub mod holdback;
@@ -32,6 +33,7 @@ pub mod yard_trace;
 
 pub use board::Buffers;
 pub use engine::{long_tick, LongCall};
+pub use figures::figures;
 pub use frame::{read, write, write_in, Frame};
 pub use limits::{Both, Limits, Pairs, Schedule, Settings};
 pub use long::{long_read, long_start, long_write, LongState};

@@ -43,6 +43,6 @@ unfoldable pub longFreshBytes : Setup → ℕ → ℕ → List ℕ → List ℕ
 longFreshBytes s own clock tables =
     startBytes (longFreshNumber s own clock) (longTablesBytes (widened (fresh (s .epsilon) clock))) tables
 
--- the version 2.11.0: major, minor and patch in a byte each, the patch lowest
+-- the version 2.13.0: major, minor and patch in a byte each, the patch lowest
 abbrev pub version : ℕ
-version = 133888
+version = 134400

@@ -2,6 +2,7 @@
 // with, over numbers and byte slices. A slice is a pointer and a length; the tables are a pointer to 35 bytes (r low, r high, c, 32 counts); the answer
 // is one number. Any arguments get an answer.
 mod charging;
+mod counting;
 mod engine;
 mod packing;
 
@@ -325,5 +326,5 @@ pub extern "C" fn yarngravel_fresh_last(
 pub extern "C" fn yarngravel_version() -> u32
     ensures { λ r. ⌜ r ≡ version ⌝ }
 {
-    0x020b00
+    0x020d00
 }

@@ -3,6 +3,7 @@ pub mod Samples
 pub mod Comparisons
 pub mod Polls
 pub mod Observers
+pub mod Counts
 pub mod Engines
 pub mod LedgerSamples
 pub mod ComputingWider

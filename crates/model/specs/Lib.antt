@@ -8,9 +8,11 @@ pub mod Holdback
 pub mod Question
 pub mod Codec
 pub mod Judge
+pub mod Verdicts
 pub mod Tick
 pub mod Poll
 pub mod Observer
+pub mod Figures
 pub mod Long
 pub mod Ledger
 pub mod Schedule

@@ -16,7 +16,7 @@ use Rattle.trace.specs.Trace.{traceSetup, countLength, tickCount, tickNumber}
 use Rattle.trace.specs.Replay.{stopped}
 use Rattle.rehearsal.specs.Step.{groupSetupLength, stepNumber, tickWith}
 use Rattle.rehearsal.specs.Group.{newGroup, Stepped}
-use Rattle.rehearsal.specs.Figures.{figureLines}
+use Rattle.rehearsal.specs.Closing.{figureLines}
 use Rattle.rehearsal.specs.Rehearsal.{groupSetup}
 use Rattle.rehearsal.specs.Calls.{
   stepsIn,

@@ -19,7 +19,7 @@ use Rattle.trace.specs.Trace.{traceSetup, setupNumber, countLength, tickCount, 
 use Rattle.trace.specs.Replay.{stopped}
 use Rattle.rehearsal.specs.Step.{groupSetupLength, stepsNumber, stepNumber, tickWith, stepEnd}
 use Rattle.rehearsal.specs.Group.{Player, Group, newPlayer, newGroup, Stepped, stepped}
-use Rattle.rehearsal.specs.Figures.{figureLines}
+use Rattle.rehearsal.specs.Closing.{figureLines}
 use Rattle.rehearsal.specs.Rehearsal.{rehearseSteps, rehearseFrom, groupSetup, rehearsal}
 use Rattle.rehearsal.specs.Calls.{
   stepsIn,

@@ -1,4 +1,4 @@
--- The closing figures, noted step by step: each is the smallest number of opening steps in which some frame is refused by its check. Assumes nothing.
+-- The numbers of the closing lines, noted step by step: each is the smallest number of opening steps in which some frame is refused by its check. Assumes nothing.
 use Prim.Native.Nat.{ℕ, zero, suc, _+_, _-_, _^_, _≤_, _<_, min}
 use mathlib.Core.Path.{_≡_, refl, sym, ap, ap₂, _∙_}
 use mathlib.Core.Bool.{Bool, true, false, _&&_, _||_, cond}
@@ -18,7 +18,7 @@ use Rattle.text.specs.Text.{decimal, space, newline, field}
 use Rattle.text.proofs.Numerals.{length-decimal, digitCount-le, digitCount-most}
 use Rattle.text.proofs.Putting.{length-field}
 use Rattle.trace.specs.Text.{dashWord}
-use Rattle.rehearsal.specs.Figures.{refusedIn, firstRefused, figureText, figureLine, figureLines, checkNumbers}
+use Rattle.rehearsal.specs.Closing.{refusedIn, firstRefused, figureText, figureLine, figureLines, checkNumbers}
 use Rattle.rehearsal.specs.Views.{figureOf, asFigure, figuresOf, noted, notedAll, figuresText}
 
 -- ---- the smallest of the numbers below n that pass a test

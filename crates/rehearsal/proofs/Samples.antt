@@ -29,7 +29,7 @@ use Rattle.trace.specs.Trace.{
 use Rattle.trace.specs.Replay.{callOf, calledTurn, turn, freshBefore, tablesAt, turnAt}
 use Rattle.rehearsal.specs.Step.{stepsNumber, stationOf, tickPart, heardAt, heardCount, heardNumber, heardNumbers, stepEnd, isSent, stepNumber, heardFrames, tickWith}
 use Rattle.rehearsal.specs.Group.{newPlayer, newGroup, labelledFrom, labelled, stepTurn, playerAfter, groupAfter, calledStep, stepped}
-use Rattle.rehearsal.specs.Figures.{refusedIn, firstRefused, figureLine, figureLines}
+use Rattle.rehearsal.specs.Closing.{refusedIn, firstRefused, figureLine, figureLines}
 use Rattle.rehearsal.specs.Rehearsal.{rehearseSteps, rehearseFrom, groupSetup, rehearsal}
 use Rattle.rehearsal.specs.Calls.{stepsIn, firstTick, nodeAt, groupNodes, lastClock, callFor, groupStart, madeOf, doneLines, doneVerdicts, doneNumber, latestNumber, callsMade, runOf, steppedAll, unrefused, behindSteps, Unrefused}
 use Rattle.rehearsal.proofs.AllCalls.{text-by-calls}

@@ -18,7 +18,7 @@ use Rattle.trace.specs.Trace.{largestHoldback, traceSetup, setupNumber, countLe
 use Rattle.trace.specs.Replay.{stopped, freshBefore}
 use Rattle.rehearsal.specs.Step.{groupSetupLength, stepsNumber, stationOf, tickPart, heardNumbers, stepNumber, batchWith, heardFrames, tickWith, stepEnd}
 use Rattle.rehearsal.specs.Group.{Player, Group, newGroup, labelled, Stepped, stepped}
-use Rattle.rehearsal.specs.Figures.{figureLines}
+use Rattle.rehearsal.specs.Closing.{figureLines}
 use Rattle.rehearsal.specs.Rehearsal.{groupSetup, rehearsal}
 
 -- the bytes of `k` steps, one after the other

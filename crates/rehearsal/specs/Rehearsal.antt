@@ -8,7 +8,7 @@ use Rattle.trace.specs.Trace.{traceSetup, setupNumber, countLength, tickCount, 
 use Rattle.trace.specs.Replay.{stopped}
 use Rattle.rehearsal.specs.Step.{groupSetupLength, stepsNumber, stepEnd}
 use Rattle.rehearsal.specs.Group.{Group, newGroup, Stepped, stepped}
-use Rattle.rehearsal.specs.Figures.{figureLines}
+use Rattle.rehearsal.specs.Closing.{figureLines}
 
 -- the lines of `k` steps; `verdicts` has those of the steps before them. 02: "seven lines after an unrefused run"
 unfoldable pub rehearseSteps : Setup → ℕ → Group → List (List ℕ) → List ℕ → List ℕ

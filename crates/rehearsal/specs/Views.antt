@@ -1,4 +1,4 @@
--- What the code's buffers and numbers say in the terms of `Step`, `Group` and `Figures`. Assumes nothing.
+-- What the code's buffers and numbers say in the terms of `Step`, `Group` and `Closing`. Assumes nothing.
 use Prim.Native.Nat.{ℕ, zero, suc, _+_, _*_, _-_, _≤_, _<_}
 use mathlib.Core.Path.{_≡_}
 use mathlib.Core.Bool.{Bool, true, _&&_, cond}
@@ -10,7 +10,7 @@ use Rattle.laws.specs.Lists.{tab, within, every, joined}
 use Rattle.splice.specs.Bytes.{pasted}
 use Rattle.text.specs.Text.{decimal, space}
 use Rattle.rehearsal.specs.Step.{heardNumbers, stepEnd, isSent}
-use Rattle.rehearsal.specs.Figures.{firstRefused, figureLine, checkNumbers}
+use Rattle.rehearsal.specs.Closing.{firstRefused, figureLine, checkNumbers}
 
 -- ---- the frames sent: a slot of 72 bytes for each step, a length byte and the frame; 0 where it sent none
 
@@ -55,7 +55,7 @@ labelOf station = decimal station ++ space
 abbrev pub labelledByte : Bool → ℕ → ℕ → List ℕ
 labelledByte starts station byte = cond starts (labelOf station) [] ++ (byte ∷ [])
 
--- ---- the closing figures: one for each check number, 0 for none
+-- ---- the closing lines' numbers: one for each check number, 0 for none
 
 abbrev pub figureOf : Option ℕ → ℕ
 figureOf none = 0

@@ -1,14 +1,14 @@
 // 02, 2.8, "Rehearse the whole yard": from the bytes of a trace of all stations to the ticks of each,
 // and the lines of text. Any bytes get an answer.
-mod figures;
+mod closing;
 mod frames;
 mod labels;
 mod parse;
 mod step;
 mod ticks;
 
-pub use figures::note_verdicts;
-pub use figures::put_figures;
+pub use closing::note_verdicts;
+pub use closing::put_figures;
 pub use frames::keep_frame;
 pub use frames::step_number;
 pub use labels::put_labelled;

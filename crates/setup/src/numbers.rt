@@ -30,3 +30,10 @@ pub const REPEAT: u8 = 16;
 
 // 02, 2.9: of an engine's frame.
 pub const TOO_MANY: u8 = 18;
+
+// 02, 2.11: of a press ticket.
+pub const BAD_PRESS: u8 = 20;
+
+pub const CHARGED: u8 = 21;
+
+pub const FULL_LEDGER: u8 = 22;

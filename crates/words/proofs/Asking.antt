@@ -2,27 +2,25 @@
 use Prim.Native.Nat.{ℕ, zero, suc, _*_, _≤_, _<_}
 use mathlib.Core.Path.{_≡_, refl, sym, ap, _∙_}
 use mathlib.Core.Bool.{Bool, true, false, _&&_}
-use mathlib.Core.List.{List, [], _∷_}
+use mathlib.Core.List.{List, [], _∷_, _++_}
 use lib.Dec.{leb}
-use lib.ListN.{length, take}
+use lib.ListN.{length}
 use borrow.Author.Tests.{le-leb, lt-leb, leb-true}
-use Rattle.laws.specs.Lists.{every}
 use Rattle.laws.proofs.Numbers.{and-left}
 use Rattle.model.specs.Setup.{Setup, inLimits, isMember}
-use Rattle.model.specs.Batch.{exactBatch, batchEntries}
+use Rattle.model.specs.Batch.{batchEntries}
 use Rattle.model.specs.Question.{Question, ask, firstNo, askSetup}
-use Rattle.lemmas.proofs.Questions.{first-yes, other-yes, yes-cons, no-cons}
+use Rattle.model.specs.Verdicts.{verdictQuestions}
+use Rattle.lemmas.proofs.Questions.{first-yes, other-yes, yes-cons, no-cons, no-append, yes-append, front-append}
 use Rattle.batch.specs.Walk.{countOf}
 use Rattle.batch.proofs.Walk.{batch-count}
+use Rattle.verdicts.specs.Fit.{VerdictsFit}
+use Rattle.verdicts.proofs.Asking as verdicts-asking
+use Rattle.verdicts.proofs.Asking.{none-left, numbers-past-0, fits}
 use Rattle.text.specs.Text.{Put}
-use Rattle.words.specs.Words.{given, longestLine, textOf, wordsQuestions, wordsBy, words}
+use Rattle.words.specs.Words.{longestLine, textOf, wordsQuestions, wordsBy, words}
 use Rattle.words.specs.Answers.{Answered}
 use Rattle.words.proofs.Writing.{put-front, put-size}
-
--- no question is left
-pub none-left : firstNo [] ≡ 0
-unfolding firstNo
-none-left = refl
 
 module _ (s : Setup) (own : ℕ) (batch verdicts text : List ℕ) where
   -- the number of the first no
@@ -32,77 +30,65 @@ module _ (s : Setup) (own : ℕ) (batch verdicts text : List ℕ) where
   abbrev entries : ℕ
   entries = length (batchEntries batch)
 
-  -- the questions from each one on
-  abbrev fromGiven : List Question
-  fromGiven = ask (every given (take entries verdicts)) 6 ∷ []
+  -- the last question, and those behind the first
+  abbrev room : List Question
+  room = ask (leb (longestLine * entries) (length text)) 6 ∷ []
 
-  abbrev fromRoom : List Question
-  fromRoom = ask (leb (longestLine * entries) (length text)) 6 ∷ fromGiven
-
-  abbrev fromCount : List Question
-  fromCount = ask (leb entries (length verdicts)) 6 ∷ fromRoom
-
-  abbrev fromExact : List Question
-  fromExact = ask (exactBatch batch) 5 ∷ fromCount
+  abbrev behind : List Question
+  behind = verdictQuestions batch verdicts ++ room
 
   abbrev valid : Bool
   valid = inLimits s && isMember s own
 
   pub setup-no : valid ≡ false → asked ≡ 1
   unfolding wordsQuestions askSetup
-  setup-no h = no-cons valid 1 fromExact h
+  setup-no h = no-cons valid 1 behind h
 
   module _ (v : valid ≡ true) where
-    setup-right : asked ≡ firstNo fromExact
+    setup-right : asked ≡ firstNo behind
     unfolding wordsQuestions askSetup
-    setup-right = yes-cons valid 1 fromExact v
+    setup-right = yes-cons valid 1 behind v
 
-    pub exact-no : exactBatch batch ≡ false → asked ≡ 5
-    exact-no h = setup-right ∙ no-cons (exactBatch batch) 5 fromCount h
+    pub verdicts-no : (k : ℕ) → k ≡ firstNo (verdictQuestions batch verdicts) → (k ≡ 0 → ⊥) → k ≡ asked
+    verdicts-no k e h = no-append (verdictQuestions batch verdicts) room k e h ∙ sym setup-right
 
-    module _ (e : exactBatch batch ≡ true) (count : ℕ) (c : count ≡ countOf batch) where
-      as-many : entries ≡ count
-      as-many = batch-count batch e ∙ sym c
+    module _ (e : firstNo (verdictQuestions batch verdicts) ≡ 0) where
+      fit : VerdictsFit batch verdicts
+      fit = fits batch verdicts e
 
-      exact-right : asked ≡ firstNo fromCount
-      exact-right = setup-right ∙ yes-cons (exactBatch batch) 5 fromCount e
+      verdicts-right : asked ≡ firstNo room
+      verdicts-right = setup-right ∙ yes-append (verdictQuestions batch verdicts) room (numbers-past-0 batch verdicts) e
 
-      pub count-no : length verdicts < count → asked ≡ 6
-      count-no h = exact-right ∙ no-cons (leb entries (length verdicts)) 6 fromRoom (rw as-many (lt-leb count (length verdicts) h))
-
-      module _ (h : count ≤ length verdicts) where
-        count-right : asked ≡ firstNo fromRoom
-        count-right = exact-right ∙ yes-cons (leb entries (length verdicts)) 6 fromRoom (rw as-many (le-leb count (length verdicts) h))
+      module _ (count : ℕ) (c : count ≡ countOf batch) where
+        as-many : entries ≡ count
+        as-many = batch-count batch (fit .exact) ∙ sym c
 
         pub room-no : length text < longestLine * count → asked ≡ 6
         room-no k =
-            count-right ∙ no-cons (leb (longestLine * entries) (length text)) 6 fromGiven (rw as-many (lt-leb (longestLine * count) (length text) k))
+            verdicts-right ∙ no-cons (leb (longestLine * entries) (length text)) 6 [] (rw as-many (lt-leb (longestLine * count) (length text) k))
 
-        module _ (k : longestLine * count ≤ length text) where
-          room-right : asked ≡ firstNo fromGiven
-          room-right =
-              count-right ∙ yes-cons (leb (longestLine * entries) (length text)) 6 fromGiven (rw as-many (le-leb (longestLine * count) (length text) k))
+        pub room-right : longestLine * count ≤ length text → asked ≡ 0
+        room-right k =
+            verdicts-right
+            ∙ (yes-cons (leb (longestLine * entries) (length text)) 6 [] (rw as-many (le-leb (longestLine * count) (length text) k)) ∙ none-left)
 
-          pub given-no : every given (take count verdicts) ≡ false → asked ≡ 6
-          given-no g = room-right ∙ no-cons (every given (take entries verdicts)) 6 [] (rw as-many g)
-
-          pub given-right : every given (take count verdicts) ≡ true → asked ≡ 0
-          given-right g = room-right ∙ (yes-cons (every given (take entries verdicts)) 6 [] (rw as-many g) ∙ none-left)
+    -- where all get a yes
+    pub none-asked : VerdictsFit batch verdicts → longestLine * entries ≤ length text → asked ≡ 0
+    none-asked f k =
+        let e : firstNo (verdictQuestions batch verdicts) ≡ 0 = verdicts-asking.none-asked batch verdicts f in
+        room-right e (countOf batch) refl (rw (← batch-count batch (f .exact)) k)
 
   -- where no question gets a no
   pub answered : asked ≡ 0 → Answered s batch verdicts text
   unfolding wordsQuestions askSetup
   answered e =
-      let e₁ = other-yes valid 0 fromExact e in
-      let e₂ = other-yes (exactBatch batch) 4 fromCount e₁ in
-      let e₃ = other-yes (leb entries (length verdicts)) 5 fromRoom e₂ in
-      let e₄ = other-yes (leb (longestLine * entries) (length text)) 5 fromGiven e₃ in
+      let e₁ = other-yes valid 0 behind e in
+      let e₂ : firstNo (verdictQuestions batch verdicts) ≡ 0 = front-append (verdictQuestions batch verdicts) room e₁ in
+      let e₃ : firstNo room ≡ 0 = sym (yes-append (verdictQuestions batch verdicts) room (numbers-past-0 batch verdicts) e₂) ∙ e₁ in
       record {
-        limits = and-left (inLimits s) (isMember s own) (first-yes valid 0 fromExact e);
-        exact = first-yes (exactBatch batch) 4 fromCount e₁;
-        enough = leb-true entries (length verdicts) (first-yes (leb entries (length verdicts)) 5 fromRoom e₂);
-        room = leb-true (longestLine * entries) (length text) (first-yes (leb (longestLine * entries) (length text)) 5 fromGiven e₃);
-        all-given = first-yes (every given (take entries verdicts)) 5 [] e₄;
+        limits = and-left (inLimits s) (isMember s own) (first-yes valid 0 behind e);
+        fit = fits batch verdicts e₂;
+        room = leb-true (longestLine * entries) (length text) (first-yes (leb (longestLine * entries) (length text)) 5 [] e₃);
       }
 
   -- the answer by the number of the first no

@@ -1,6 +1,5 @@
--- `Given` has the numbers that a judgement gives, `Telling` that a line tells them, `Short` how long it is; `Writing` is about the loop
+-- `Telling` says that a line tells its judgement, `Short` how long it is; `Writing` is about the loop
 -- that writes the lines, `Asking` about the questions; `Judged` has the lines of a tick, `Samples` lines computed.
-pub mod Given
 pub mod Telling
 pub mod Short
 pub mod Writing

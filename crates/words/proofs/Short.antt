@@ -7,13 +7,14 @@ use native.Mathlib.Omega.{arith}
 use lib.Dec.{eqb}
 use lib.ListN.{length, length-append}
 use Rattle.model.specs.Setup.{Setup}
+use Rattle.model.specs.Verdicts.{given}
 use Rattle.lemmas.proofs.Bounds.{Limits}
 use Rattle.lemmas.proofs.Questions.{limits-from}
 use Rattle.text.specs.Text.{decimal, digitCount}
 use Rattle.text.proofs.Numerals.{length-decimal, digitCount-le}
-use Rattle.words.specs.Words.{given, rangeWord, stampWord, lateWord, earlyWord, countWord, dash, ruleWord, wordOf, ruleLimitsOf, orDash, partsOf, spaced, lineOf}
+use Rattle.words.specs.Words.{rangeWord, stampWord, lateWord, earlyWord, countWord, dash, ruleWord, wordOf, ruleLimitsOf, orDash, partsOf, spaced, lineOf}
 use Rattle.words.specs.Statements.{ShortLines}
-use Rattle.words.proofs.Given.{given-all}
+use Rattle.verdicts.proofs.Given.{given-all}
 
 -- a part and the space before it
 length-spaced : (part : List ℕ) (rest : List (List ℕ)) → length (spaced (part ∷ rest)) ≡ 1 + length part + length (spaced rest)

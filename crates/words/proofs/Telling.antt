@@ -11,11 +11,12 @@ use Rattle.laws.specs.Lists.{every, sameList}
 use Rattle.laws.proofs.Numbers.{and-intro, and-left, and-right}
 use Rattle.model.specs.Setup.{Setup}
 use Rattle.model.specs.Frame.{Frame}
+use Rattle.model.specs.Verdicts.{given}
 use Rattle.text.specs.Text.{decimal}
 use Rattle.text.proofs.Decimals.{decimal-injective, decimal-plain}
-use Rattle.words.specs.Words.{given, takenWord, formWord, rangeWord, stampWord, lateWord, earlyWord, countWord, dash, ruleWord, wordOf, ruleLimitsOf, orDash, partsOf, spaced, lineOf}
+use Rattle.words.specs.Words.{takenWord, formWord, rangeWord, stampWord, lateWord, earlyWord, countWord, dash, ruleWord, wordOf, ruleLimitsOf, orDash, partsOf, spaced, lineOf}
 use Rattle.words.specs.Statements.{TellingLines}
-use Rattle.words.proofs.Given.{given-all}
+use Rattle.verdicts.proofs.Given.{given-all}
 
 -- ---- a line tells its parts
 

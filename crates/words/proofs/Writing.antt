@@ -1,25 +1,26 @@
 -- The parts of a line as the code writes them, and the loop over the entries, turn by turn. Assumes nothing.
-use Prim.Native.Nat.{ℕ, suc, _+_, _*_, _-_, _≤_, _<_}
+use Prim.Native.Nat.{ℕ, _+_, _*_, _-_, _≤_, _<_}
 use mathlib.Core.Path.{_≡_, refl, sym, ap, _∙_}
 use mathlib.Core.Bool.{true}
 use mathlib.Core.List.{List, [], _∷_, _++_, map, append-nil}
-use native.Mathlib.Nat.{add-zero, zero-add}
+use native.Mathlib.Nat.{zero-add}
 use native.Mathlib.Numerals.{add-one}
 use native.Mathlib.Omega.{arith}
-use lib.ListN.{length, take, drop, getD, length-take}
-use lib.Seq.{getD-take, getD-drop, drop-drop}
+use lib.ListN.{length, drop, getD}
 use borrow.Author.Tests.{ne-eqb}
 use Rattle.laws.specs.Lists.{tab, joined, overlay}
-use Rattle.laws.proofs.Lists.{joined-append, tab-suc, every-index}
+use Rattle.laws.proofs.Lists.{joined-append, tab-suc}
 use Rattle.model.specs.Setup.{Setup}
 use Rattle.model.specs.Frame.{Frame, decode, twoAt}
 use Rattle.model.specs.Batch.{batchEntries}
 use Rattle.splice.specs.Bytes.{pasted}
+use Rattle.model.specs.Verdicts.{given}
 use Rattle.batch.specs.Walk.{countOf, entryAt, nextAt}
-use Rattle.batch.proofs.Walk.{walked, batch-walked, batch-count}
+use Rattle.batch.proofs.Walk.{batch-count}
+use Rattle.verdicts.proofs.Walking.{Walking, walking-start, walking-entry, walking-turn, verdict-given}
 use Rattle.text.specs.Text.{Put, decimal, space}
 use Rattle.text.proofs.Putting.{put-nothing, put-then, put-as, put-length}
-use Rattle.words.specs.Words.{given, repeatWord, ruleWord, wordOf, ruleLimitsOf, orDash, partsOf, spaced, lineOf, lineAt, wordLines, textOf, longestLine}
+use Rattle.words.specs.Words.{repeatWord, ruleWord, wordOf, ruleLimitsOf, orDash, partsOf, spaced, lineOf, lineAt, wordLines, textOf, longestLine}
 use Rattle.words.specs.Answers.{Answered}
 
 -- ---- the parts
@@ -66,9 +67,7 @@ module _ (s : Setup) (batch verdicts text : List ℕ) where
   linesUpTo position = joined (λ line. line) (tab position (lineAt s (batchEntries batch) verdicts))
 
   pub record Lining (position at end : ℕ) (cur : List ℕ) : Type 0 where
-    pub left : ℕ
-    pub counted : countOf batch ≡ position + left
-    pub rest : walked left batch at ≡ drop position (batchEntries batch)
+    pub walk : Walking batch position at
     pub so-far : Put text 0 (linesUpTo position) cur end
     pub as-long : length cur ≡ length text
     pub near : end ≤ longestLine * position
@@ -77,9 +76,7 @@ module _ (s : Setup) (batch verdicts text : List ℕ) where
   unfolding linesUpTo tab joined
   lining-start ok =
       record {
-        left = countOf batch;
-        counted = omega arith;
-        rest = batch-walked batch (ok .exact);
+        walk = walking-start (ok .fit .exact);
         so-far = put-nothing text 0;
         as-long = refl;
         near = omega arith;
@@ -88,34 +85,21 @@ module _ (s : Setup) (batch verdicts text : List ℕ) where
   module _ (ok : Answered s batch verdicts text) {position at end : ℕ} {cur : List ℕ} (here : Lining position at end cur) where
     -- at one more entry
     module _ (more : position < countOf batch) where
-      front : entryAt batch at ∷ walked (here .left - 1) batch (nextAt batch at) ≡ drop position (batchEntries batch)
-      unfolding walked
-      front =
-          let e : here .left ≡ suc (here .left - 1) = omega (arith, here .counted) in
-          ap (λ (m : ℕ). walked m batch at) (sym e) ∙ here .rest
-
       -- its line, of the bytes where the walk is
       pub lining-line : (bytes : List ℕ) → bytes ≡ entryAt batch at
           → lineOf s position (getD verdicts position 0) (decode (s .epsilon) bytes) ≡ lineAt s (batchEntries batch) verdicts position
       unfolding lineAt
       lining-line bytes e =
           ap (λ (l : List ℕ). lineOf s position (getD verdicts position 0) (decode (s .epsilon) l))
-          (e
-          ∙ (ap (λ (l : List (List ℕ)). getD l 0 []) front
-          ∙ (getD-drop position (batchEntries batch) 0 [] ∙ ap (λ (m : ℕ). getD (batchEntries batch) m []) (add-zero position))))
+          (e ∙ walking-entry (here .walk) more)
 
       -- a judgement gave its verdict
       pub lining-given : given (getD verdicts position 0) ≡ true
-      lining-given =
-          let below : position < length (batchEntries batch) = omega (arith, batch-count batch (ok .exact)) in
-          let small : position < length (take (length (batchEntries batch)) verdicts)
-          = omega (arith, length-take (length (batchEntries batch)) verdicts, ok .enough) in
-          rw (← getD-take (length (batchEntries batch)) verdicts position 0 below)
-          (every-index given (take (length (batchEntries batch)) verdicts) 0 (ok .all-given) position small)
+      lining-given = verdict-given (ok .fit) position more
 
       -- there is room for it
       pub lining-room : end + longestLine ≤ length cur
-      lining-room = omega (arith, ok .room, batch-count batch (ok .exact), here .as-long, here .near)
+      lining-room = omega (arith, ok .room, batch-count batch (ok .fit .exact), here .as-long, here .near)
 
       pub lining-turn : {next : List ℕ} {at′ end′ : ℕ} (line : List ℕ) → line ≡ lineAt s (batchEntries batch) verdicts position
           → at′ ≡ nextAt batch at → Put cur end line next end′ → end′ ≤ end + longestLine → Lining (position + 1) at′ end′ next
@@ -126,11 +110,7 @@ module _ (s : Setup) (batch verdicts text : List ℕ) where
           (sym (joined-append (λ l. l) (tab position (lineAt s (batchEntries batch) verdicts)) (lineAt s (batchEntries batch) verdicts position ∷ [])
           ∙ ap (λ (l : List ℕ). linesUpTo position ++ l) (append-nil (lineAt s (batchEntries batch) verdicts position)))) in
           record {
-            left = here .left - 1;
-            counted = omega (arith, here .counted);
-            rest =
-                ap (λ (m : ℕ). walked (here .left - 1) batch m) step
-                ∙ (ap (drop 1) front ∙ drop-drop 1 position (batchEntries batch));
+            walk = walking-turn (here .walk) more step;
             so-far = put-as lines (put-then (omega arith) (here .so-far) put);
             as-long = put-length (omega (arith, lining-room, put .ends)) put ∙ here .as-long;
             near = omega (arith, here .near);
@@ -140,7 +120,7 @@ module _ (s : Setup) (batch verdicts text : List ℕ) where
       → Put text 0 (textOf s (batchEntries batch) verdicts) cur end
   unfolding linesUpTo textOf wordLines
   lining-end {position} ok here done =
-      let all : position ≡ length (batchEntries batch) = omega (arith, here .counted, batch-count batch (ok .exact)) in
+      let all : position ≡ length (batchEntries batch) = omega (arith, here .walk .counted, batch-count batch (ok .fit .exact)) in
       put-as (ap linesUpTo all) (here .so-far)
 
 -- at the front of a buffer

@@ -4,10 +4,10 @@ use mathlib.Core.Path.{_≡_}
 use mathlib.Core.Bool.{true}
 use mathlib.Core.List.{List, [], _∷_}
 use lib.ListN.{length, take}
-use Rattle.laws.specs.Lists.{every}
 use Rattle.model.specs.Setup.{Setup, inLimits}
-use Rattle.model.specs.Batch.{exactBatch, batchEntries}
-use Rattle.words.specs.Words.{WordsAnswer, given, longestLine}
+use Rattle.model.specs.Batch.{batchEntries}
+use Rattle.verdicts.specs.Fit.{VerdictsFit}
+use Rattle.words.specs.Words.{WordsAnswer, longestLine}
 use Rattle.words.specs.declared.line.RuleLimits.{RuleLimits}
 use Rattle.words.specs.declared.lines.Written.{Written}
 
@@ -22,7 +22,5 @@ answerOf a text = record { number = a .number; size = a .size; text = text }
 -- every question got a yes
 pub record Answered (s : Setup) (batch verdicts text : List ℕ) : Type 0 where
   pub limits : inLimits s ≡ true
-  pub exact : exactBatch batch ≡ true
-  pub enough : length (batchEntries batch) ≤ length verdicts
+  pub fit : VerdictsFit batch verdicts
   pub room : longestLine * length (batchEntries batch) ≤ length text
-  pub all-given : every given (take (length (batchEntries batch)) verdicts) ≡ true

@@ -4,36 +4,18 @@ use mathlib.Core.Path.{_≡_}
 use mathlib.Core.Bool.{true}
 use mathlib.Core.List.{List}
 use mathlib.Core.Option.{some}
-use lib.ListN.{length, take, getElem?}
+use lib.ListN.{length, getElem?}
 use Rattle.laws.specs.Lists.{joined}
 use Rattle.model.specs.Setup.{Setup, inLimits}
 use Rattle.model.specs.Frame.{Frame, decode}
 use Rattle.model.specs.Batch.{batchEntries}
-use Rattle.model.specs.Question.{firstNo}
-use Rattle.model.specs.Judge.{Asking, Heard, hear, judgeQuestions, observerQuestions}
-use Rattle.model.specs.Tick.{Input, openingIn, opening, tick}
-use Rattle.model.specs.Observer.{Listening, observerOpened, listen}
-use Rattle.words.specs.Words.{given, lineOf, wordLines, longestLine, wordsBy, words}
+use Rattle.model.specs.Tick.{Input, tick}
+use Rattle.model.specs.Observer.{Listening, listen}
+use Rattle.model.specs.Verdicts.{given}
+use Rattle.verdicts.specs.Judging.{Judging, judgedNumber, tickJudging, listenJudging}
+use Rattle.words.specs.Words.{lineOf, wordLines, longestLine, wordsBy, words}
 
--- a call that judges a batch, a tick or an observer's call: what it asks of a frame, what its hearing starts from, and the verdict buffer that
--- it leaves
-pub record Judging : Type 0 where
-  pub setup : Setup
-  pub clock : ℕ
-  pub asking : Asking
-  pub opening : Heard
-  pub batch : List ℕ
-  pub verdicts : List ℕ
-
--- the shelved frames when it judges the entry at a position
-unfoldable pub queueAt : Judging → ℕ → List Frame
-queueAt j position = hear (j .setup) (j .clock) (j .asking) (j .opening) (take position (batchEntries (j .batch))) .queue
-
--- the number of the first question about that entry that gets a no; 0 where it is taken
-unfoldable pub judgedNumber : Judging → ℕ → List ℕ → ℕ
-judgedNumber j position entry = firstNo (j .asking (queueAt j position) entry)
-
--- the lines of its batch and of the verdict buffer that it leaves
+-- the lines of a call's batch and of the verdict buffer that it leaves
 abbrev pub callWords : Judging → List (List ℕ)
 callWords j = wordLines (j .setup) (batchEntries (j .batch)) (j .verdicts)
 
@@ -49,32 +31,10 @@ pub record CallTold (j : Judging) (own : ℕ) : Type 0 where
       → words (j .setup) own (j .batch) (j .verdicts) text ≡ wordsBy 0 (joined (λ line. line) (callWords j)) text
 
 -- of a tick
-abbrev pub tickJudging : Input → Judging
-tickJudging i =
-    record {
-      setup = i .setup;
-      clock = i .clock;
-      asking = judgeQuestions (i .setup) (i .clock);
-      opening = opening i;
-      batch = i .batch;
-      verdicts = tick i .verdicts;
-    }
-
 abbrev pub TrueWords : Type 0
 TrueWords = (i : Input) → tick i .answer .number ≡ 0 → CallTold (tickJudging i) (i .own)
 
--- 02, 2.6: of an observer's call, which asks by its own questions, "not 15". It has no own number; the words ask for one, and any below n will do
-abbrev pub listenJudging : Listening → Judging
-listenJudging i =
-    record {
-      setup = i .setup;
-      clock = i .clock;
-      asking = observerQuestions (i .setup) (i .clock);
-      opening = openingIn (i .setup) (i .clock) (observerOpened i);
-      batch = i .batch;
-      verdicts = listen i .verdicts;
-    }
-
+-- 02, 2.6: of an observer's call. It has no own number; the words ask for one, and any below n will do
 abbrev pub TrueObserverWords : Type 0
 TrueObserverWords = (i : Listening) (own : ℕ) → own < i .setup .n → listen i .number ≡ 0 → CallTold (listenJudging i) own
 

@@ -1,19 +1,16 @@
 -- 02, 2.1: "A line of words beside each verdict". A name in quotes is the text of which a list has the ASCII codes. Assumes nothing.
 use Prim.Native.Nat.{ℕ, zero, suc, _+_, _*_, _-_}
-use mathlib.Core.Bool.{Bool, _||_, cond}
+use mathlib.Core.Bool.{cond}
 use mathlib.Core.List.{List, [], _∷_, _++_, map}
 use lib.Dec.{leb, eqb}
-use lib.ListN.{length, take, getD}
-use Rattle.laws.specs.Lists.{tab, within, every, joined, overlay}
+use lib.ListN.{length, getD}
+use Rattle.laws.specs.Lists.{tab, joined, overlay}
 use Rattle.model.specs.Setup.{Setup}
 use Rattle.model.specs.Frame.{Frame, decode}
-use Rattle.model.specs.Batch.{exactBatch, batchEntries}
+use Rattle.model.specs.Batch.{batchEntries}
 use Rattle.model.specs.Question.{Question, ask, firstNo, askSetup}
+use Rattle.model.specs.Verdicts.{verdictQuestions}
 use Rattle.text.specs.Text.{decimal, space, newline}
-
--- the numbers that a judgement gives. 01: "the verdict buffer gets 0 or the number", one of 10 to 16
-unfoldable pub given : ℕ → Bool
-given number = eqb number 0 || within 10 16 number
 
 -- "taken", "form", "range", "stamp", "late", "early", "count", "repeat", and "-"
 abbrev pub takenWord : List ℕ
@@ -96,15 +93,10 @@ textOf s entries verdicts = joined (λ line. line) (wordLines s entries verdicts
 abbrev pub longestLine : ℕ
 longestLine = 29
 
--- what is asked: 1 and 5 as of a tick; 6 for fewer verdicts than entries, for a text buffer below 29 bytes an entry, and for a
--- verdict of one of these entries that no judgement gives
+-- what is asked: 1 as of a tick; 5 and 6 of the batch and its verdicts; and 6 for a text buffer below 29 bytes an entry
 unfoldable pub wordsQuestions : Setup → ℕ → List ℕ → List ℕ → List ℕ → List Question
 wordsQuestions s own batch verdicts text =
-    askSetup s own ∷ ask (exactBatch batch) 5
-    ∷ ask (leb (length (batchEntries batch)) (length verdicts)) 6
-    ∷ ask (leb (longestLine * length (batchEntries batch)) (length text)) 6
-    ∷ ask (every given (take (length (batchEntries batch)) verdicts)) 6
-    ∷ []
+    askSetup s own ∷ (verdictQuestions batch verdicts ++ (ask (leb (longestLine * length (batchEntries batch)) (length text)) 6 ∷ []))
 
 -- what is answered: the number of the first no, how long the text is, and the text buffer after the call
 pub record WordsAnswer : Type 0 where

@@ -18,9 +18,10 @@ ghost use Prim.Native.Nat.{_+_, _≤_, _<_};
 ghost use lib.ListN.{length};
 ghost use Rattle.model.specs.Setup.{inLimits};
 ghost use Rattle.model.specs.Frame.{decode};
+ghost use Rattle.model.specs.Verdicts.{given};
 ghost use Rattle.setup.specs.Views.{setupOf};
 ghost use Rattle.text.specs.Text.{Put, decimal, space};
-ghost use Rattle.words.specs.Words.{given, longestLine, orDash, ruleWord, wordOf, ruleLimitsOf, spaced, lineOf};
+ghost use Rattle.words.specs.Words.{longestLine, orDash, ruleWord, wordOf, ruleLimitsOf, spaced, lineOf};
 ghost use Rattle.words.specs.Answers.{shown};
 
 // 02: "For frames refused by 10 the station and r are a dash each".

@@ -1,51 +1,17 @@
 // What is asked before anything is written.
 use batch::count_of;
-use batch::exact;
-use setup::BAD_BATCH;
 use setup::BAD_BUFFERS;
-use setup::BAD_FORM;
 use setup::BAD_SETUP;
-use setup::REPEAT;
 use setup::Setup;
 use setup::valid_for;
+use verdicts::check_verdicts;
 ghost use mathlib.Core.Path.{_≡_};
-ghost use Prim.Native.Nat.{_≤_};
-ghost use lib.ListN.{length, take};
-ghost use Rattle.laws.specs.Lists.{every};
 ghost use Rattle.model.specs.Question.{firstNo};
 ghost use Rattle.setup.specs.Views.{setupOf};
-ghost use Rattle.words.specs.Words.{given, wordsQuestions};
+ghost use Rattle.words.specs.Words.{wordsQuestions};
 
 // 02: "A line is at most 29 bytes".
 const LONGEST_LINE: usize = 29;
-
-// Whether a judgement gives the number.
-fn is_given(number: u8) -> bool
-    ensures { λ r. ⌜ r ≡ given number ⌝ }
-{
-    if number == 0 {
-        return true;
-    }
-    if number < BAD_FORM {
-        return false;
-    }
-    number <= REPEAT
-}
-
-// Whether a judgement gives each of the first `count` verdicts.
-fn all_given(verdicts: &[u8], count: usize) -> bool
-    requires { ⌜ count ≤ length (now verdicts) ⌝ }
-    ensures { λ r. ⌜ r ≡ every given (take count (now (verdicts .entry))) ⌝ }
-{
-    let mut i = 0;
-    while i < count {
-        if !is_given(verdicts[i]) {
-            return false;
-        }
-        i += 1;
-    }
-    true
-}
 
 // The number of the first no, or 0.
 pub fn check_words(setup: Setup, own: u32, batch: &[u8], verdicts: &[u8], text: &[u8]) -> u8
@@ -54,17 +20,11 @@ pub fn check_words(setup: Setup, own: u32, batch: &[u8], verdicts: &[u8], text: 
     if !valid_for(setup, own) {
         return BAD_SETUP;
     }
-    if !exact(batch) {
-        return BAD_BATCH;
+    let number = check_verdicts(batch, verdicts);
+    if number != 0 {
+        return number;
     }
-    let count = count_of(batch);
-    if verdicts.len() < count {
-        return BAD_BUFFERS;
-    }
-    if text.len() < LONGEST_LINE * count {
-        return BAD_BUFFERS;
-    }
-    if !all_given(verdicts, count) {
+    if text.len() < LONGEST_LINE * count_of(batch) {
         return BAD_BUFFERS;
     }
     0

@@ -2,6 +2,7 @@
 
 pub mod cases;
 pub mod engines;
+pub mod figures;
 pub mod frames;
 pub mod group;
 pub mod ledgers;
@@ -19,6 +20,7 @@ pub mod yards;
 
 pub use cases::{FreshCase, ReadCase, TickCase, WordsCase, WriteCase, WriteInCase};
 pub use engines::{Beside, Pair};
+pub use figures::FiguresCase;
 pub use group::{Group, Habits, Turn};
 pub use ledgers::{ChargeCase, TotalCase};
 pub use long::{LongCase, LongFreshCase, LongReadCase, LongWriteCase};

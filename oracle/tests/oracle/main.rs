@@ -2,6 +2,7 @@
 
 mod checks;
 mod common;
+mod figures;
 mod group;
 mod ledger;
 mod long;

@@ -100,6 +100,8 @@ fn compare_meets_every_number_and_finds_every_fault() {
             "40000",
             "--charges",
             "20000",
+            "--figures",
+            "20000",
         ])
         .output();
     let output = output.unwrap();

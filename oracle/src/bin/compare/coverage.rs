@@ -13,6 +13,7 @@ const CALLS: u64 = 200_000;
 const ENGINES: u64 = 200_000;
 const WIDER: u64 = 100_000;
 const CHARGES: u64 = 50_000;
+const FIGURES: u64 = 40_000;
 const TRACES: u64 = 4_000;
 
 /// Of calls. The numbers of `no line` are verdicts for which the words answered 6. For `sent` and
@@ -246,6 +247,13 @@ const OF_YARDS: [Row; 8] = [
     ("yard step", &[(0, 450), (1, 76_000), (2, 2_000), (3, 4_100), (4, 460)]),
 ];
 
+/// Of calls of the figures: their answers, the verdicts that they counted, and the runs, from any bytes and from empty figures.
+const OF_FIGURES: [Row; 3] = [
+    ("figures", &[(0, 35_000), (1, 100), (3, 300), (5, 300), (6, 300)]),
+    ("figures of", &[(0, 10_000), (10, 500), (11, 100), (12, 100), (13, 500), (14, 500), (15, 500), (16, 10_000)]),
+    ("figures run", &[(0, 5), (1, 5)]),
+];
+
 /// The counts.
 #[derive(Default)]
 pub struct Coverage(BTreeMap<(&'static str, u8), u64>);
@@ -261,16 +269,17 @@ impl Coverage {
     }
 
     /// The numbers that were met too rarely in a run of this many calls, calls of engines, calls with
-    /// both pairs, charges and totals, traces and rehearsals.
-    pub fn gaps(&self, lengths: [u64; 6]) -> Vec<String> {
-        let [calls, engines, wider, charges, traces, rehearsals] = lengths;
+    /// both pairs, charges and totals, calls of the figures, traces and rehearsals.
+    pub fn gaps(&self, lengths: [u64; 7]) -> Vec<String> {
+        let [calls, engines, wider, charges, figures, traces, rehearsals] = lengths;
         let of_calls = self.below(&OF_CALLS, calls, CALLS);
         let of_engines = self.below(&OF_ENGINES, engines, ENGINES);
         let of_wider = self.below(&OF_WIDER, wider, WIDER);
         let of_charges = self.below(&OF_CHARGES, charges, CHARGES);
+        let of_figures = self.below(&OF_FIGURES, figures, FIGURES);
         let of_traces = self.below(&OF_TRACES, traces, TRACES);
         let of_yards = self.below(&OF_YARDS, rehearsals, TRACES);
-        [of_calls, of_engines, of_wider, of_charges, of_traces, of_yards].concat()
+        [of_calls, of_engines, of_wider, of_charges, of_figures, of_traces, of_yards].concat()
     }
 
     /// The numbers of some rows that a run of this length met less often than it should.

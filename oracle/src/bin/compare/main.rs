@@ -1,20 +1,22 @@
 //! Compares the oracle with the proved library and the proved programs, call by call.
 //!
 //! ```text
-//! compare --replay PATH --yard PATH [--seed S] [--calls N] [--engines N] [--wider N] [--charges N] [--traces N] [--plant K]
-//! compare selfcheck [--seed S] [--calls N] [--engines N] [--wider N] [--charges N] [--traces N]
+//! compare --replay PATH --yard PATH [--seed S] [--calls N] [--engines N] [--wider N] [--charges N] [--figures N] [--traces N] [--plant K]
+//! compare selfcheck [--seed S] [--calls N] [--engines N] [--wider N] [--charges N] [--figures N] [--traces N]
 //! ```
 //!
 //! The first form needs the feature `abi`; `--plant K` (feature `plant`) puts fault K into the
 //! oracle, and the comparison should then fail. The second form (feature `plant`) needs no
 //! library: it compares the oracle with itself, and then with itself and each fault in turn; for
 //! those of `yard` it makes no calls, for those of engines only calls of engines, for those of
-//! calls with both pairs only such, and for those of charges only charges and totals. The library has none of the latter yet: once it has, the feature
+//! charges only charges and totals, for those of the figures only their calls, and for those of calls
+//! with both pairs only such. The library has none of the latter yet: once it has, the feature
 //! `wider` lets the first form make them.
 
 mod charges;
 mod coverage;
 mod engines;
+mod figures;
 mod nudges;
 mod observers;
 mod polls;
@@ -40,6 +42,7 @@ struct Options {
     seed: u64,
     calls: u64,
     engines: u64,
+    figures: u64,
     wider: u64,
     charges: u64,
     traces: u64,
@@ -55,6 +58,7 @@ impl Options {
             seed: 1,
             calls: 200_000,
             engines: 200_000,
+            figures: 40_000,
             wider: 100_000,
             charges: 50_000,
             traces: 2_000,
@@ -73,6 +77,7 @@ impl Options {
                 "--seed" => options.seed = number()?,
                 "--calls" => options.calls = number()?,
                 "--engines" => options.engines = number()?,
+                "--figures" => options.figures = number()?,
                 "--wider" => options.wider = number()?,
                 "--charges" => options.charges = number()?,
                 "--traces" => options.traces = number()?,
@@ -120,12 +125,14 @@ fn compare<'s>(
     let (mut rng, mut other) = (Prng::new(options.seed), Prng::new(!options.seed));
     let mut third = Prng::new(options.seed ^ 0x5555);
     let mut fourth = Prng::new(options.seed ^ 0xaaaa);
+    let mut fifth = Prng::new(options.seed ^ 0xcccc);
     let mut comparison = Comparison::new(left, right);
     let result = comparison
         .run_calls(&mut rng, options.calls)
         .and_then(|()| comparison.run_engines(&mut other, options.engines))
         .and_then(|()| comparison.run_wider(&mut third, options.wider))
         .and_then(|()| comparison.run_charges(&mut fourth, options.charges))
+        .and_then(|()| comparison.run_figures(&mut fifth, options.figures))
         .and_then(|()| comparison.run_traces(&mut rng, options.traces))
         .and_then(|()| comparison.run_yards(&mut rng, options.traces));
     (comparison, result.map_err(|difference| format!("seed {}, {difference}", options.seed)))
@@ -142,16 +149,18 @@ fn compare_alike(
     result?;
     println!("{}", done.coverage);
     let (seconds, seed) = (start.elapsed().as_secs_f64(), options.seed);
-    let Comparison { calls, engine_calls, wider_calls, charge_calls, pairs, .. } = done;
-    let Comparison { traces, rehearsals, .. } = done;
+    let Comparison { calls, engine_calls, wider_calls, charge_calls, figures_calls, .. } = done;
+    let Comparison { pairs, traces, rehearsals, .. } = done;
     println!(
         "{calls} calls, {traces} traces and {rehearsals} rehearsals alike, seed {seed}, {seconds:.1} s"
     );
     let engines = engine_calls - pairs;
     println!("{engines} of the calls are of engines, {pairs} of a node beside one");
     println!("{wider_calls} of the calls have both pairs, {charge_calls} are charges and totals");
-    let plain = calls - engine_calls - wider_calls - charge_calls;
-    let lengths = [plain, engine_calls, wider_calls, charge_calls, traces, rehearsals];
+    println!("{figures_calls} of the calls are of the figures");
+    let plain = calls - engine_calls - wider_calls - charge_calls - figures_calls;
+    let lengths =
+        [plain, engine_calls, wider_calls, charge_calls, figures_calls, traces, rehearsals];
     match done.coverage.gaps(lengths) {
         gaps if gaps.is_empty() => Ok(()),
         gaps => Err(format!("met too rarely: {}", gaps.join(", "))),
@@ -192,20 +201,18 @@ fn compare_with_library(options: &Options) -> Result<(), String> {
 
 /// What is needed of a comparison that should find this fault.
 fn for_fault(options: &Options, fault: u8) -> Options {
-    let mut options = options.clone();
-    if fault::OF_YARD.contains(&fault) {
-        (options.calls, options.engines, options.wider, options.charges) = (0, 0, 0, 0);
+    let all = options.clone();
+    let (engines, wider, charges) = (all.engines, all.wider, all.charges);
+    let (figures, traces) = (all.figures, all.traces);
+    let none = Options { calls: 0, engines: 0, wider: 0, charges: 0, figures: 0, traces: 0, ..all };
+    match fault {
+        _ if fault::OF_YARD.contains(&fault) => Options { traces, ..none },
+        _ if fault::OF_ENGINES.contains(&fault) => Options { engines, ..none },
+        _ if fault::OF_WIDER.contains(&fault) => Options { wider, ..none },
+        _ if fault::OF_CHARGES.contains(&fault) => Options { charges, ..none },
+        _ if fault::OF_FIGURES.contains(&fault) => Options { figures, ..none },
+        _ => options.clone(),
     }
-    if fault::OF_ENGINES.contains(&fault) {
-        (options.calls, options.wider, options.charges, options.traces) = (0, 0, 0, 0);
-    }
-    if fault::OF_WIDER.contains(&fault) {
-        (options.calls, options.engines, options.charges, options.traces) = (0, 0, 0, 0);
-    }
-    if fault::OF_CHARGES.contains(&fault) {
-        (options.calls, options.engines, options.wider, options.traces) = (0, 0, 0, 0);
-    }
-    options
 }
 
 /// The oracle against itself, then against itself with each fault.

@@ -240,6 +240,8 @@ pub struct Comparison<'s> {
     pub wider_calls: u64,
     /// Those of charges and totals (02, 2.11).
     pub charge_calls: u64,
+    /// Those of the figures (02, 2.13).
+    pub figures_calls: u64,
     /// Calls that a node and its engine made side by side.
     pub pairs: u64,
     pub traces: u64,
@@ -249,7 +251,8 @@ pub struct Comparison<'s> {
 impl<'s> Comparison<'s> {
     pub fn new(left: &'s mut dyn Subject, right: &'s mut dyn Subject) -> Self {
         let coverage = Coverage::default();
-        let [calls, engine_calls, wider_calls, charge_calls, pairs, traces, rehearsals] = [0; 7];
+        let [calls, engine_calls, wider_calls, charge_calls, figures_calls] = [0; 5];
+        let [pairs, traces, rehearsals] = [0; 3];
         Comparison {
             left,
             right,
@@ -258,6 +261,7 @@ impl<'s> Comparison<'s> {
             engine_calls,
             wider_calls,
             charge_calls,
+            figures_calls,
             pairs,
             traces,
             rehearsals,

@@ -3,6 +3,7 @@
 use oracle::abi;
 use oracle::generate::{ChargeCase, TickCase, TotalCase, WordsCase, WriteCase, WriteInCase};
 use oracle::generate::{CompareCase, FreshCase, FreshLastCase, ListenCase, PollCase, ReadCase};
+use oracle::generate::FiguresCase;
 use oracle::generate::{LongCase, LongFreshCase, LongReadCase, LongWriteCase};
 use oracle::{fault, long, replay, yard, Both, Frame, Settings};
 
@@ -19,6 +20,7 @@ pub trait Subject {
     fn listen(&mut self, case: &mut ListenCase) -> u64;
     fn charge(&mut self, case: &mut ChargeCase) -> u64;
     fn total(&mut self, case: &mut TotalCase) -> u64;
+    fn figures(&mut self, case: &mut FiguresCase) -> u64;
     fn long_fresh(&mut self, case: &mut LongFreshCase) -> u64;
     fn long_tick(&mut self, case: &mut LongCase) -> u64;
     fn long_read(&mut self, case: &mut LongReadCase) -> u64;
@@ -126,6 +128,14 @@ impl Subject for Oracle {
 
     fn total(&mut self, case: &mut TotalCase) -> u64 {
         abi::pack_total(self.faulty(|| case.run()))
+    }
+
+    fn figures(&mut self, case: &mut FiguresCase) -> u64 {
+        let FiguresCase { n, batch, verdicts, figures } = case;
+        match self.faulty(|| oracle::figures(*n, batch, verdicts, figures)) {
+            Ok(()) => 0,
+            Err(number) => abi::pack_refusal(number),
+        }
     }
 
     fn long_fresh(&mut self, case: &mut LongFreshCase) -> u64 {
@@ -275,6 +285,10 @@ impl Subject for Proved {
 
     fn total(&mut self, case: &mut TotalCase) -> u64 {
         abi::library::total(case)
+    }
+
+    fn figures(&mut self, case: &mut FiguresCase) -> u64 {
+        abi::library::figures(case)
     }
 
     fn long_fresh(&mut self, case: &mut LongFreshCase) -> u64 {

@@ -69,7 +69,7 @@ part-entry-end : tie.Need-part-entry-end Inv-loop μ-loop
 part-entry-end c = omega (arith, ordered c, within c)
 
 shared-slice-read-put-line : tie.Need-shared-slice-read-put-line Inv-loop μ-loop
-shared-slice-read-put-line c = omega (arith, more (c .before .before .before .before), c .before .before .before .before .before .before .before .before .before .before .pre .enough, batch-count (c .before .before .before .before .before .before .before .before .before .before .args .batch .now) (c .before .before .before .before .before .before .before .before .before .before .pre .exact))
+shared-slice-read-put-line c = omega (arith, more (c .before .before .before .before), c .before .before .before .before .before .before .before .before .before .before .pre .fit .enough, batch-count (c .before .before .before .before .before .before .before .before .before .before .args .batch .now) (c .before .before .before .before .before .before .before .before .before .before .pre .fit .exact))
 
 put-line-requires : tie.Need-put-line-requires Inv-loop μ-loop
 put-line-requires c κs = ((c .before .before .before .before .before .before .before .before .before .before .pre .limits, lining-given (setupOf (c .before .before .before .before .before .before .before .before .before .before .args .setup)) (c .before .before .before .before .before .before .before .before .before .before .args .batch .now) (c .before .before .before .before .before .before .before .before .before .before .args .verdicts .now) (c .before .before .before .before .before .before .before .before .before .before .args .text .now) (c .before .before .before .before .before .before .before .before .before .before .pre) (c .before .before .before .before .before .loop .inv) (more (c .before .before .before .before))), (omega (arith, more (c .before .before .before .before), few (c .before .before .before .before)), lining-room (setupOf (c .before .before .before .before .before .before .before .before .before .before .args .setup)) (c .before .before .before .before .before .before .before .before .before .before .args .batch .now) (c .before .before .before .before .before .before .before .before .before .before .args .verdicts .now) (c .before .before .before .before .before .before .before .before .before .before .args .text .now) (c .before .before .before .before .before .before .before .before .before .before .pre) (c .before .before .before .before .before .loop .inv) (more (c .before .before .before .before))))
@@ -90,7 +90,7 @@ same-length c = search needs
 
 returns : tie.Need-returns Inv-loop μ-loop
 unfolding countOf
-returns c = (lining-end (setupOf (c .before .before .before .before .before .before .args .setup)) (c .before .before .before .before .before .before .args .batch .now) (c .before .before .before .before .before .before .args .verdicts .now) (c .before .before .before .before .before .before .args .text .now) (c .before .before .before .before .before .before .pre) (c .before .loop .inv) (omega (arith, c .before .before .count-of .ensures)), omega (arith, c .before .loop .inv .near, c .before .loop .inv .counted, c .before .before .before .before .before .shared-slice-known .given 0))
+returns c = (lining-end (setupOf (c .before .before .before .before .before .before .args .setup)) (c .before .before .before .before .before .before .args .batch .now) (c .before .before .before .before .before .before .args .verdicts .now) (c .before .before .before .before .before .before .args .text .now) (c .before .before .before .before .before .before .pre) (c .before .loop .inv) (omega (arith, c .before .before .count-of .ensures)), omega (arith, c .before .loop .inv .near, c .before .loop .inv .walk .counted, c .before .before .before .before .before .shared-slice-known .given 0))
 
 pub put-lines-spec : {M : Type 1} → statement M
 put-lines-spec =

@@ -1,0 +1,3 @@
+-- `Answers` has what the contracts cite; `Statements` what is shown of the figures.
+pub mod Answers
+pub mod Statements
