@@ -43,7 +43,7 @@ JOBS = int(os.environ.get("RT_JOBS") or min(os.cpu_count() or 1, 4))  # checks t
 # how the prover says that a fact does not hold, or that it is not proved by what should prove it
 FACT = (
     "as printed, the two types ", "as printed, the two sides ", "computed as far as they go, the two types ",
-    "computed as far as they go, the two values ", "expected type `",
+    "computed as far as they go, the two values ", "computed as far as they go, the two indices ", "expected type `",
     "`omega`: the goal does not follow", "`omega`: the part `", "`search`: no proof of `", "give a proof of that as the last argument",
     "`rw`: no occurrence of the path's left endpoint in the ", "`rw`: no occurrence of the path's right endpoint in the ",
     "list the missing equation",
@@ -360,9 +360,9 @@ def controls_of(crate):
 
 
 def edits_of(crate):
-    """The edits of a crate's folder that are tried here, and its controls."""
+    """The edits of a crate's folder that are tried here, and its controls; those of model are tried against the theorems, by mutants.py."""
     paths = (path for part in ("every", "together") for path in sorted((crate / "must-fail" / part).glob("*.edit")))
-    return [Edit(path, crate) for path in paths] + controls_of(crate)
+    return [Edit(path, crate) for path in paths] + ([] if crate.name == "model" else controls_of(crate))
 
 
 def cost(crate, together):
@@ -403,8 +403,7 @@ def is_changed(crate, files):
 def chosen(words):
     """The edits to try, by crate, and what is said of the others."""
     folders = {path.parent.parent for part in ("together", "every", "controls") for path in ROOT.glob(f"crates/*/must-fail/{part}")}
-    # the controls of model are tried against the theorems, by mutants.py
-    edits = {folder.name: edits_of(folder) for folder in sorted(folders - {ROOT / "crates" / "model"})}
+    edits = {folder.name: edits_of(folder) for folder in sorted(folders)}
     if words:
         strange = [name for name in words if name not in (*edits, "all")]
         if strange:

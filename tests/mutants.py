@@ -2,12 +2,12 @@
 """Tries the mutants, edits of the definitions, and the edits of the theorems' statements (crates/theory/must-fail); see tests/README.md.
 
 A mutant leaves the definitions well-formed but another protocol, so what is proved of them (lemmas, theory) must be refused. Mutants
-are the edits of tests/mutants, and those of crates/model/must-fail that have a violation: `rt ci` holds these to model's own samples
-too. tests/edits.py tries the edits of the statements. A refusal alone says little, since a proof fits a text. So each mutant and each edit of a statement
-has a violation, tests/violations/NAME.proof: a refutation of one of the demands, or of 2.9's theorem, by computation on a concrete list of
+are the edits of tests/mutants, and those of crates/model/must-fail that have a violation: tests/edits.py holds these to model's own samples
+too, and tries the edits of the statements. A refusal alone says little, since a proof fits a text. So each mutant and each edit of a statement
+has a violation, tests/violations/NAME.proof: a refutation of one of the demands, or of 2.9's, 2.11's or 2.14's theorem, by computation on a concrete list of
 calls. Under the edit, and without the proofs of theory, it must be proved. What the same lists come to without an edit is proved in
-crates/violations/proofs/Unedited.antt. The harmless edits of crates/model/must-fail/controls are held to what is expected of them, and
-change nothing there.
+crates/violations/proofs/Unedited.antt, and of 2.14 in crates/instances/proofs/Showing.antt. The harmless edits of
+crates/model/must-fail/controls are held to what is expected of them, and change nothing there.
 """
 import re
 import shutil
@@ -19,8 +19,8 @@ from pathlib import Path
 from edits import JOBS, ROOT, Checks, Edit, controls_of, first_fact, summary, unknown_message, wording
 
 VIOLATIONS = ROOT / "tests" / "violations"
-# what a violation states; without an edit it has no proof, since the demands and 2.9's theorem (LongClocks) are proved
-STATED = re.compile(r"^violated : (Demand(3|3Fresh|3Through|3FreshThrough|1Read|1Write|1ReadIn|1WriteIn|2Any|2Observer|2Fresh|2Ones|2Codec|2Long|2LongCodec|2In|2ListenIn|2CodecIn)|LongClocks) → ⊥$", re.M)
+# what a violation states; without an edit it has no proof, since the demands and the theorems of 2.9 (LongClocks), 2.11 (Charges) and 2.14 (Shows) are proved
+STATED = re.compile(r"^violated : (Demand(3|3Fresh|3Through|3FreshThrough|1Read|1Write|1NumbersIn|1ReadIn|1WriteIn|2Any|2Observer|2Fresh|2Ones|2Codec|2Long|2LongCodec|2In|2ListenIn|2CodecIn)|LongClocks|Charges|Shows(|Through)|\(\(w : Wider\) \(i : (Input\) → Demand1In|Listening\) → Demand1ListenIn) w i\)) → ⊥$", re.M)
 UNEDITED = "violations/proofs/Unedited.antt"
 # what is computed from the definitions of model, and may come to something else under a mutant
 SAMPLES = [f"model/proofs/{path.name}" for path in sorted((ROOT / "crates" / "model" / "proofs").glob("*.antt")) if path.stem not in ("Lib", "Computing", "ComputingWider")]
@@ -107,7 +107,7 @@ def try_tests(copy, crate, edit, module):
 def main():
     model, theory = ROOT / "crates" / "model", ROOT / "crates" / "theory"
     violations = {path.stem: path for path in VIOLATIONS.glob("*.proof") if path.stem != "Head"}
-    shared = [path for path in (model / "must-fail").glob("*.edit") if path.stem in violations]
+    shared = [path for path in (model / "must-fail").rglob("*.edit") if path.stem in violations]
     mutants = [Edit(path, model) for path in sorted([*(ROOT / "tests" / "mutants").glob("*.edit"), *shared])]
     controls = controls_of(model)
     statements = [Edit(path, theory) for path in sorted((theory / "must-fail").glob("*/*.edit"))]

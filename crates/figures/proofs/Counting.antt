@@ -8,7 +8,7 @@ use mathlib.Core.Logic.{⊎-elim}
 use lib.Dec.{eqb, ltb}
 use lib.ListN.{length, take, drop, getD, length-append, length-take, length-drop, length-map, length-replicate, take-append-drop}
 use lib.Seq.{drop-append-le, drop-append-add, getD-take, getD-drop, length-take-le}
-use borrow.Author.Tests.{eq-eqb, lt-ltb, ltb-true, leb-true, eqb-true}
+use borrow.Author.Tests.{eq-eqb, lt-ltb, ltb-true, eqb-true}
 use Rattle.laws.specs.Lists.{tab, within, every, select, joined, foldLeft}
 use Rattle.laws.proofs.Numbers.{and-left, and-right, and-intro, true-or-false, lt-or-ge, clash}
 use Rattle.laws.proofs.Lists.{length-tab, getD-tab, every-tab, every-index, every-of-index, every-take, every-drop, select-yes, select-no, getD-zeros}
@@ -17,7 +17,8 @@ use Rattle.model.specs.Batch.{batchEntries}
 use Rattle.model.specs.Question.{ask, firstNo}
 use Rattle.model.specs.Verdicts.{verdictQuestions}
 use Rattle.model.specs.Figures.{Figures, FiguresAnswer, figureColumns, lastTicks, rowsAt, figuresSize, rowsIn, totalAt, columnAt, columnsOf, timesIn, rowOf, freshTotal, figuresIn, figuresBytes, emptyFigures, keptRow, figuresQuestions, figuresBy, keepFigures}
-use Rattle.figures.specs.Statements.{latest, oneByteCount, Report, afterReport, accepted, countedIn, CountsFromEmpty, CountsFromAnyBytes}
+use Rattle.lemmas.proofs.Hearing.{batch-few}
+use Rattle.figures.specs.Statements.{latest, ofBytes, Report, afterReport, accepted, countedIn, CountsFromEmpty, CountsFromAnyBytes}
 use Rattle.figures.proofs.Rows.{length-rows, fitting}
 use Rattle.figures.proofs.Bytes.{figures-back, length-figures}
 use Rattle.figures.proofs.Columns.{times-most, times-append}
@@ -35,23 +36,23 @@ row-fitting columns h =
 abbrev rowFrom : Report → List ℕ
 rowFrom c = rowOf (countedIn c)
 
-report-fitting : (c : Report) → oneByteCount (c .batch) ≡ true → fitting (rowFrom c) ≡ true
-unfolding countedIn columnsOf oneByteCount
+report-fitting : (c : Report) → ofBytes (c .batch) ≡ true → fitting (rowFrom c) ≡ true
+unfolding countedIn columnsOf
 report-fitting c h =
     row-fitting (countedIn c)
     (omega (
       arith,
-      leb-true (length (batchEntries (c .batch))) 255 h,
+      batch-few (c .batch) h,
       length-tab (length (batchEntries (c .batch))) (columnAt (c .n) (batchEntries (c .batch)) (c .verdicts)),
     ))
 
-all-fitting : (calls : List Report) → every (λ c. oneByteCount (c .batch)) calls ≡ true → every fitting (map rowFrom (select accepted calls)) ≡ true
+all-fitting : (calls : List Report) → every (λ c. ofBytes (c .batch)) calls ≡ true → every fitting (map rowFrom (select accepted calls)) ≡ true
 unfolding every select
 all-fitting [] h = refl
 all-fitting (c ∷ calls) h =
-    let rest = all-fitting calls (and-right (oneByteCount (c .batch)) (every (λ d. oneByteCount (d .batch)) calls) h) in
+    let rest = all-fitting calls (and-right (ofBytes (c .batch)) (every (λ d. ofBytes (d .batch)) calls) h) in
     ⊎-elim
-    (λ yes. rw yes (and-intro (report-fitting c (and-left (oneByteCount (c .batch)) (every (λ d. oneByteCount (d .batch)) calls) h)) rest))
+    (λ yes. rw yes (and-intro (report-fitting c (and-left (ofBytes (c .batch)) (every (λ d. ofBytes (d .batch)) calls) h)) rest))
     (λ no. rw no rest)
     (true-or-false (accepted c))
 
@@ -117,13 +118,13 @@ bytes-good f s =
 -- ---- a list of calls
 
 reports :
-    (s : List ℕ) (calls : List Report) → Good s → every (λ c. oneByteCount (c .batch)) calls ≡ true
+    (s : List ℕ) (calls : List Report) → Good s → every (λ c. ofBytes (c .batch)) calls ≡ true
     → figuresIn (foldLeft afterReport s calls) ≡ foldLeft keptRow (figuresIn s) (map rowFrom (select accepted calls))
 unfolding foldLeft every
 reports s [] g h = unfold select in refl
 reports s (c ∷ calls) g h =
-    let one : oneByteCount (c .batch) ≡ true = and-left (oneByteCount (c .batch)) (every (λ d. oneByteCount (d .batch)) calls) h in
-    let rest : every (λ d. oneByteCount (d .batch)) calls ≡ true = and-right (oneByteCount (c .batch)) (every (λ d. oneByteCount (d .batch)) calls) h in
+    let one : ofBytes (c .batch) ≡ true = and-left (ofBytes (c .batch)) (every (λ d. ofBytes (d .batch)) calls) h in
+    let rest : every (λ d. ofBytes (d .batch)) calls ≡ true = and-right (ofBytes (c .batch)) (every (λ d. ofBytes (d .batch)) calls) h in
     let kept : Figures = keptRow (figuresIn s) (rowFrom c) in
     let sound : Sound kept = kept-sound (figuresIn s) (g .sound) (rowFrom c) (report-fitting c one) in
     ⊎-elim
@@ -178,7 +179,7 @@ unfolding figuresIn
 totals-in s column h = getD-tab figureColumns (totalAt s) column 0 h
 
 -- right totals are those of the last rows
-module _ (s : List ℕ) (g : Good s) (calls : List Report) (few : every (λ c. oneByteCount (c .batch)) calls ≡ true) where
+module _ (s : List ℕ) (g : Good s) (calls : List Report) (few : every (λ c. ofBytes (c .batch)) calls ≡ true) where
   abbrev came : List (List ℕ)
   came = map rowFrom (select accepted calls)
 

@@ -21,7 +21,7 @@ use Rattle.verdicts.specs.Judging.{Judging}
 use Rattle.verdicts.proofs.Asking.{none-asked}
 use Rattle.verdicts.proofs.Judged.{Judged, judged-fit, tick-asked, tick-judged, listen-judged}
 use Rattle.verdicts.proofs.JudgedIn.{tick-in-asked, tick-in-judged, listen-in-asked, listen-in-judged}
-use Rattle.figures.specs.Statements.{latest, FreshOver, oneByteCount, Report, afterReport, accepted, countedIn, JudgingCall, byTick, byListener, byTickIn, byListenerIn, judgingOf, numberOf, isAccepted, reportOf, judgedColumn, judgedIn, afterCall, Counted, CountsOwnJudgements, CountsTicks, CountsTicksFromAnyBytes}
+use Rattle.figures.specs.Statements.{latest, FreshOver, ofBytes, Report, afterReport, accepted, countedIn, JudgingCall, byTick, byListener, byTickIn, byListenerIn, judgingOf, numberOf, isAccepted, reportOf, judgedColumn, judgedIn, afterCall, Counted, CountsOwnJudgements, CountsTicks, CountsTicksFromAnyBytes}
 use Rattle.figures.proofs.Asking.{size-right}
 use Rattle.figures.proofs.Counting.{latest-map, length-empty, answers, counts-from-empty, counts-from-any-bytes}
 
@@ -108,14 +108,14 @@ judged-all (c ∷ calls) h =
     ap₂ _++_ (counts-own-judgements c (and-left (isAccepted c) (every isAccepted calls) h) .as-judged)
     (judged-all calls (and-right (isAccepted c) (every isAccepted calls) h))
 
-few-all : (calls : List JudgingCall) → every (λ c. oneByteCount (judgingOf c .batch)) calls ≡ true
-    → every (λ c. oneByteCount (c .batch)) (map reportOf (select isAccepted calls)) ≡ true
+few-all : (calls : List JudgingCall) → every (λ c. ofBytes (judgingOf c .batch)) calls ≡ true
+    → every (λ c. ofBytes (c .batch)) (map reportOf (select isAccepted calls)) ≡ true
 unfolding every
 few-all [] h = unfold select in refl
 few-all (c ∷ calls) h =
-    let rest = few-all calls (and-right (oneByteCount (judgingOf c .batch)) (every (λ d. oneByteCount (judgingOf d .batch)) calls) h) in
+    let rest = few-all calls (and-right (ofBytes (judgingOf c .batch)) (every (λ d. ofBytes (judgingOf d .batch)) calls) h) in
     ⊎-elim
-    (λ yes. rw (select-yes isAccepted c calls yes) (and-intro (and-left (oneByteCount (judgingOf c .batch)) (every (λ d. oneByteCount (judgingOf d .batch)) calls) h) rest))
+    (λ yes. rw (select-yes isAccepted c calls yes) (and-intro (and-left (ofBytes (judgingOf c .batch)) (every (λ d. ofBytes (judgingOf d .batch)) calls) h) rest))
     (λ no. rw (select-no isAccepted c calls no) rest)
     (true-or-false (isAccepted c))
 

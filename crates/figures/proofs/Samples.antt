@@ -12,7 +12,7 @@ use Rattle.model.specs.Observer.{Listening}
 use Rattle.model.specs.Figures.{columnOf, figureOf, figureColumns, timesIn, totalAt, emptyFigures}
 use Rattle.model.proofs.Computing.{computing}
 use Rattle.verdicts.specs.Judging.{queueAt, judgedNumber}
-use Rattle.figures.specs.Statements.{latest, oneByteCount, JudgingCall, byTick, byListener, isAccepted, judgingOf, judgedColumn, judgedIn, afterCall}
+use Rattle.figures.specs.Statements.{latest, ofBytes, JudgingCall, byTick, byListener, isAccepted, judgingOf, judgedColumn, judgedIn, afterCall}
 use Rattle.figures.proofs.Judgements.{counts-ticks}
 
 abbrev setup : ℕ → Setup
@@ -59,8 +59,8 @@ listening =
 abbrev calls : List JudgingCall
 calls = byTick (tickAt 3) ∷ byTick (tickAt 17) ∷ byListener listening ∷ []
 
-few : every (λ c. oneByteCount (judgingOf c .batch)) calls ≡ true
-unfolding computing oneByteCount
+few : every (λ c. ofBytes (judgingOf c .batch)) calls ≡ true
+unfolding computing
 few = refl
 
 -- of the tick the first frame is taken, the second a repeat, the third has a station not below n, the fourth no form; of the listener's call one is taken

@@ -3,7 +3,7 @@ use Prim.Native.Nat.{ℕ, _-_, _≤_, _<_}
 use mathlib.Core.Path.{_≡_}
 use mathlib.Core.Bool.{Bool, true, cond}
 use mathlib.Core.List.{List, []}
-use lib.Dec.{eqb, leb, ltb}
+use lib.Dec.{eqb, ltb}
 use lib.ListN.{length, drop, getD}
 use Rattle.laws.specs.Lists.{tab, every, select, joined, foldLeft}
 use Rattle.model.specs.Batch.{batchEntries}
@@ -24,9 +24,9 @@ abbrev pub FreshOver : {A : Type 0} → (A → List ℕ) → List A → List ℕ
 FreshOver counted calls figures =
     (column : ℕ) → column < figureColumns → totalAt figures column ≡ timesIn (joined counted (latest calls)) column
 
--- a batch's count is one byte
-unfoldable pub oneByteCount : List ℕ → Bool
-oneByteCount batch = leb (length (batchEntries batch)) 255
+-- what is lent are bytes
+abbrev pub ofBytes : List ℕ → Bool
+ofBytes lent = every (λ x. ltb x 256) lent
 
 -- ---- any calls of the figures
 
@@ -51,14 +51,14 @@ countedIn c = columnsOf (c .n) (batchEntries (c .batch)) (c .verdicts)
 -- 02: "from empty figures on": after any list of calls the totals are a fresh count over the accepted ones, whatever n each has
 abbrev pub CountsFromEmpty : Type 0
 CountsFromEmpty =
-    (calls : List Report) → every (λ c. oneByteCount (c .batch)) calls ≡ true
+    (calls : List Report) → every (λ c. ofBytes (c .batch)) calls ≡ true
     → FreshOver countedIn (select accepted calls) (foldLeft afterReport emptyFigures calls)
 
 -- from any bytes they are once 256 calls were accepted: by then they were counted afresh, and every row is one of theirs
 abbrev pub CountsFromAnyBytes : Type 0
 CountsFromAnyBytes =
-    (figures : List ℕ) (calls : List Report) → length figures ≡ figuresSize → every (λ x. ltb x 256) figures ≡ true
-    → every (λ c. oneByteCount (c .batch)) calls ≡ true → lastTicks ≤ length (select accepted calls)
+    (figures : List ℕ) (calls : List Report) → length figures ≡ figuresSize → ofBytes figures ≡ true
+    → every (λ c. ofBytes (c .batch)) calls ≡ true → lastTicks ≤ length (select accepted calls)
     → FreshOver countedIn (select accepted calls) (foldLeft afterReport figures calls)
 
 -- ---- the calls of a board
@@ -117,12 +117,12 @@ CountsOwnJudgements = (c : JudgingCall) → isAccepted c ≡ true → Counted c
 -- and how many refused … A mended tick counts like any other; swapping limits under 2.10 doesn't clear them"
 abbrev pub CountsTicks : Type 0
 CountsTicks =
-    (calls : List JudgingCall) → every (λ c. oneByteCount (judgingOf c .batch)) calls ≡ true
+    (calls : List JudgingCall) → every (λ c. ofBytes (judgingOf c .batch)) calls ≡ true
     → FreshOver judgedIn (select isAccepted calls) (foldLeft afterCall emptyFigures calls)
 
 -- and from any bytes after 256 of them
 abbrev pub CountsTicksFromAnyBytes : Type 0
 CountsTicksFromAnyBytes =
-    (figures : List ℕ) (calls : List JudgingCall) → length figures ≡ figuresSize → every (λ x. ltb x 256) figures ≡ true
-    → every (λ c. oneByteCount (judgingOf c .batch)) calls ≡ true → lastTicks ≤ length (select isAccepted calls)
+    (figures : List ℕ) (calls : List JudgingCall) → length figures ≡ figuresSize → ofBytes figures ≡ true
+    → every (λ c. ofBytes (judgingOf c .batch)) calls ≡ true → lastTicks ≤ length (select isAccepted calls)
     → FreshOver judgedIn (select isAccepted calls) (foldLeft afterCall figures calls)

@@ -12,6 +12,7 @@ pub use form::frame_end;
 pub use form::later_formed;
 pub use form::payload_part;
 pub use form::r_of;
+pub use form::stamp_of;
 pub use form::station_of;
 pub use newest::newest_counts;
 pub use reader::ReadFrame;

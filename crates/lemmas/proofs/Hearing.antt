@@ -4,15 +4,19 @@ use Prim.Native.Nat.{ℕ, zero, suc, _+_, _≤_, _<_}
 use native.Mathlib.Omega.{arith}
 use native.Mathlib.Nat.{add-zero, zero-add}
 use mathlib.Core.Path.{_≡_, refl, sym, ap, _∙_}
+use mathlib.Core.Bool.{true}
 use mathlib.Core.List.{List, [], _∷_, _++_, append-nil, append-assoc}
 use mathlib.Core.Option.{some}
+use lib.Dec.{ltb}
 use lib.ListN.{length, take, drop, getD, getElem?, length-append, List·getD-append}
 use lib.Seq.{getD-append-seam}
-use Rattle.laws.specs.Lists.{insertAt, overlay, foldLeft}
+use borrow.Author.Tests.{ltb-true}
+use Rattle.laws.specs.Lists.{every, insertAt, overlay, foldLeft}
+use Rattle.laws.proofs.Numbers.{and-left}
 use Rattle.laws.proofs.Lists.{take-overlay, getElem?-lt}
 use Rattle.model.specs.Timestamp.{Timestamp}
 use Rattle.model.specs.Frame.{Frame}
-use Rattle.model.specs.Batch.{entriesOf}
+use Rattle.model.specs.Batch.{entriesOf, batchEntries}
 use Rattle.model.specs.Question.{firstNo}
 use Rattle.model.specs.Judge.{Asking, Heard, verdictBy, hearBy, absorbEach}
 
@@ -22,6 +26,12 @@ unfolding entriesOf
 entries-few zero s = omega arith
 entries-few (suc k) [] = omega arith
 entries-few (suc k) (size ∷ rest) = let more = entries-few k (drop size rest) in omega arith
+
+-- and one of bytes at most 255
+pub batch-few : (batch : List ℕ) → every (λ b. ltb b 256) batch ≡ true → length (batchEntries batch) ≤ 255
+unfolding batchEntries every
+batch-few [] h = omega arith
+batch-few (count ∷ rest) h = omega (arith, entries-few count rest, ltb-true count 256 (and-left (ltb count 256) _ h))
 
 -- one entry, by the number of the first no: the number stands behind those before it
 pub by-verdict : (k place : ℕ) (f : Frame) (h : Heard) → hearBy (verdictBy k place) f h .verdicts ≡ h .verdicts ++ (k ∷ [])

@@ -1,5 +1,7 @@
 // 02: "For a check number from 10 to 16 also give the smallest number of opening steps in which some
 // frame is refused by it, or none". A figure for each of the seven, 0 for none.
+use setup::BAD_FORM;
+use setup::REPEAT;
 use text::put_decimal;
 use text::put_field;
 use text::put_word;
@@ -14,13 +16,13 @@ ghost use Rattle.rehearsal.specs.Views.{asFigure, noted, notedAll, figur
 fn noted_figures(figures: [usize; 7], number: u8, step: usize) -> [usize; 7]
     ensures { λ r. ⌜ r ≡ noted step figures number ⌝ }
 {
-    if number < 10 {
+    if number < BAD_FORM {
         return figures;
     }
-    if 16 < number {
+    if REPEAT < number {
         return figures;
     }
-    let at = number as usize - 10;
+    let at = number as usize - BAD_FORM as usize;
     if figures[at] != 0 {
         return figures;
     }
@@ -72,7 +74,7 @@ pub fn put_figures(buf: &mut [u8], figures: [usize; 7]) -> usize
     let mut end = 0;
     let mut i = 0;
     while i < 7 {
-        end = put_figure(buf, end, 10 + i, figures[i]);
+        end = put_figure(buf, end, BAD_FORM as usize + i, figures[i]);
         i += 1;
     }
     end

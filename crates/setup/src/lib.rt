@@ -28,6 +28,7 @@ pub use numbers::CHARGED;
 pub use numbers::EARLY;
 pub use numbers::FULL_LEDGER;
 pub use numbers::LATE;
+pub use numbers::NOT_WIDER;
 pub use numbers::REPEAT;
 pub use numbers::TOO_MANY;
 pub use questions::check_holdback;

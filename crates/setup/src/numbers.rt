@@ -31,6 +31,9 @@ pub const REPEAT: u8 = 16;
 // 02, 2.9: of an engine's frame.
 pub const TOO_MANY: u8 = 18;
 
+// 02, 2.10: of a call with both pairs of limits.
+pub const NOT_WIDER: u8 = 19;
+
 // 02, 2.11: of a press ticket.
 pub const BAD_PRESS: u8 = 20;
 

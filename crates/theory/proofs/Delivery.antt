@@ -28,6 +28,7 @@ use Rattle.lemmas.proofs.Schedules.{Good as GoodSchedule}
 use Rattle.lemmas.proofs.WideFrames.{HasWidth, wide-decode}
 use Rattle.lemmas.proofs.WiderQueue.{key-origin-along}
 use Rattle.lemmas.proofs.Positions.{placeAt, placedKey, placed-order}
+use Rattle.theory.proofs.Along.{due-clock, key-along}
 use Rattle.theory.proofs.Event.{event-reads}
 use Rattle.theory.proofs.Due.{due-window-reads, due-after}
 use Rattle.theory.proofs.HearLoop.{covered-sends, covered-from, covered-of, event-station}
@@ -78,8 +79,8 @@ module _
 
     -- the due clock of a message, by its frame
     due-is : (m : Done) → CallEvent g m → sends m ≡ true → dueClockAlong g m ≡ eventDue g m
-    unfolding dueClockAlong sum
-    due-is m ev sent = ap (λ (f : Frame). dueAlong g (m .clock + f .stamp .c)) (ev .message sent)
+    unfolding sum
+    due-is m ev sent = due-clock g m ∙ ap (λ (f : Frame). dueAlong g (m .clock + f .stamp .c)) (ev .message sent)
 
     due-of : (m : Done) → CallEvent g m → sends m ≡ true → dueInAlong g last v m ≡ true → (last < eventDue g m) × (eventDue g m ≤ v)
     unfolding dueInAlong
@@ -96,11 +97,11 @@ module _
 
     -- the call itself is due later
     not-itself : dueInAlong g last v d ≡ true → ⊥
-    unfolding dueInAlong dueClockAlong sum
+    unfolding dueInAlong sum
     not-itself e =
         let x : ℕ = d .clock + messageFrame d .stamp .c in
-        let at = dueAlong g x in
-        omega (arith, leb-true at v (and-right (ltb last at) (leb at v) e), due-after g good x, clock-is)
+        let at = dueClockAlong g d in
+        omega (arith, leb-true at v (and-right (ltb last at) (leb at v) e), due-clock g d, due-after g good x, clock-is)
 
     found-at : (k : ℕ) (m : Done) → getElem? (past ++ (d ∷ [])) k ≡ some m → test k m ≡ true → Found k m
     unfolding heardAt
@@ -157,8 +158,7 @@ module _
 
     -- the key of a message of the list, with its frame named
     message-key : (k : ℕ) (m : Done) → Found k m → messageKeyAlong g m ≡ widerKey g (m .clock) (eventFrame g m)
-    unfolding messageKeyAlong
-    message-key k m f = ap (widerKey g (m .clock)) (event k m (f .0) (f .1) .message (covered-sends from m (f .1)))
+    message-key k m f = key-along g m ∙ ap (widerKey g (m .clock)) (event k m (f .0) (f .1) .message (covered-sends from m (f .1)))
 
     list-keys : (x y : Done) → List·Memᴰ x list → List·Memᴰ y list → messageKeyAlong g x ≡ messageKeyAlong g y → same-call x y ≡ true
     unfolding same-call

@@ -19,13 +19,13 @@ use Rattle.model.specs.Wider.{widerHeldBytes}
 use Rattle.laws.specs.Lex.{lexCompare}
 use Rattle.model.specs.Setup.{Setup}
 use Rattle.model.specs.Run.{Node, sentBy, Call, Done, World, doneOf, act, isAccepted, outputOf, runFrom, atStart, isEvent, messageBytes}
-use Rattle.theory.specs.Premises.{goodStart, largestClock, staleUntil, keeps, allowed, noneStale}
+use Rattle.theory.specs.Premises.{goodStart, largestClock, staleUntil, keeps, allowed, allFresh, noneStale}
 use Rattle.theory.specs.Demand3.{coveredFrom, covered, isFrom, heardIn, Promised, Demand3, Demand3Fresh}
-use Rattle.theory.specs.Through.{messageKeyAlong, earlierAlong, dueHereAlong, coveredAlong, PromisedAlong}
+use Rattle.theory.specs.Through.{earlierAlong, dueHereAlong, coveredAlong, PromisedAlong}
 use Rattle.theory.proofs.HearLoop.{Settles, covered-sends}
 use Rattle.theory.proofs.World.{sends-event, event-accepted, CallEvent, Good, AllKept, AllKinds, eventKey, heardAt}
 use Rattle.lemmas.proofs.Schedules.{Good as GoodSchedule}
-use Rattle.theory.proofs.Along.{steady-along}
+use Rattle.theory.proofs.Along.{key-along, steady-along}
 use Rattle.theory.proofs.Writing.{written-along}
 use Rattle.theory.proofs.Plain.{PlainLegal}
 use Rattle.theory.proofs.Stabilize.{Allowed, Legals, run-all}
@@ -125,9 +125,9 @@ module _ (g : Schedule) (from : ℕ) (nodes : List Node) (past : List Done) (kep
 
   comes : (a b : Done) (i j : ℕ) → getElem? past i ≡ some a → getElem? past j ≡ some b → covered from a ≡ true → covered from b ≡ true
       → lexCompare (eventKey g a) (eventKey g b) ≡ Ordering·lt → earlierAlong g a b ≡ true
-  unfolding earlierAlong messageKeyAlong eventKey
+  unfolding earlierAlong eventKey
   comes a b i j p q ha hb l =
-      rw (keep i a p ha .message (covered-sends from a ha), keep j b q hb .message (covered-sends from b hb)) (lt-isLess l)
+      rw (key-along g a, key-along g b, keep i a p ha .message (covered-sends from a ha), keep j b q hb .message (covered-sends from b hb)) (lt-isLess l)
 
   promises : ((j : ℕ) (d : Done) → getElem? past j ≡ some d → isEvent d ≡ true → GoodSchedule g) → PromisedAlong g from past
   promises good =
@@ -142,28 +142,47 @@ module _ (g : Schedule) (from : ℕ) (nodes : List Node) (past : List Done) (kep
             comes a b i j p q ha hb (leads-less g from nodes past kept kinds i j a b l p q (covered-event a ha) (covered-event b hb));
       }
 
--- of a list of calls from a start that is good
-pub run-promises :
-    (g : Schedule) (floor from : ℕ) (right : Settles g floor from) (nodes : List Node) (calls : List Call) → Good g floor from (atStart nodes)
-    → Legals g floor from right (atStart nodes) calls → PromisedAlong g from (runFrom (atStart nodes) calls .past)
+-- a list of calls that keeps the premises, from a start that is good
+pub record Runs (g : Schedule) (floor from : ℕ) (nodes : List Node) (calls : List Call) : Type 0 where
+  pub right : Settles g floor from
+  pub start : Good g floor from (atStart nodes)
+  pub legal : Legals g floor from right (atStart nodes) calls
+
+pub none-kept : (g : Schedule) (from : ℕ) (nodes : List Node) → AllKept g from (atStart nodes .past)
 unfolding atStart
-run-promises g floor from right nodes calls good legal =
-    let r = run-all g floor from right calls (atStart nodes) good (λ j d e. absurd (let z : j < 0 = getElem?-lt [] j e in omega arith)) legal in
+none-kept g from nodes j d e = absurd (let z : j < 0 = getElem?-lt [] j e in omega arith)
+
+pub run-promises :
+    (g : Schedule) (floor from : ℕ) (nodes : List Node) (calls : List Call) → Runs g floor from nodes calls → PromisedAlong g from (runFrom (atStart nodes) calls .past)
+run-promises g floor from nodes calls runs =
+    let r = run-all g floor from (runs .right) calls (atStart nodes) (runs .start) (none-kept g from nodes) (runs .legal) in
     promises g from (runFrom (atStart nodes) calls .nodes) (runFrom (atStart nodes) calls .past) (r .1) (r .0 .kinds)
     (λ j d at made. let mk = r .0 .calls j d at made .maker in r .0 .group .limits (d .node) (mk .node) (mk .at))
 
 -- with one setup
-run-plain :
-    (s : Setup) (floor from : ℕ) (right : Settles (steady s) floor from) (nodes : List Node) (calls : List Call) → Good (steady s) floor from (atStart nodes)
-    → Legals (steady s) floor from right (atStart nodes) calls → Promised s from (runFrom (atStart nodes) calls .past)
-run-plain s floor from right nodes calls good legal =
-    steady-along s from (runFrom (atStart nodes) calls .past) (run-promises (steady s) floor from right nodes calls good legal)
+run-plain : (s : Setup) (floor from : ℕ) (nodes : List Node) (calls : List Call) → Runs (steady s) floor from nodes calls → Promised s from (runFrom (atStart nodes) calls .past)
+run-plain s floor from nodes calls runs =
+    steady-along s from (runFrom (atStart nodes) calls .past) (run-promises (steady s) floor from nodes calls runs)
+
+pub runs-plain :
+    (s : Setup) (nodes : List Node) (calls : List Call) → goodStart s nodes ≡ true → keeps s (largestClock nodes) (atStart nodes) calls ≡ true
+    → Runs (steady s) (rightFrom s (largestClock nodes)) (coveredFrom s (largestClock nodes)) nodes calls
+runs-plain s nodes calls start kept =
+    record { right = settles s (largestClock nodes); start = starts s nodes start; legal = legals s (largestClock nodes) calls (atStart nodes) kept }
+
+pub runs-fresh :
+    (s : Setup) (nodes : List Node) (calls : List Call) → goodStart s nodes ≡ true → allFresh s nodes ≡ true
+    → keeps s (largestClock nodes) (atStart nodes) calls ≡ true → noneStale (runFrom (atStart nodes) calls .past) ≡ true → Runs (steady s) 0 0 nodes calls
+runs-fresh s nodes calls start fresh kept none-old =
+    record {
+      right = settles-fresh (steady s);
+      start = fresh-plain s nodes start fresh;
+      legal = legals-fresh s (largestClock nodes) calls (atStart nodes) kept none-old;
+    }
 
 pub demand3 : Demand3
 demand3 s nodes calls start kept =
-    run-plain s (rightFrom s (largestClock nodes)) (coveredFrom s (largestClock nodes)) (settles s (largestClock nodes)) nodes calls (starts s nodes start)
-    (legals s (largestClock nodes) calls (atStart nodes) kept)
+    run-plain s (rightFrom s (largestClock nodes)) (coveredFrom s (largestClock nodes)) nodes calls (runs-plain s nodes calls start kept)
 
 pub demand3-fresh : Demand3Fresh
-demand3-fresh s nodes calls start fresh kept none-old =
-    run-plain s 0 0 (settles-fresh (steady s)) nodes calls (fresh-plain s nodes start fresh) (legals-fresh s (largestClock nodes) calls (atStart nodes) kept none-old)
+demand3-fresh s nodes calls start fresh kept none-old = run-plain s 0 0 nodes calls (runs-fresh s nodes calls start fresh kept none-old)

@@ -7,7 +7,7 @@ use mathlib.Core.Logic.{inl, inr}
 use Rattle.laws.proofs.Numbers.{lt-or-ge}
 use Rattle.model.specs.Setup.{Setup}
 use Rattle.model.specs.Frame.{Frame}
-use Rattle.model.specs.Schedule.{Schedule, steady, widening, limitsAt, modulusOf, dueAlong}
+use Rattle.model.specs.Schedule.{Schedule, steady, widening, limitsAt, modulusOf, widestOf, dueAlong}
 use Rattle.model.specs.Wider.{widerReading}
 use Rattle.lemmas.proofs.Schedules.{Good, DueBy, old, new, due-by, limits-good, limits-modulus, limits-grow, due-window}
 use Rattle.lemmas.proofs.Agreeing.{Agrees, due-agrees}
@@ -39,6 +39,15 @@ due-after (widening before after change) good x = go (due-by before after change
     go : DueBy before after change x (dueAlong (widening before after change) x) → x < dueAlong (widening before after change) x
     go (old p q) = omega (arith, q, good .old .epsilon-pos)
     go (new p q) = omega (arith, q, good .new .epsilon-pos)
+
+-- and at most the widest δ + ε past itself
+pub due-most : (g : Schedule) → Good g → (x : ℕ) → dueAlong g x ≤ x + widestOf g .delta + widestOf g .epsilon
+due-most (steady s) good x = omega arith
+due-most (widening before after change) good x = go (due-by before after change x)
+  where
+    go : DueBy before after change x (dueAlong (widening before after change) x) → dueAlong (widening before after change) x ≤ x + after .delta + after .epsilon
+    go (old p q) = omega (arith, q, good .epsilon, good .delta)
+    go (new p q) = omega (arith, q)
 
 module _ (g : Schedule) (good : Good g) (last v : ℕ) (before : last ≤ v) (step : v ≤ last + limitsAt g v .epsilon) where
   -- what is not yet due at the clock before a call for v has its sum in the window of v

@@ -44,3 +44,4 @@ pub mod Through
 pub mod Charges
 pub mod WiderAny
 pub mod WiderReaders
+pub mod Showing

@@ -1,16 +1,15 @@
 -- 02, 2.9: an engine from any state: verdicts, figures, bounds and buffers of every accepted call.
 -- Assumes nothing.
-use Prim.Native.Nat.{ℕ, _≤_, _<_}
+use Prim.Native.Nat.{ℕ, _≤_}
 use native.Mathlib.Omega.{arith}
 use mathlib.Core.Path.{_≡_, sym, ap, _∙_}
 use mathlib.Core.Bool.{Bool, true, false, _&&_, cond}
-use mathlib.Core.List.{List, [], _∷_, map}
+use mathlib.Core.List.{List, [], map}
 use mathlib.Core.Option.{some}
-use lib.Dec.{ltb}
 use lib.ListN.{length, take, getD, getElem?}
-use borrow.Author.Tests.{lt-ltb, ltb-true}
-use Rattle.laws.specs.Lists.{every, overlay}
-use Rattle.laws.proofs.Numbers.{and-intro, and-left}
+use borrow.Author.Tests.{lt-ltb}
+use Rattle.laws.specs.Lists.{overlay}
+use Rattle.laws.proofs.Numbers.{and-intro}
 use Rattle.laws.proofs.Lists.{length-overlay, take-overlay, drop-overlay}
 use Rattle.model.specs.Setup.{isMember}
 use Rattle.model.specs.Timestamp.{Timestamp, trimmed, widened}
@@ -25,19 +24,12 @@ use Rattle.theory.specs.LongAny.{longHeardBefore, Overlaid, Demand2Long}
 use Rattle.lemmas.proofs.Bounds.{FrameOk}
 use Rattle.lemmas.proofs.Questions.{long-limits-to}
 use Rattle.lemmas.proofs.Counts.{trimmed-same}
-use Rattle.lemmas.proofs.Hearing.{entries-few, all-length, all-front, all-verdict}
+use Rattle.lemmas.proofs.Hearing.{batch-few, all-length, all-front, all-verdict}
 use Rattle.lemmas.proofs.LongFrames.{length-long, long-held-bytes, long-held-frames, long-fits, long-size}
 use Rattle.lemmas.proofs.LongTick.{LongPassed, long-passed, long-one-verdict, opened-holds, hears-holds, long-left, long-new-r, long-tables-next, delivered-of, delivered-all, delivered-ok, delivered-few, delivered-ordered, kept-holds, kept-held, kept-sound}
 use Rattle.theory.proofs.Demand1.{demand1-long}
 use Rattle.theory.proofs.Readers.{read-made}
 use Rattle.theory.proofs.LongReaders.{long-coding}
-
-batch-few : (batch : List ℕ) → areBytes batch ≡ true → length (batchEntries batch) ≤ 255
-unfolding batchEntries areBytes every
-batch-few [] h = omega arith
-batch-few (count ∷ rest) h =
-    let byte : count < 256 = ltb-true count 256 (and-left (ltb count 256) _ h) in
-    omega (arith, entries-few count rest)
 
 -- what is laid over a buffer that has room
 overlaid : (new old : List ℕ) → length new ≤ length old → Overlaid (length new) old (overlay new old)
@@ -199,5 +191,5 @@ demand2-long i h =
       deliveryKept = rw (delivery-is i p a) (overlaid (longEncodeFrames (longDelivered i)) (i .delivery) (delivery-fits i p a));
       verdictsKept = λ bytes.
           rw (verdicts-are i p a, ← verdicts-length i p a)
-          (overlaid (longHeard i .verdicts) (i .verdicts) (omega (arith, verdicts-length i p a, batch-few (i .batch) bytes, p .verdicts-room)));
+          (overlaid (longHeard i .verdicts) (i .verdicts) (omega (arith, verdicts-length i p a, batch-few (i .batch) (unfold areBytes in bytes), p .verdicts-room)));
     }

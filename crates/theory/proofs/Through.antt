@@ -39,7 +39,7 @@ use Rattle.theory.proofs.Refused.{refused-node}
 use Rattle.theory.proofs.Start.{distinct-fact, stations-few, same-setup, good-start, largest-clock}
 use Rattle.theory.proofs.Fresh.{FreshNode, fresh-node, good-fresh, settles-fresh, none-stale-before, last-sent}
 use Rattle.theory.proofs.Stabilize.{Allowed, Legals}
-use Rattle.theory.proofs.Demand3.{rightFrom, run-promises}
+use Rattle.theory.proofs.Demand3.{rightFrom, Runs, run-promises}
 use Rattle.theory.proofs.Changeover.{widens-fact, drift-ahead, same-wider, agrees-call}
 
 -- ---- what a node has on its shelf
@@ -590,12 +590,16 @@ legals-through y good x (call ∷ calls) phases w stages h =
     early : (v : ℕ) → v ≤ staleUntil (y .after) x → v + limitsAt (alongAll y) v .epsilon ≤ rightFrom (y .after) x
     early v h = unfold staleUntil rightFrom in (omega (arith, limits-widest (alongAll y) good v .0))
 
-pub demand3-through : Demand3Through
-unfolding coveredThrough
-demand3-through y nodes phases calls start kept =
-    run-promises g floor from (settles-through y good x) nodes calls
-    (good-start g floor from nodes (group-through y phases nodes start good) early)
-    (legals-through y good x calls phases (atStart nodes) stages kept)
+pub runs-through :
+    (y : Changeover) (nodes : List Node) (phases : List Phase) (calls : List Call) → startsThrough y phases nodes ≡ true
+    → keepsThrough y (largestClock nodes) (frozenUntil y (largestClock nodes)) phases (atStart nodes) calls ≡ true
+    → Runs (alongAll y) (rightFrom (y .after) (largestClock nodes)) (coveredFrom (y .after) (largestClock nodes)) nodes calls
+runs-through y nodes phases calls start kept =
+    record {
+      right = settles-through y good x;
+      start = good-start g floor from nodes (group-through y phases nodes start good) early;
+      legal = legals-through y good x calls phases (atStart nodes) stages kept;
+    }
   where
     x : ℕ
     x = largestClock nodes
@@ -618,6 +622,12 @@ demand3-through y nodes phases calls start kept =
     stages : Stages y floor phases (atStart nodes)
     stages i node phase at p-at = unfold atStart in (inl ((λ k d e. absurd (nothing k d e)), early i node at))
 
+pub demand3-through : Demand3Through
+unfolding coveredThrough
+demand3-through y nodes phases calls start kept =
+    run-promises (alongAll y) (rightFrom (y .after) (largestClock nodes)) (coveredFrom (y .after) (largestClock nodes)) nodes calls
+    (runs-through y nodes phases calls start kept)
+
 -- from a fresh start
 legals-fresh-through :
     (y : Changeover) (good : Widens (y .before) (y .after)) (x : ℕ) (calls : List Call) (phases : List Phase) (w : World) → Stages y 0 phases w
@@ -639,11 +649,16 @@ legals-fresh-through y good x (call ∷ calls) phases w stages h none-old =
     early node at acc e o-at late =
         absurd (clash (every-mem isSent (last-sent w call node at acc (none-stale-before calls (act w call) none-old)) (getElem?-mem (call .sources) e o-at)) (unfold isSent in refl))
 
-pub demand3-fresh-through : Demand3FreshThrough
-demand3-fresh-through y nodes phases calls start fresh kept none-old =
-    run-promises g 0 0 (settles-fresh g) nodes calls
-    (good-fresh g nodes (group-through y phases nodes start good) (λ i node at. (fresh-here i node at, exact-at y phases nodes exact i node at)))
-    (legals-fresh-through y good (largestClock nodes) calls phases (atStart nodes) stages kept none-old)
+pub runs-fresh-through :
+    (y : Changeover) (nodes : List Node) (phases : List Phase) (calls : List Call) → startsThrough y phases nodes ≡ true → freshThrough y nodes ≡ true
+    → keepsThrough y (largestClock nodes) 0 phases (atStart nodes) calls ≡ true → noneStale (runFrom (atStart nodes) calls .past) ≡ true
+    → Runs (alongAll y) 0 0 nodes calls
+runs-fresh-through y nodes phases calls start fresh kept none-old =
+    record {
+      right = settles-fresh g;
+      start = good-fresh g nodes (group-through y phases nodes start good) (λ i node at. (fresh-here i node at, exact-at y phases nodes exact i node at));
+      legal = legals-fresh-through y good (largestClock nodes) calls phases (atStart nodes) stages kept none-old;
+    }
   where
     g : Schedule
     g = alongAll y
@@ -674,3 +689,7 @@ demand3-fresh-through y nodes phases calls start fresh kept none-old =
 
     stages : Stages y 0 phases (atStart nodes)
     stages i node phase at p-at = inr (fits phase node (fresh-here i node (unfold atStart in at)))
+
+pub demand3-fresh-through : Demand3FreshThrough
+demand3-fresh-through y nodes phases calls start fresh kept none-old =
+    run-promises (alongAll y) 0 0 nodes calls (runs-fresh-through y nodes phases calls start fresh kept none-old)

@@ -9,3 +9,4 @@ pub mod Changeover
 pub mod Through
 pub mod WiderAny
 pub mod Charges
+pub mod Showing

@@ -2,17 +2,18 @@
 use Prim.Native.Nat.{ℕ, _+_, _%_}
 use mathlib.Core.Path.{_≡_}
 use mathlib.Core.Bool.{Bool, true, _&&_, _||_, cond}
-use mathlib.Core.List.{List, map}
+use mathlib.Core.List.{List, [], _∷_, _++_, map}
 use mathlib.Core.Option.{some}
 use lib.Dec.{leb, ltb}
 use lib.ListN.{take, getD, getElem?}
 use Rattle.laws.specs.Lists.{any, select, selectFrom, sortBy}
 use Rattle.laws.specs.Lex.{lexCompare, isLess}
 use Rattle.model.specs.Timestamp.{sum}
+use Rattle.model.specs.Frame.{Frame}
 use Rattle.model.specs.Order.{readingOf}
 use Rattle.model.specs.Codec.{WriteAnswer}
-use Rattle.model.specs.Schedule.{Schedule, steady, widening, limitsAt, modulusOf, dueAlong}
-use Rattle.model.specs.Wider.{widerDecode, widerKey, widerHeldBytes}
+use Rattle.model.specs.Schedule.{Schedule, steady, widening, limitsAt, modulusOf}
+use Rattle.model.specs.Wider.{frameHalf, widerDecode, countsDownBy, widerHeldBytes}
 use Rattle.model.specs.WiderCalls.{writeIn}
 use Rattle.model.specs.Run.{Node, sentBy, Call, Done, isAccepted, runFrom, atStart, messageBytes, messageFrame}
 use Rattle.theory.specs.Premises.{largestClock, noneStale}
@@ -21,9 +22,21 @@ use Rattle.theory.specs.Changeover.{Changeover, alongAll, Phase, widerFo
 
 -- ---- what goes by a schedule of true clocks
 
--- 02: "A frame is due at sum + δ + ε if that lies before V, else at sum + δ′ + ε′": of a message
+-- 02: "A frame is due at sum + δ + ε if that lies before V, else at sum + δ′ + ε′", in its words, and not by the tick's definitions
+abbrev pub dueOfSum : Schedule → ℕ → ℕ
+dueOfSum (steady s) total = total + s .delta + s .epsilon
+dueOfSum (widening before after change) total =
+    cond (ltb (total + before .delta + before .epsilon) change) (total + before .delta + before .epsilon) (total + after .delta + after .epsilon)
+
+-- 02: "Frames due before V compare ε counts, all others ε′ counts", likewise
+abbrev pub countsOfSum : Schedule → ℕ → ℕ
+countsOfSum (steady s) total = s .epsilon
+countsOfSum (widening before after change) total =
+    cond (ltb (total + before .delta + before .epsilon) change) (before .epsilon) (after .epsilon)
+
+-- of a message
 unfoldable pub dueClockAlong : Schedule → Done → ℕ
-dueClockAlong g m = dueAlong g (sum (m .clock) (messageFrame m .stamp .c))
+dueClockAlong g m = dueOfSum g (sum (m .clock) (messageFrame m .stamp .c))
 
 -- 02, 2.2: handed out "at the first tick at or past its due clock"
 unfoldable pub dueInAlong : Schedule → ℕ → ℕ → Done → Bool
@@ -31,7 +44,10 @@ dueInAlong g last v m = ltb last (dueClockAlong g m) && leb (dueClockAlong g m) 
 
 -- 01: "the order of two stamps", each with its true clock; 02: by as many counts as frames of its sum compare
 unfoldable pub messageKeyAlong : Schedule → Done → List ℕ
-messageKeyAlong g m = widerKey g (m .clock) (messageFrame m)
+messageKeyAlong g m =
+    let f : Frame = messageFrame m in
+    let total : ℕ = sum (m .clock) (f .stamp .c) in
+    total ∷ (countsDownBy (countsOfSum g total) (frameHalf g f) (f .stamp) ++ (f .station ∷ m .clock ∷ []))
 
 unfoldable pub earlierAlong : Schedule → Done → Done → Bool
 earlierAlong g m m′ = isLess (lexCompare (messageKeyAlong g m) (messageKeyAlong g m′))

@@ -1,15 +1,16 @@
 -- 02, 2.10: demand 1, and demand 2 from any state, of the calls with both pairs of limits.
-use Prim.Native.Nat.{ℕ, _+_, _-_, _%_, _≤_, _<_}
+use Prim.Native.Nat.{ℕ, _+_, _-_, _*_, _%_, _≤_, _<_}
 use mathlib.Core.Path.{_≡_}
 use mathlib.Core.Bool.{Bool, true, false, cond}
-use mathlib.Core.List.{List, [], map}
-use lib.Dec.{leb, ltb}
+use mathlib.Core.List.{List, [], _∷_, map}
+use lib.Dec.{leb, ltb, eqb}
 use lib.ListN.{length, take, drop, replicate}
 use Rattle.laws.specs.Lists.{every, overlay}
-use Rattle.model.specs.Setup.{Setup}
+use Rattle.model.specs.Setup.{Setup, inLimits}
 use Rattle.model.specs.Timestamp.{Timestamp, soundClock, trimmed, widened}
 use Rattle.model.specs.Frame.{Frame, encode}
-use Rattle.model.specs.Batch.{batchEntries}
+use Rattle.model.specs.Batch.{exactBatch, batchEntries}
+use Rattle.model.specs.Question.{Question, ask, firstNo}
 use Rattle.model.specs.Codec.{noTimestamp, frameOf}
 use Rattle.model.specs.Holdback.{encodeFrames, encodeHoldback}
 use Rattle.model.specs.Judge.{Heard}
@@ -28,7 +29,23 @@ abbrev pub Demand1In : Wider → Input → Type 0
 Demand1In w i =
     Checked Output (λ (o : Output). o .answer .number) (widerCallQuestions w i) (refusal i) (widerAcceptance (along (i .setup) w (i .clock)) i) (tickIn w i)
 
--- of a listener's call
+-- "that check's number", check by check in 02's words, and not by the tick's list: "with B in its limits for both, V below B (else 1), and a mark", of 0
+-- or 1; "Number 19 when ε′ or δ′ is smaller than the old, asked after 1"; then 01's 2 to 6, where "shelves and buffers have the new sizes"
+unfoldable pub numbersIn : Wider → Input → List Question
+numbersIn w i =
+    let s : Setup = i .setup in
+    let new : Setup = record { n = s .n; epsilon = w .epsilon; delta = w .delta; modulus = s .modulus } in
+    ask (inLimits s) 1 ∷ ask (inLimits new) 1 ∷ ask (ltb (w .change) (s .modulus)) 1 ∷ ask (leb (w .marked) 1) 1 ∷ ask (ltb (i .own) (s .n)) 1
+    ∷ ask (leb (s .epsilon) (w .epsilon)) 19 ∷ ask (leb (s .delta) (w .delta)) 19
+    ∷ ask (ltb (i .clock) (s .modulus)) 2 ∷ ask (eqb (length (i .holdback)) (holdbackSize new)) 3
+    ∷ ask (leb (length (i .payload)) 32) 4 ∷ ask (exactBatch (i .batch)) 5
+    ∷ ask (leb (39 + 2 * w .epsilon) (length (i .outgoing))) 6 ∷ ask (leb 255 (length (i .verdicts))) 6 ∷ ask (leb (holdbackSize new) (length (i .delivery))) 6
+    ∷ []
+
+abbrev pub Demand1NumbersIn : Type 0
+Demand1NumbersIn = (w : Wider) (i : Input) → tickIn w i .answer .number ≡ firstNo (numbersIn w i)
+
+-- demand 1 of a listener's call
 abbrev pub Demand1ListenIn : Wider → Listening → Type 0
 Demand1ListenIn w i =
     Checked Listened (λ (o : Listened). o .number) (listenInQuestions w i) (notListened i) (widerListened (along (i .setup) w (i .clock)) i) (listenIn w i)

@@ -34,7 +34,7 @@ pub struct Rank {
 }
 
 // What two numbers decide, for that reason.
-fn compare_numbers(a: usize, b: usize, reason: Reason) -> Comparison
+pub fn compare_numbers(a: usize, b: usize, reason: Reason) -> Comparison
     ensures { λ o. ⌜ comparisonOf o ≡ decideBy (reasonOf reason) (compare a b) ⌝ }
 {
     if a < b {

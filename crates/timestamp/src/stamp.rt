@@ -217,14 +217,14 @@ pub fn larger(a: u8, b: u8) -> u8
 }
 
 // How far `a` lies past `b`, 0 if it does not.
-fn past(a: usize, b: usize) -> usize
+pub fn past(a: usize, b: usize) -> usize
     ensures { λ x. ⌜ x ≡ a - b ⌝ }
 {
     if a < b { 0 } else { a - b }
 }
 
 // The larger of a lead and of how far a sum lies past B.
-fn larger_lead(lead: usize, sum: usize, modulus: usize) -> usize
+pub fn larger_lead(lead: usize, sum: usize, modulus: usize) -> usize
     ensures { λ x. ⌜ x ≡ max lead (sum - modulus) ⌝ }
 {
     if sum <= modulus {
@@ -236,7 +236,7 @@ fn larger_lead(lead: usize, sum: usize, modulus: usize) -> usize
 
 // Lays the `count` counts of `other` that start at the place `from` over the own ones that start at the place `to`, and keeps
 // the larger of each two. The rest of the own ones stay.
-fn raise(own: &mut [u8], to: usize, other: &[u8], from: usize, count: usize)
+pub fn raise(own: &mut [u8], to: usize, other: &[u8], from: usize, count: usize)
     requires { ⌜ (length (now own) ≡ widest) × ((count ≤ widest - to) × (count ≤ length (now other) - from)) ⌝ }
     ensures { λ _. ⌜ now (own .exit) ≡ tab widest (raisedAt to (now (own .entry)) (take count (drop from (now (other .entry))))) ⌝ }
 {
@@ -248,7 +248,7 @@ fn raise(own: &mut [u8], to: usize, other: &[u8], from: usize, count: usize)
 }
 
 // 01: "u is (r − v) modulo B".
-fn ahead(modulus: usize, clock: usize, r: usize) -> usize
+pub fn ahead(modulus: usize, clock: usize, r: usize) -> usize
     requires { ⌜ (modulus ≤ 65535) × ((clock < modulus) × (r < modulus)) ⌝ }
     ensures { λ u. ⌜ u ≡ model.ahead modulus clock r ⌝ }
 {

@@ -1,4 +1,5 @@
 pub mod Refuting
 pub mod Telling
+pub mod Showing
 pub mod Unedited
 pub mod Engines

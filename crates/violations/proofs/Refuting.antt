@@ -1,15 +1,15 @@
 -- Each promise makes its test true, so a test that computes to false refutes the demand. Nothing here looks into a definition of the tick
 -- or of the premises: it holds under any edit of them.
 -- Assumes nothing.
-use Prim.Native.Nat.{ℕ, suc, _+_, _≤_}
+use Prim.Native.Nat.{ℕ, zero, suc, _+_, _≤_}
 use native.Mathlib.Omega.{arith}
 use native.Mathlib.Nat.{zero-add, add-zero, suc-add, add-suc}
 use mathlib.Core.Path.{_≡_, refl, sym, ap, subst, _∙_}
 use mathlib.Core.Logic.{_⊎_, inl, inr}
-use mathlib.Core.Bool.{Bool, true, false, _&&_, _||_, cond}
+use mathlib.Core.Bool.{Bool, true, false, _&&_, _||_, not, cond}
 use mathlib.Core.List.{List, [], _∷_}
 use mathlib.Core.List.{List·Memᴰ, List·Memᴰ·not-nil, List·Memᴰ·cases-cons}
-use mathlib.Core.Option.{Option, none, some}
+use mathlib.Core.Option.{Option, none, some, Option·some-injective, Option·none-ne-some}
 use lib.Dec.{ltb, eqb}
 use lib.ListN.{take, getD, getElem?}
 use borrow.Author.Tests.{eqb-true, eq-eqb, ltb-true, lt-ltb, le-leb}
@@ -25,14 +25,15 @@ use Rattle.model.specs.Judge.{Heard}
 use Rattle.model.specs.Published.{Condition, deliverable, deliverableBy}
 use Rattle.model.specs.Tick.{Input, tick}
 use Rattle.model.specs.Observer.{Listening, listen}
-use Rattle.model.specs.Run.{Node, Source, sentBy, stale, Call, Done, isAccepted, isEvent, runFrom, atStart}
+use Rattle.model.specs.Run.{Node, Source, sentBy, stale, Call, Done, World, isAccepted, isEvent, runFrom, atStart}
 use Rattle.theory.specs.NeverFull.{NeverFull}
 use Rattle.theory.specs.Premises.{goodStart, largestClock, keeps, sameTimestamp, allFresh, noneStale, stepsOfOne}
 use Rattle.theory.specs.Demand2.{heardBefore, AnyState, Demand2Any, observedBefore, AnyObserver, Demand2Observer, Published, Outcome, outcomeOf, publish, publishAll, publishedStart, SameAs, Matched, Demand2Fresh, Demand2Ones}
 use Rattle.theory.specs.Demand3.{coveredFrom, covered, isFrom, heardIn, earlier, written, Leads, later, takes, on, Promised, Demand3, Demand3Fresh}
+use Rattle.theory.specs.Charges.{heardAndDue, SameHeard, Charges}
 use Rattle.theory.specs.Changeover.{Changeover, alongAll, Phase, frozenUntil, keepsThrough, startsThrough, freshThrough}
 use Rattle.theory.specs.Through.{earlierAlong, writtenAlong, PromisedAlong, coveredThrough, Demand3Through, Demand3FreshThrough}
-use Rattle.violations.specs.Tests.{everyFrom, anyFrom, sameEach, implies, sameFrames, sendsRight, sendingTest, verdictRight, entryRight, hearsRight, hearingTest, deliversRight, deliveringTest, laterThan, takesFrom, stepTo, causesRight, causeRight, causalityTest, sendingAlong, hearingAlong, deliveringAlong, causalityAlong}
+use Rattle.violations.specs.Tests.{everyFrom, anyFrom, sameEach, implies, sameFrames, sendsRight, sendingTest, verdictRight, entryRight, hearsRight, hearingTest, deliversRight, deliveringTest, laterThan, takesFrom, stepTo, causesRight, causeRight, causalityTest, sendingAlong, hearingAlong, deliveringAlong, causalityAlong, sameHeardTest, shownTest}
 use Rattle.violations.specs.Tests.{verdictTest, takenTest, deliveredTest, deliveryTest, sentTest, outgoingTest, repairTest, everyStep, boundedTest, boundedQueueTest, roomBefore, neverFullTest}
 use Rattle.violations.specs.Tests.{observedTest, observerTakenTest, observerDeliveredTest, observerDeliveryTest, observerRepairTest, lastTest, lastBoundedTest, observerQueueTest, observerNeverFullTest}
 use Rattle.violations.specs.Tests.{FreshTest, sameTables, sameRepair, sameTaken, sameVerdicts, sameHoldback, sameOutgoing, sameSent, sameDelivery, sameDelivered, matchedBy, freshTest}
@@ -260,6 +261,43 @@ module _ (test : Setup → ℕ → List Done → Bool) (right : (s : Setup) (fro
       → noneStale (runFrom (atStart nodes) calls .past) ≡ true → test s 0 (runFrom (atStart nodes) calls .past) ≡ false → Demand3Fresh → ⊥
   refute-start good fresh kept sent wrong demand =
       clash (right s 0 (runFrom (atStart nodes) calls .past) (demand s nodes calls good fresh kept sent)) wrong
+
+-- 02, 2.11: what a test says of each message
+every-there : {A : Type 0} (p : ℕ → A → Bool) (i : ℕ) (l : List A) → everyFrom p i l ≡ true → (k : ℕ) (x : A) → getElem? l k ≡ some x → p (i + k) x ≡ true
+unfolding everyFrom
+every-there p i [] h k x e = absurd (Option·none-ne-some x e)
+every-there p i (y ∷ l) h zero x e =
+    ap (λ (n : ℕ). p n x) (add-zero i) ∙ ap (p i) (sym (Option·some-injective y x e)) ∙ and-left (p i y) (everyFrom p (suc i) l) h
+every-there p i (y ∷ l) h (suc k) x e =
+    ap (λ (n : ℕ). p n x) (sym (on-by-one i k)) ∙ every-there p (suc i) l (and-right (p i y) (everyFrom p (suc i) l) h) k x e
+
+same-truth : (c x y : Bool) → implies c (cond x y (not y)) ≡ true → c ≡ true → x ≡ y
+same-truth true true y h c = sym h
+same-truth true false true h c = absurd (clash h refl)
+same-truth true false false h c = refl
+same-truth false x y h c = absurd (clash c refl)
+
+module _ (s : Setup) (from : ℕ) (w : World) (a b : ℕ) where
+  pub same-heard : sameHeardTest s from w a b ≡ true → SameHeard s from w a b
+  unfolding sameHeardTest
+  same-heard test k m e =
+      same-truth (covered from m) (heardAndDue s w a k m) (heardAndDue s w b k m)
+      (sym (ap (λ (n : ℕ). implies (covered from m) (cond (heardAndDue s w a n m) (heardAndDue s w b n m) (not (heardAndDue s w b n m)))) (zero-add k))
+      ∙ every-there _ 0 (w .past) test k m e)
+
+-- of two boards that heard the same and showed other frames
+pub refute-charges :
+    (s : Setup) (nodes : List Node) (calls : List Call) (a b : ℕ) → goodStart s nodes ≡ true
+    → keeps s (largestClock nodes) (atStart nodes) calls ≡ true
+    → sameHeardTest s (coveredFrom s (largestClock nodes)) (runFrom (atStart nodes) calls) a b ≡ true
+    → shownTest s (coveredFrom s (largestClock nodes)) (runFrom (atStart nodes) calls .past) a b ≡ false → Charges → ⊥
+unfolding shownTest
+refute-charges s nodes calls a b good kept heard wrong charges =
+    clash
+    (sameFrames-eq
+    (charges s nodes calls good kept a b 0 [] [] (same-heard s (coveredFrom s (largestClock nodes)) (runFrom (atStart nodes) calls) a b heard)
+    (record { size = refl; bales = refl }) .shown))
+    wrong
 
 -- or, through V, what 2.10 says
 module _ (test : Schedule → ℕ → List Done → Bool) (right : (g : Schedule) (from : ℕ) (past : List Done) → PromisedAlong g from past → test g from past ≡ true)

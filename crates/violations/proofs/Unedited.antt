@@ -12,7 +12,8 @@ use Rattle.model.specs.Codec.{read, write}
 use Rattle.model.specs.Published.{Condition, deliverable, deliverableBy}
 use Rattle.model.specs.Tick.{tick}
 use Rattle.model.specs.Observer.{listen}
-use Rattle.model.specs.Run.{Node, Call, Done, atStart}
+use Rattle.model.specs.Wider.{tickIn}
+use Rattle.model.specs.Run.{Node, Call, Done, atStart, runFrom}
 use Rattle.model.specs.Long.{longRead, longWrite, longHeld, longTick}
 use Rattle.theory.specs.Premises.{goodStart, largestClock, keeps, allFresh, noneStale, stepsOfOne}
 use Rattle.theory.specs.Demand2.{heardBefore, observedBefore, publishedStart}
@@ -25,8 +26,10 @@ use Rattle.violations.specs.Tests.{sendingTest, hearingTest, deliveringT
 use Rattle.violations.specs.Stories.{group, Scene, freshTables, freshNodes, callsOf, pastOf, causeAndEffect, heardTooLate, driftedApart, hauntedAt10, hauntedAt8, staleHeard, holdingNodes, wideGroup, wideNodes, wideCalls, widePast, steppedTooFar, notStepped, inputsFrom, inputsOf, unsoundTables, unsoundQueue, packed, packedAlone, packedOverdue}
 use Rattle.violations.specs.Stories.{watchedNodes, watchedCalls, watchedPast, allAhead, leftBehind, forestalled, holdingWatched, wideWatched, watchedSteps, watchedStepped, listeningsFrom, unsoundHoldback}
 use Rattle.violations.specs.Engines.{engineGroup, now, hearsTwo, heldTwice, holdsAll, engineTest, longSameAll, besideTest}
-use Rattle.violations.specs.Tests.{sendingAlong, hearingAlong, deliveringAlong}
-use Rattle.violations.specs.Through.{Turn, season, seasonCalls, seasonPast, freshPhases, bothPhases, twoBoth, lateUp, takenUpLate, nearChange, newTooSoon, heardNearChange, twoNear, aheadAtChange, longSeason, longNodes, longCalls, beforeChange, heardOneLate, togetherBefore, heardOwn, earlyNodes, steppedBefore, pastNodes, bothTooLong, frozenNodes, thawedSoon, haunting, hauntedLate, hauntedNodes, hauntedInTime, pastChange, knownAhead, togetherAt14, orderedBefore, oneAt, sendsOnce}
+use Rattle.violations.specs.Tests.{sendingAlong, hearingAlong, deliveringAlong, sameHeardTest, shownTest}
+use Rattle.violations.specs.Stories.{damagedWatched, ticketed, ticketCalls, ticketWorld}
+use Rattle.violations.specs.Through.{Turn, evenSeason, evenNodes, evenCalls, season, seasonCalls, seasonPast, freshPhases, bothPhases, twoBoth, lateUp, takenUpLate, nearChange, newTooSoon, heardNearChange, twoNear, aheadAtChange, longSeason, longNodes, longCalls, beforeChange, heardOneLate, togetherBefore, heardOwn, earlyNodes, steppedBefore, pastNodes, bothTooLong, soonSeason, soonNodes, twoOlder, soonCalls, frozenNodes, thawedSoon, haunting, hauntedLate, hauntedNodes, hauntedInTime, pastChange, knownAhead, togetherAt14, togetherAt10, orderedBefore, oneAt, sendsOnce}
+use Rattle.violations.specs.Both.{pairAt, quietAt14, lateAt17, aheadAt14, noDrift, longDrift, changeAtB, markedTwice, newAt14, shorterDelay}
 use Rattle.violations.proofs.Telling.{telling}
 use Rattle.violations.proofs.Engines.{engines}
 
@@ -187,6 +190,18 @@ pub watched-not-fresh : (goodStart group holdingWatched ∷ allFresh group holdi
 unfolding telling
 watched-not-fresh = refl
 
+-- 02, 2.11: the tickets, from damage in every memory: the observer, at 12, has heard what node 0 has, and not shown all of it; at 13 both have shown the same
+pub tickets-kept : keptBy group damagedWatched (ticketCalls ticketed) ≡ true
+unfolding telling
+tickets-kept = refl
+
+pub tickets-shown :
+    (sameHeardTest group 10 (ticketWorld (take 20 ticketed)) 0 2 ∷ shownTest group 10 (ticketWorld (take 20 ticketed) .past) 0 2
+    ∷ sameHeardTest group 10 (ticketWorld ticketed) 0 2 ∷ shownTest group 10 (ticketWorld ticketed .past) 0 2 ∷ [])
+    ≡ false ∷ false ∷ true ∷ true ∷ []
+unfolding telling
+tickets-shown = refl
+
 -- 02, 2.7: shelves with all n(δ + 3ε − 1) frames that they can have when a frame is judged: six of two stations, and three of one, at ε 1 and δ 1
 pub packed-tight : (length (heardBefore packed 6 .queue) ∷ length (observedBefore packedAlone 3 .queue) ∷ []) ≡ 6 ∷ 3 ∷ []
 unfolding telling
@@ -252,13 +267,15 @@ abbrev keptSeason : List Phase → List Node → List Turn → Bool
 keptSeason phases nodes story = keptThrough season nodes phases (seasonCalls phases nodes story)
 
 -- a take-up a tick later, the new pair four ticks sooner, the new drift with one clock before V, an observer's too, the new delay for an old message, a delay by
--- the clocks before the call, a step of the new pair before V, both pairs B past V, the old pair at V, and the new one before it, are ruled out
+-- the clocks before the call, a step of the new pair before V, both pairs B past V and B + 1 before it, the old pair at V, and the new one before it, are
+-- ruled out
 pub through-ruled-out :
     (keptSeason freshPhases lateUp takenUpLate ∷ keptSeason bothPhases nearChange newTooSoon ∷ keptSeason twoBoth twoNear aheadAtChange
     ∷ keptThrough longSeason longNodes bothPhases longCalls ∷ keptSeason bothPhases beforeChange heardOneLate ∷ keptSeason bothPhases togetherBefore heardOwn
-    ∷ keptSeason bothPhases earlyNodes steppedBefore ∷ keptSeason twoBoth pastNodes bothTooLong ∷ keptSeason (older ∷ []) (oneAt older 16) sendsOnce
+    ∷ keptSeason bothPhases earlyNodes steppedBefore ∷ keptSeason twoBoth pastNodes bothTooLong
+    ∷ keptThrough soonSeason (soonNodes 14) twoOlder (soonCalls 14) ∷ keptSeason (older ∷ []) (oneAt older 16) sendsOnce
     ∷ keptSeason (newer ∷ []) (oneAt newer 15) sendsOnce ∷ [])
-    ≡ replicate 10 false
+    ≡ replicate 11 false
 unfolding telling
 through-ruled-out = refl
 
@@ -266,22 +283,41 @@ through-ruled-out = refl
 pub through-kept :
     (keptSeason bothPhases nearChange (take 5 newTooSoon) ∷ keptSeason bothPhases beforeChange (take 7 heardOneLate)
     ∷ keptSeason bothPhases togetherBefore (take 5 heardOwn) ∷ keptSeason bothPhases earlyNodes (take 5 steppedBefore)
-    ∷ keptSeason twoBoth pastNodes (take 2 bothTooLong) ∷ [])
-    ≡ replicate 5 true
+    ∷ keptSeason twoBoth pastNodes (take 2 bothTooLong) ∷ keptThrough soonSeason (soonNodes 14) twoOlder (take 3 (soonCalls 14)) ∷ [])
+    ≡ replicate 6 true
 unfolding telling
 through-kept = refl
 
--- with both pairs a frame that is sent at V is wide, and one at 3 narrow; a narrow one of 16 is handed out at 19; one with c 1 is heard; and the order of two
--- on a shelf is the same on both sides of V
+-- with both pairs a frame that is sent at V is wide, and one at 3 narrow; a narrow one of 16 is handed out at 19; one with c 1 is heard; the order of two
+-- on a shelf is the same on both sides of V; and a station that takes both pairs up B before V has its shelf in the next call
 pub through-promised :
     (keptSeason (both ∷ []) (oneAt both 16) sendsOnce ∷ sendingAlong (alongAll season) 0 (seasonPast (both ∷ []) (oneAt both 16) sendsOnce)
     ∷ keptSeason (both ∷ []) (oneAt both 2) sendsOnce ∷ sendingAlong (alongAll season) 0 (seasonPast (both ∷ []) (oneAt both 2) sendsOnce)
     ∷ keptSeason bothPhases nearChange heardNearChange ∷ deliveringAlong (alongAll season) 0 (seasonPast bothPhases nearChange heardNearChange)
     ∷ keptSeason twoBoth pastChange knownAhead ∷ hearingAlong (alongAll season) 0 (seasonPast twoBoth pastChange knownAhead)
-    ∷ keptSeason bothPhases togetherAt14 orderedBefore ∷ deliveringAlong (alongAll season) 0 (seasonPast bothPhases togetherAt14 orderedBefore) ∷ [])
-    ≡ replicate 10 true
+    ∷ keptSeason bothPhases togetherAt14 orderedBefore ∷ deliveringAlong (alongAll season) 0 (seasonPast bothPhases togetherAt14 orderedBefore)
+    ∷ keptSeason bothPhases togetherAt10 (take 7 orderedBefore) ∷ deliveringAlong (alongAll season) 0 (seasonPast bothPhases togetherAt10 (take 7 orderedBefore))
+    ∷ keptThrough soonSeason (soonNodes 15) twoOlder (soonCalls 15)
+    ∷ hearingAlong (alongAll soonSeason) 0 (runFrom (atStart (soonNodes 15)) (soonCalls 15) .past) ∷ [])
+    ≡ replicate 14 true
 unfolding telling
 through-promised = refl
+
+-- by equal pairs a message is handed out as with one
+pub through-even :
+    (keptThrough evenSeason evenNodes twoBoth evenCalls ∷ deliveringAlong (alongAll evenSeason) 0 (runFrom (atStart evenNodes) evenCalls .past) ∷ [])
+    ≡ true ∷ true ∷ []
+unfolding telling
+through-even = refl
+
+-- calls with both pairs: what 1 and 19 refuse, a shelf of the new size before V, a frame that was due before v, and a shelf with frames that 12 refuses
+pub both-told :
+    (tickIn noDrift quietAt14 .answer .number ∷ tickIn longDrift quietAt14 .answer .number ∷ tickIn changeAtB quietAt14 .answer .number
+    ∷ tickIn markedTwice quietAt14 .answer .number ∷ tickIn shorterDelay newAt14 .answer .number ∷ tickIn (pairAt 14) quietAt14 .answer .number
+    ∷ tickIn (pairAt 14) aheadAt14 .answer .repair ∷ take 1 (tickIn (pairAt 17) lateAt17 .verdicts))
+    ≡ 1 ∷ 1 ∷ 1 ∷ 1 ∷ 19 ∷ 0 ∷ 2 ∷ 13 ∷ []
+unfolding telling
+both-told = refl
 
 -- those of recovery
 abbrev recoversSeason : List Phase → List Node → List Turn → Bool

@@ -2,7 +2,7 @@
 use Prim.Native.Nat.{ℕ, _+_, _-_, _%_, _/_}
 use mathlib.Core.Bool.{Bool, true, false}
 use mathlib.Core.List.{List, [], _∷_, _++_, map}
-use mathlib.Core.Option.{some}
+use mathlib.Core.Option.{none, some}
 use lib.ListN.{replicate}
 use Rattle.laws.specs.Lists.{tab}
 use Rattle.model.specs.Timestamp.{Timestamp}
@@ -66,6 +66,41 @@ twiceAt20 = inputIn 20 (wideAt 19) (2 ∷ 0 ∷ (wideFrame ++ wideFrame)) false 
 
 abbrev pub twiceListening : Listening
 twiceListening = listeningIn 20 (2 ∷ 0 ∷ (wideFrame ++ wideFrame)) []
+
+-- a call for 17 that hears a frame of 14, δ′ + ε′ behind, which was due at 15
+abbrev pub lateAt17 : Input
+lateAt17 = inputIn 17 (narrowAt 16) noFrames false (bytesOf 0 0 0 (0 ∷ 1 ∷ []) [] ∷ [])
+
+-- a call for 14, before V, with six frames on its shelf, two of them wide ones of 12 with c 1, none due before 14
+abbrev pub aheadAt14 : Input
+aheadAt14 = inputIn 14 (narrowAt 13) (6 ∷ 0 ∷ (ahead 0 ++ (plain 0 13 ++ (ahead 1 ++ (plain 1 13 ++ (plain 0 0 ++ plain 1 0)))))) false []
+  where
+    ahead : ℕ → List ℕ
+    ahead station = bytesOf station 12 1 (0 ∷ 0 ∷ 0 ∷ 1 ∷ []) []
+
+    plain : ℕ → ℕ → List ℕ
+    plain station r = bytesOf station r 0 (0 ∷ 1 ∷ []) []
+
+-- wider pairs that no call is given: with no ε′ at all, with an ε′ that B is too small for, with V at B, and with a mark of 2
+abbrev pub noDrift : Wider
+noDrift = record { epsilon = 0; delta = 1; change = 3; marked = 0 }
+
+abbrev pub longDrift : Wider
+longDrift = record { epsilon = 3; delta = 1; change = 3; marked = 0 }
+
+abbrev pub changeAtB : Wider
+changeAtB = record { epsilon = 2; delta = 1; change = 14; marked = 0 }
+
+abbrev pub markedTwice : Wider
+markedTwice = record { epsilon = 2; delta = 1; change = 3; marked = 2 }
+
+-- a call for 14 that has the new pair for its old one, and a pair with a shorter delay
+abbrev pub newAt14 : Input
+newAt14 =
+    inputOf (member 0 13 (wideAt 13) (holdbackWith (season .after) noFrames)) (callingIn (season .after) none [] (season .after) 0 1 14 false [] [] [])
+
+abbrev pub shorterDelay : Wider
+shorterDelay = record { epsilon = 2; delta = 0; change = 3; marked = 0 }
 
 -- a pair with the old ε and a longer delay: both widths are one
 abbrev pub longerDelay : Wider

@@ -12,6 +12,7 @@ use Rattle.model.specs.Frame.{encode}
 use Rattle.model.specs.Tick.{Input, holdbackSize}
 use Rattle.model.specs.Observer.{Listening}
 use Rattle.model.specs.Schedule.{Wider}
+use Rattle.model.specs.Ledger.{pressPayload}
 use Rattle.model.specs.Run.{Node, Source, sentBy, stale, Call, Done, World, inputOf, listeningOf, act, atStart, runFrom, messageBytes}
 use Rattle.theory.specs.Premises.{clockAt}
 
@@ -279,6 +280,42 @@ watchedSteps =
 
 abbrev pub watchedStepped : List Done
 watchedStepped = runFrom (atStart wideWatched) watchedSteps .past
+
+-- 02, 2.11: damage in every memory. Node 0 has tables of nonsense, node 1 tables that were never written by a tick but look sound, the observer, node 2, a
+-- last clock of B or more, and all have shelves of nonsense. X is 6 again
+abbrev pub damagedWatched : List Node
+damagedWatched =
+    damaged false 0 6 (record { r = 6; c = 9; kn = replicate 32 77 }) ∷ damaged false 1 6 (record { r = 6; c = 0; kn = 1 ∷ 1 ∷ replicate 30 255 })
+    ∷ damaged true 0 5 (record { r = 77; c = 9; kn = replicate 32 77 }) ∷ []
+  where
+    damaged : Bool → ℕ → ℕ → Timestamp → Node
+    damaged listens own clock tables =
+        record { listens = listens; own = own; clock = clock; tables = tables; holdback = replicate (holdbackSize group) 170 }
+
+-- a press ticket
+abbrev pub press : ℕ → ℕ → ℕ → List ℕ
+press bale pounds grower = pressPayload (record { bale = bale; pounds = pounds; grower = grower })
+
+-- a call that sends a ticket and hears these
+abbrev pub ticketing : ℕ → List ℕ → List StoryEntry → Scene
+ticketing node payload entries = record { node = node; step = 1; send = true; payload = payload; hears = entries }
+
+-- the observer alone hears an older frame that has bale 7. Then node 1 sends a ticket of bale 7 at 10, node 0 another one of it because of that, and one of
+-- bale 8 at 11, and node 1 one of another kind. All three hear all four, in other orders, and hand the first two out at 12, the others at 13, the observer last
+abbrev pub ticketed : List Scene
+ticketed =
+    (hearing 2 (staleFrame (bytesOf 1 6 0 (0 ∷ 1 ∷ []) (press 7 1 5)) ∷ []) ∷ quiet 0 ∷ quiet 1 ∷ quiet 2 ∷ quiet 0 ∷ quiet 1 ∷ quiet 2 ∷ quiet 0
+    ∷ quiet 1 ∷ quiet 2 ∷ [])
+    ++ (ticketing 1 (press 7 487 3) [] ∷ ticketing 0 (press 7 488 4) (message 10 ∷ []) ∷ hearing 2 (message 11 ∷ message 10 ∷ message 11 ∷ [])
+    ∷ ticketing 0 (press 8 1 4) (message 11 ∷ []) ∷ ticketing 1 (65 ∷ []) (message 13 ∷ message 11 ∷ message 10 ∷ [])
+    ∷ hearing 2 (message 14 ∷ message 13 ∷ []) ∷ hearing 0 (message 13 ∷ message 14 ∷ []) ∷ hearing 1 (message 14 ∷ []) ∷ quiet 2 ∷ quiet 0 ∷ quiet 1
+    ∷ quiet 2 ∷ [])
+
+abbrev pub ticketCalls : List Scene → List Call
+ticketCalls scenes = callsFrom group (atStart damagedWatched) scenes
+
+abbrev pub ticketWorld : List Scene → World
+ticketWorld scenes = runFrom (atStart damagedWatched) (ticketCalls scenes)
 
 -- the observers' calls of a list
 abbrev pub listeningTo : Option Node → Call → List Listening

@@ -1,7 +1,7 @@
 -- The promises as tests: what demands 2 and 3 say of a concrete list of calls, or of one call, tried by computation. A test for each clause;
 -- proofs/Refuting shows that a promise makes its tests true, so that a test that computes to false refutes the promise.
 use Prim.Native.Nat.{ℕ, suc, _+_, _-_, _*_, _%_}
-use mathlib.Core.Bool.{Bool, true, false, _&&_, _||_, cond}
+use mathlib.Core.Bool.{Bool, true, false, _&&_, _||_, not, cond}
 use mathlib.Core.List.{List, [], _∷_, map}
 use mathlib.Core.Option.{Option, none, some}
 use lib.Dec.{leb, ltb, eqb}
@@ -20,10 +20,11 @@ use Rattle.model.specs.Wider.{widerHeldBytes}
 use Rattle.model.specs.Published.{Process, Condition, inOrder}
 use Rattle.model.specs.Tick.{Input, holdbackSize, leastDue, sentBytes, deliveredOf, takenCount, tick}
 use Rattle.model.specs.Observer.{Listening, observerLeast, observerDelivered, listen}
-use Rattle.model.specs.Run.{Source, sentBy, stale, Done, isAccepted, isEvent, messageBytes}
+use Rattle.model.specs.Run.{Source, sentBy, stale, Done, World, isAccepted, isEvent, messageBytes}
 use Rattle.theory.specs.Premises.{sameTimestamp}
 use Rattle.theory.specs.Demand2.{Published, Outcome, outcomeOf, publish, heardBefore, observedBefore, reduced, reducedFrame}
 use Rattle.theory.specs.Demand3.{covered, isFrom, heardIn, earlier, dueHere, coveredFrame, written}
+use Rattle.theory.specs.Charges.{shownOn, heardAndDue}
 use Rattle.theory.specs.Through.{earlierAlong, dueHereAlong, coveredAlong, writtenAlong}
 
 module _ {A : Type 0} where
@@ -134,6 +135,16 @@ deliveringAlong g from past =
 
 unfoldable pub causalityAlong : Schedule → ℕ → List Done → Bool
 causalityAlong g from past = everyFrom (causeRight (earlierAlong g) from past) 0 past
+
+-- 02, 2.11: two boards heard the same covered messages, a premise; and they have shown the same
+unfoldable pub sameHeardTest : Setup → ℕ → World → ℕ → ℕ → Bool
+sameHeardTest s from w a b = everyFrom (λ k m. implies (covered from m) (sameTruth (heardAndDue s w a k m) (heardAndDue s w b k m))) 0 (w .past)
+  where
+    sameTruth : Bool → Bool → Bool
+    sameTruth x y = cond x y (not y)
+
+unfoldable pub shownTest : Setup → ℕ → List Done → ℕ → ℕ → Bool
+shownTest s from past a b = sameFrames (shownOn s from a past) (shownOn s from b past)
 
 -- Demand 2 from any state, of an accepted call: a test for each clause. The verdicts, by what is asked
 abbrev pub firstFailed : Asking → (ℕ → Heard) → List (List ℕ) → List ℕ → Bool

@@ -12,7 +12,7 @@ use Rattle.model.specs.Schedule.{Wider}
 use Rattle.model.specs.Run.{Node, Call, Done, World, act, atStart, runFrom}
 use Rattle.theory.specs.Premises.{clockAt}
 use Rattle.theory.specs.Changeover.{Changeover, Phase, older, both, newer, phaseSetup, widerFor, takesUp, phasesAfter}
-use Rattle.violations.specs.Stories.{StoryEntry, message, staleFrame, Scene, entryBytes, entrySource, callingIn, nudged, quiet, hearing, sending, bytesOf}
+use Rattle.violations.specs.Stories.{StoryEntry, message, staleFrame, Scene, entryBytes, entrySource, callingIn, nudged, quiet, hearing, sending, bytesOf, wideTables}
 
 pub record Turn : Type 0 where
   pub scene : Scene
@@ -292,6 +292,32 @@ pastNodes = wideMember 0 28 ∷ wideMember 1 28 ∷ []
 abbrev pub bothTooLong : List Turn
 bothTooLong = stays (sending 1 65 []) ∷ stays (nudged 2 0) ∷ stays (hearing 0 (message 0 ∷ [])) ∷ []
 
+-- a third season, at clock 38 from ε 2 to ε 3, with δ 1. Two nodes with the old pair send at one clock, and of their counts the third alone differs, of which
+-- ε 2 does not ask. Node 1 takes both pairs up in its next call, in which it hears both messages, and in the one after it hears node 0's again. From
+-- clock 14 on the take-up is at 17, B + 1 before V; from 15 on at 18, B before it
+abbrev pub soonSeason : Changeover
+soonSeason =
+    record {
+      before = record { n = 2; epsilon = 2; delta = 1; modulus = 20 };
+      after = record { n = 2; epsilon = 3; delta = 1; modulus = 20 };
+      change = 38;
+    }
+
+abbrev pub soonNodes : ℕ → List Node
+soonNodes clock =
+    member 0 clock (wideTables clock) (empty (soonSeason .before)) ∷ member 1 (clock + 1) (wideTables (clock + 1)) (empty (soonSeason .before)) ∷ []
+
+abbrev pub twoOlder : List Phase
+twoOlder = older ∷ older ∷ []
+
+abbrev pub takenUpSoon : List Turn
+takenUpSoon =
+    stays (quiet 0) ∷ stays (sending 0 65 []) ∷ stays (sending 1 66 []) ∷ turns (hearing 1 (message 1 ∷ message 2 ∷ [])) ∷ stays (hearing 1 (message 1 ∷ []))
+    ∷ []
+
+abbrev pub soonCalls : ℕ → List Call
+soonCalls clock = callsThrough soonSeason twoOlder (atStart (soonNodes clock)) takenUpSoon
+
 -- X is 20: the observer hears a narrow older frame at 23, due at 27, and goes to the new pair in its call for 27, with a covered message on its shelf
 abbrev pub frozenNodes : List Node
 frozenNodes = wideMember 0 20 ∷ wideMember 1 18 ∷ freshListener 19 ∷ []
@@ -337,6 +363,22 @@ abbrev pub orderedBefore : List Turn
 orderedBefore =
     stays (sending 1 65 []) ∷ stays (hearing 0 (message 0 ∷ [])) ∷ stays (sending 0 66 []) ∷ stays (sending 1 67 [])
     ∷ stays (hearing 2 (message 3 ∷ message 2 ∷ [])) ∷ stays (quiet 1) ∷ stays (quiet 2) ∷ stays (nudged 2 0) ∷ stays (nudged 2 2) ∷ []
+
+-- the same at 10, with messages that are due at 13
+abbrev pub togetherAt10 : List Node
+togetherAt10 = narrowMember 0 10 ∷ narrowMember 1 10 ∷ freshListener 11 ∷ []
+
+-- a season of equal pairs: node 0 sends at 15, and node 1 hands it out at 16
+abbrev pub evenSeason : Changeover
+evenSeason = record { before = season .before; after = season .before; change = 17 }
+
+abbrev pub evenNodes : List Node
+evenNodes = member 0 14 (narrowAt 14) (empty (season .before)) ∷ member 1 14 (narrowAt 14) (empty (season .before)) ∷ []
+
+abbrev pub evenCalls : List Call
+evenCalls =
+    callsThrough evenSeason twoBoth (atStart evenNodes)
+    (stays (sending 0 65 []) ∷ stays (hearing 1 (message 0 ∷ [])) ∷ stays (quiet 0) ∷ stays (quiet 1) ∷ [])
 
 -- node 0 alone sends at 17, V; with the old pair, with both; and at 16 with the new pair
 abbrev pub oneAt : Phase → ℕ → List Node

@@ -14,6 +14,9 @@ returns-2 c =
     let args = c .before .before .args in
     noted-high (args .step) (args .t1) (args .number) (c .if2 .taken)
 
+cast-at : tie.Need-cast-at
+cast-at c = search needs
+
 sub-at : tie.Need-sub-at
 sub-at c = search needs
 
@@ -45,6 +48,7 @@ noted-figures-spec =
     (tie.spec
     returns
     returns-2
+    cast-at
     sub-at
     mul-if3
     array-read-if3

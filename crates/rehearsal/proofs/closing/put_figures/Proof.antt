@@ -22,6 +22,9 @@ loop-holds c =
     let args = c .before .args in
     (put-as (sym (lines-none (args .t2))) (put-nothing (args .buf .now) 0), (refl, (omega arith, omega arith)))
 
+cast-put-figure : tie.Need-cast-put-figure Inv-loop μ-loop
+cast-put-figure c = search needs
+
 add-put-figure : tie.Need-add-put-figure Inv-loop μ-loop
 add-put-figure c = search needs
 
@@ -66,6 +69,7 @@ put-figures-spec =
     Inv-loop
     μ-loop
     loop-holds
+    cast-put-figure
     add-put-figure
     mul-put-figure
     array-read-put-figure
