@@ -11,6 +11,7 @@ from pathlib import Path
 # the tables that are read: the start of the heading, the name of a row, its form, and where its ns and its ratio to the twin stand in that
 TABLES = (
     ("ns a call ", "{0}", re.compile(r"(\D+?) +\d+ +(\d+) +\d+ +\d+ +([\d.]+) +[\d.]+"), 2, 3),
+    ("both pairs ", "both pairs, {0}", re.compile(r"(\D+?) +\d+ +(\d+) +\d+ +[\d.]+ +[\d.]+"), 2, None),
     ("engine ", "engine, {0}", re.compile(r"(\D+?) +\d+ +(\d+) +\d+ +[\d.]+ +[\d.]+"), 2, None),
     ("whole yard: ", "a yard's tick, n {0} ε {1} δ {2}", re.compile(r" *(\d+) +(\d+) +(\d+) +\d+ +(\d+) +\d+ +\d+"), 4, None),
 )

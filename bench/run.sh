@@ -1,6 +1,6 @@
 #!/usr/bin/env bash
-# Times the tick, the poll and an observer's call through the static library against the oracle and a twin tuned by hand, the tick of
-# an engine with long clocks beside its station's, charges and totals on a full ledger, and the figures. Then times the ticks of whole
+# Times the tick, the poll and an observer's call through the static library against the oracle and a twin tuned by hand, the tick with
+# both pairs of limits beside the plain one, the tick of an engine with long clocks beside its station's, charges and totals on a full ledger, and the figures. Then times the ticks of whole
 # yards from C.
 set -euo pipefail
 cd "$(dirname "$0")/.."

@@ -32,13 +32,14 @@ void try_texts() {
     std::set<std::string> numbers, mends;
     for (unsigned k = 0; k < 256; k++) {
         const bool is_number = k <= YARNGRAVEL_BAD_BUFFERS || (k >= YARNGRAVEL_BAD_FORM && k <= YARNGRAVEL_REPEAT) ||
-                               k == YARNGRAVEL_TOO_MANY || (k >= YARNGRAVEL_BAD_PRESS && k <= YARNGRAVEL_FULL_LEDGER);
+                               k == YARNGRAVEL_TOO_MANY || k == YARNGRAVEL_NOT_WIDER ||
+                               (k >= YARNGRAVEL_BAD_PRESS && k <= YARNGRAVEL_FULL_LEDGER);
         expect((yarngravel_number_text(k) != std::string(yarngravel_number_text(255))) == is_number, "a number's text");
         expect((yarngravel_mend_text(k) != std::string(yarngravel_mend_text(255))) == (k < 4), "a mend's text");
         numbers.insert(yarngravel_number_text(k));
         mends.insert(yarngravel_mend_text(k));
     }
-    expect(numbers.size() == 18 + 1 && mends.size() == 4 + 1, "that no two numbers have the same text");
+    expect(numbers.size() == 19 + 1 && mends.size() == 4 + 1, "that no two numbers have the same text");
 }
 
 // fresh tables are as the header says, and a refusal leaves what was there
@@ -221,6 +222,67 @@ void try_frames() {
     expect(yarngravel_reason(compared) == YARNGRAVEL_BY_COUNT && yarngravel_count_clock(compared) == clock, "that its count decides");
 }
 
+// a setup with both pairs: what is asked of it, its sizes, and when it may be taken up and left
+void try_both_pairs() {
+    const uint64_t change = 1000;
+    yarngravel_setup setup = {n, epsilon, delta, 65, own, 4, 9, 0, 0};
+    std::vector<uint8_t> tables(YARNGRAVEL_TABLES, 7), wanted(YARNGRAVEL_TABLES, 0);
+    const auto fresh = [&](uint32_t clock) { return yarngravel_fresh_in(&setup, clock, tables.data()); };
+    yarngravel_set_change(&setup, change - 1, change);
+    expect(setup.change == 25 && setup.marked == 0, "V modulo B, and no mark before V");
+    expect(fresh(24) == 0 && tables[3 + epsilon] == 1, "narrow tables before V");
+    yarngravel_set_change(&setup, change, change);
+    wanted[0] = 25;
+    wanted[3 + 4] = 1;
+    expect(setup.marked == 1 && fresh(25) == 0 && tables == wanted, "wide tables from V on");
+    setup.wider_epsilon = 1;
+    expect(fresh(65) == YARNGRAVEL_NOT_WIDER && tables == wanted, "19, before 2, which changes nothing");
+    setup.change = 65;
+    expect(fresh(65) == YARNGRAVEL_BAD_SETUP, "1, before 19, for a V of B");
+    setup.change = 25;
+    setup.wider_epsilon = 4;
+    setup.marked = 2;
+    expect(fresh(25) == YARNGRAVEL_BAD_SETUP, "1 for a mark of 2");
+    expect(yarngravel_frame_size_in(&setup) == YARNGRAVEL_FRAME(4) && yarngravel_bundle_size_in(&setup, 2) == YARNGRAVEL_BUNDLE(4, 2) &&
+               yarngravel_shelf_size_in(&setup) == YARNGRAVEL_SHELF(3, 4, 9), "sizes by the wider pair");
+    expect(yarngravel_may_take_both(&setup, change - 8, change - 7, change), "the last take-up");
+    expect(!yarngravel_may_take_both(&setup, change - 7, change - 6, change), "that one tick later there is none");
+    expect(yarngravel_may_take_both(&setup, change - 66, change - 65, change), "the first take-up");
+    expect(!yarngravel_may_take_both(&setup, change - 67, change - 66, change), "that one tick sooner there is none");
+    expect(yarngravel_may_take_wider(&setup, change + 17, change) && !yarngravel_may_take_wider(&setup, change + 16, change) &&
+               yarngravel_may_take_wider(&setup, change + 64, change) && !yarngravel_may_take_wider(&setup, change + 65, change),
+           "when the plain new setup may be taken");
+}
+
+// a narrow and a wide frame in one hand-out: written, read, walked over and charged
+void try_both_widths() {
+    const yarngravel_setup setup = {n, epsilon, delta, 65, own, 4, 9, 25, 0};
+    std::vector<uint8_t> handout = {2, 0}, tables(YARNGRAVEL_TABLES, 0), stamp(YARNGRAVEL_TABLES), ledger(YARNGRAVEL_LEDGER, 0);
+    const uint64_t answer = static_cast<uint64_t>(2) << 32;
+    for (unsigned wide = 0; wide < 2; wide++) {
+        uint8_t ticket[YARNGRAVEL_PRESS];
+        std::vector<uint8_t> frame(yarngravel_frame_size_in(&setup));
+        yarngravel_press(ticket, 7 + wide, 100, 1);
+        tables.assign(YARNGRAVEL_TABLES, 0);
+        tables[3 + (wide ? 4 : epsilon)] = 1;
+        const uint64_t wrote = yarngravel_write_in(&setup, 1, wide == 1, tables.data(), ticket, sizeof ticket, frame.data(), frame.size());
+        expect(yarngravel_number(wrote) == 0 && yarngravel_written(wrote) == 7 + (wide ? 8u : 4u) + sizeof ticket, "a frame's length");
+        frame.resize(yarngravel_written(wrote));
+        const uint64_t read = yarngravel_read_in(&setup, frame.data(), frame.size(), stamp.data());
+        expect(yarngravel_is_wide(read) == (wide == 1) && yarngravel_station(read) == 1 && stamp == tables, "what is read of either width");
+        expect(yarngravel_frame_epsilon(frame.data()) == (wide ? 4 : epsilon), "half the number of counts");
+        handout.insert(handout.end(), frame.begin(), frame.end());
+    }
+    yarngravel_walk walk = yarngravel_walk_of(answer, handout.data());
+    unsigned seen = 0;
+    while (yarngravel_walk_next_in(&walk)) expect(walk.len == (seen++ == 0 ? 21u : 25u), "the walk over both widths");
+    expect(seen == 2 && walk.frame + walk.len == handout.data() + handout.size(), "the walk's end");
+    uint64_t charged = 0;
+    walk = yarngravel_walk_of(answer, handout.data());
+    while (yarngravel_charge_next_in(&walk, 1250, ledger.data(), &charged)) expect(yarngravel_cents(charged) == 1250, "a charge");
+    expect(yarngravel_total_cents(yarngravel_total(1, ledger.data(), ledger.size())) == 2500, "the charges of both widths");
+}
+
 struct Board {
     std::vector<uint8_t> shelf, bundle, verdicts, handout;
     size_t bundle_len;
@@ -314,6 +376,8 @@ int main() {
     try_frames();
     try_engine();
     try_figures();
+    try_both_pairs();
+    try_both_widths();
     play();
     return 0;
 }

@@ -2,8 +2,9 @@
  *
  * The library keeps no memory of its own. A station keeps its tables and its shelf between ticks and lends both, with the
  * buffers below, to each call; an observer, a board that only listens, keeps its last clock and its shelf. An engine is a plain
- * station for the workbench: its clocks have 64 bits and are never reduced (yarngravel_long_...). Any numbers and any
- * bytes get an answer. A call that fails a check answers that check's number, and then no byte of any buffer or table has changed.
+ * station for the workbench: its clocks have 64 bits and are never reduced (yarngravel_long_...). While a yard goes to wider limits its
+ * calls know of both pairs of limits (yarngravel_..._in). Any numbers and any bytes get an answer. A call that fails a check answers that
+ * check's number, and then no byte of any buffer or table has changed.
  * Buffers must not overlap.
  * Calls for different stations may be made at the same time, in any threads; those of one station one at a time.
  * The archive, libyarngravel.a, needs memcpy, memmove and memset, and about 3 KB of stack.
@@ -20,8 +21,8 @@ extern "C" {
 #endif
 
 /* The version of this header: major * 65536 + minor * 256 + patch, and as a text. */
-#define YARNGRAVEL_VERSION (2u * 65536u + 13u * 256u + 0u)
-#define YARNGRAVEL_VERSION_TEXT "2.13.0"
+#define YARNGRAVEL_VERSION (2u * 65536u + 13u * 256u + 1u)
+#define YARNGRAVEL_VERSION_TEXT "2.13.1"
 
 /* The version of the archive that is linked, in the form of YARNGRAVEL_VERSION. */
 uint32_t yarngravel_version(void);
@@ -81,6 +82,47 @@ static inline size_t yarngravel_long_bundle_size(uint32_t epsilon, size_t frames
     return YARNGRAVEL_LONG_BUNDLE((size_t)epsilon, frames);
 }
 
+/* A setup with both pairs of limits, for the calls of a yard that goes from one to the other at an agreed clock V (yarngravel_tick_in, where
+ * the order of a change stands). All is the same for the whole yard but own, and marked, which goes by the call's clock.
+ *   n, epsilon, delta, modulus, own
+ *                     as of a plain setup: the old pair, which holds at clocks before V
+ *   wider_epsilon, wider_delta
+ *                     the pair that holds from V on: neither is below the old one, both are in their limits, and B is for both
+ *   change            V modulo B
+ *   marked            1 in a call for the clock V or a later one, 0 in one for an earlier clock. So unmarked V lies 1 to B ahead of the
+ *                     call's clock, and marked 0 to B - 1 behind it
+ * A setup whose pairs are equal is a plain one, whatever change and mark say within their limits.
+ */
+struct yarngravel_setup {
+    uint32_t n, epsilon, delta, modulus, own;
+    uint32_t wider_epsilon, wider_delta, change, marked;
+};
+/* Sizes go by the wider pair, on both sides of V. A constant setup has YARNGRAVEL_FRAME(wider_epsilon), YARNGRAVEL_SHELF(n, wider_epsilon,
+ * wider_delta) and YARNGRAVEL_BUNDLE(wider_epsilon, frames).
+ */
+static inline size_t yarngravel_frame_size_in(const struct yarngravel_setup *setup) {
+    return yarngravel_frame_size(setup->wider_epsilon);
+}
+static inline size_t yarngravel_shelf_size_in(const struct yarngravel_setup *setup) {
+    return yarngravel_shelf_size(setup->n, setup->wider_epsilon, setup->wider_delta);
+}
+static inline size_t yarngravel_bundle_size_in(const struct yarngravel_setup *setup, size_t frames) {
+    return yarngravel_bundle_size(setup->wider_epsilon, frames);
+}
+/* Puts V and the mark into a setup for a call; the clock of the call and V are not reduced. */
+static inline void yarngravel_set_change(struct yarngravel_setup *setup, uint64_t clock, uint64_t change) {
+    setup->change = (uint32_t)(change % setup->modulus);
+    setup->marked = clock >= change;
+}
+/* Whether a station or observer with this last clock, that of its last accepted call, may make its first call with both pairs for this
+   clock; then whether its next call may have the plain new setup. Clocks and V are not reduced. */
+static inline bool yarngravel_may_take_both(const struct yarngravel_setup *setup, uint64_t last, uint64_t clock, uint64_t change) {
+    return last + setup->delta + 2u * setup->epsilon <= change && change <= clock + setup->modulus;
+}
+static inline bool yarngravel_may_take_wider(const struct yarngravel_setup *setup, uint64_t last, uint64_t change) {
+    return change + setup->wider_delta + 2u * setup->wider_epsilon <= last && last < change + setup->modulus;
+}
+
 /* Of ginning charges (yarngravel_charge): a press ticket, a ledger and the most bales that it holds, and the largest rate, in cents for a
  * hundred pounds. */
 #define YARNGRAVEL_PRESS 10u       /* a press ticket has exactly this */
@@ -90,7 +132,8 @@ static inline size_t yarngravel_long_bundle_size(uint32_t epsilon, size_t frames
 #define YARNGRAVEL_RATE 60000u
 
 /* Numbers in an answer. 0: accepted. Of a call: */
-#define YARNGRAVEL_BAD_SETUP 1u    /* the setup is not in its limits; of a charge: the rate is above 60000 */
+#define YARNGRAVEL_BAD_SETUP 1u    /* the setup is not in its limits (with both pairs: either pair, V or the mark); of a charge: the rate is
+                                      above 60000 */
 #define YARNGRAVEL_BAD_CLOCK 2u    /* the clock is not below B, an engine's not below 2^63 */
 #define YARNGRAVEL_BAD_SHELF 3u    /* the shelf has not its exact length; of a charge and a total: the ledger; of the figures: those */
 #define YARNGRAVEL_BAD_TICKET 4u   /* the ticket is longer than 32 bytes (asked even if nothing is to be sent) */
@@ -102,11 +145,13 @@ static inline size_t yarngravel_long_bundle_size(uint32_t epsilon, size_t frames
 #define YARNGRAVEL_BAD_RANGE 11u   /* the station is not below n, or r not below B, an engine's not below 2^63 */
 #define YARNGRAVEL_BAD_STAMP 12u   /* the stamp is not sound */
 #define YARNGRAVEL_LATE 13u        /* r is more than delta + epsilon behind the clock; one that is epsilon or more ahead is read as behind,
-                                      by an engine as ahead: it gets 14 */
+                                      by an engine as ahead: it gets 14. With both pairs also: it is due before the clock */
 #define YARNGRAVEL_EARLY 14u       /* the sum is more than epsilon - 1 past the clock */
 #define YARNGRAVEL_BAD_COUNT 15u   /* a count for this clock or later is above n - 1; an observer does not ask it */
 #define YARNGRAVEL_REPEAT 16u      /* that station and r is on the shelf already */
 #define YARNGRAVEL_TOO_MANY 18u    /* the engine holds 64 messages already; no station or observer asks it */
+/* Of a setup with both pairs, asked right after 1: */
+#define YARNGRAVEL_NOT_WIDER 19u   /* wider_epsilon is below epsilon, or wider_delta below delta */
 /* Of a ticket, from a charge: */
 #define YARNGRAVEL_BAD_PRESS 20u   /* a ticket of kind 2 has not 10 bytes with count 9, or its pounds are not 1 to 1000 */
 #define YARNGRAVEL_CHARGED 21u     /* the bale is in the ledger already */
@@ -130,6 +175,7 @@ static inline const char *yarngravel_number_text(unsigned number) {
     case YARNGRAVEL_BAD_COUNT: return "the frame counts more events than there can be";
     case YARNGRAVEL_REPEAT: return "the frame is on the shelf already";
     case YARNGRAVEL_TOO_MANY: return "the engine holds 64 messages already";
+    case YARNGRAVEL_NOT_WIDER: return "the wider pair of limits has one that is smaller than the old";
     case YARNGRAVEL_BAD_PRESS: return "the press ticket has not its form, or its pounds are out of range";
     case YARNGRAVEL_CHARGED: return "the bale is charged already";
     case YARNGRAVEL_FULL_LEDGER: return "the ledger holds 512 bales already";
@@ -164,6 +210,8 @@ static inline unsigned yarngravel_station(uint64_t answer) { return (unsigned)(a
 /* where the ticket starts in the frame, and its length */
 static inline unsigned yarngravel_ticket_at(uint64_t answer) { return (unsigned)(answer >> 16 & 0xffffu); }
 static inline unsigned yarngravel_ticket_len(uint64_t answer) { return (unsigned)(answer >> 32 & 0xffffu); }
+/* with both pairs: whether the frame has more than 2 * epsilon counts */
+static inline bool yarngravel_is_wide(uint64_t answer) { return answer >> 48 & 1u; }
 
 /* The length of the frame that the writer wrote. */
 static inline unsigned yarngravel_written(uint64_t answer) { return (unsigned)(answer >> 8 & 0xffffu); }
@@ -252,6 +300,15 @@ static inline bool yarngravel_walk_next(struct yarngravel_walk *walk, uint32_t e
     walk->frame += walk->len;
     walk->len = yarngravel_frame_len(epsilon, walk->frame);
     return true;
+}
+
+/* Of a frame that the library wrote, whatever its width: the drift limit that it was made with, half the number of its counts. */
+static inline uint32_t yarngravel_frame_epsilon(const uint8_t *frame) { return (frame[4] - 1u) / 2u; }
+/* The same walk over a hand-out with frames of both widths, which calls with both pairs make; it goes by each frame's own counts:
+ *   while (yarngravel_walk_next_in(&walk)) show(walk.frame, walk.len);
+ */
+static inline bool yarngravel_walk_next_in(struct yarngravel_walk *walk) {
+    return walk->left > 0 && yarngravel_walk_next(walk, yarngravel_frame_epsilon(walk->frame + walk->len));
 }
 
 /* Makes a press ticket of a bale, its net pounds, 1 to 1000, and its grower. */
@@ -427,6 +484,12 @@ static inline bool yarngravel_charge_next(struct yarngravel_walk *walk, uint32_t
     *charged = yarngravel_charge(rate, walk->frame + front, walk->len - front, ledger, YARNGRAVEL_LEDGER);
     return true;
 }
+/* The same over a hand-out with frames of both widths. */
+static inline bool yarngravel_charge_next_in(struct yarngravel_walk *walk, uint32_t rate, uint8_t ledger[YARNGRAVEL_LEDGER],
+                                             uint64_t *charged) {
+    return walk->left > 0 &&
+           yarngravel_charge_next(walk, yarngravel_frame_epsilon(walk->frame + walk->len), rate, ledger, charged);
+}
 
 /* Keeps the figures of how well the stations hear each other: one call after each accepted tick of a station, or each accepted call of
  * an observer, with its bundle and its verdicts as the call left them. Then the figures tell, of the last 256 of these calls (or of all, if
@@ -481,6 +544,91 @@ uint64_t yarngravel_long_read(uint32_t n, uint32_t epsilon, uint32_t delta, uint
 uint64_t yarngravel_long_write(uint32_t n, uint32_t epsilon, uint32_t delta, uint32_t own, uint32_t station,
                                const uint8_t tables[YARNGRAVEL_LONG_TABLES], const uint8_t *ticket, size_t ticket_len,
                                uint8_t *out, size_t out_len);
+
+/* Wider limits in mid season. At an agreed clock V the whole yard, observers included, goes from epsilon, delta to wider_epsilon,
+ * wider_delta. For a while before and after, its calls know of both pairs: yarngravel_..._in, each of which takes a struct
+ * yarngravel_setup in the place of the plain setup's numbers, and answers and refuses as the plain one, with 19 asked right after 1.
+ * Tables and shelf are carried over, and what the boards show stays in one order, causes first, straight through V. What a host does for
+ * each station and each observer, in this order (clocks here are not reduced; the last clock is that of its last accepted call):
+ *   1. It goes on with the plain old setup at first, in calls for clocks up to V - delta - 2 * epsilon.
+ *   2. It takes up both pairs, the sooner the better: in a call for a clock at most B before V, with a last clock at least delta + 2 *
+ *      epsilon before V (yarngravel_may_take_both). Before that call the shelf grows to yarngravel_shelf_size_in: its bytes stay in
+ *      front, those behind them may be any. The buffers have the new sizes too. A refused take-up leaves the shelf as it was: the plain
+ *      old call would still take its first bytes.
+ *   3. It sets the mark in each call: 0 for clocks before V, 1 from V on (yarngravel_set_change). Nothing else changes at V: the tables
+ *      become wide in the first marked call, and from then on the station sends wide frames.
+ *   4. It takes the plain new setup (n, wider_epsilon, wider_delta, modulus, own) in a call when the last clock is at least wider_delta +
+ *      2 * wider_epsilon and at most B - 1 past V (yarngravel_may_take_wider). Tables, shelf and buffers stay as they are.
+ * The yard keeps these limits: while any clock, an observer's too, is below V no two differ by more than epsilon, then by no more than
+ * wider_epsilon; a message sent before V is heard while its sender's clock is at most delta past the sending, one sent at V or later
+ * wider_delta; a step to a clock before V is at most epsilon, to V or past it wider_epsilon.
+ * After a power dip, X being the largest clock then: the order is right from X + wider_delta + 3 * wider_epsilon on, what is older is
+ * heard in no call for a clock past X + wider_delta + wider_epsilon, and no station or observer does 2 or 4 until its last clock is past
+ * X + 2 * wider_delta + 3 * wider_epsilon. So both pairs are best taken up long before V.
+ *
+ * One tick, as yarngravel_tick but for
+ *   setup     both pairs, V and the mark of this clock. The limits of the tick are those of its clock, by the mark
+ *   tables    narrow, with 2 * epsilon counts, where their r lies before V, else wide; the step is 1 to the drift limit of this clock
+ *   shelf     in and out, exactly yarngravel_shelf_size_in bytes, frames of both widths on it. A frame is due at its r + c + delta +
+ *             epsilon if that lies before V, else at r + c + wider_delta + wider_epsilon, whatever its width
+ *   bundle    with frames of both widths: a count that a narrow one lacks is 0
+ *   outgoing  gets a narrow frame before V, a wide one from V on; at least yarngravel_frame_size_in bytes
+ *   verdicts  13 also for a frame that is due before this clock
+ *   handout   at least yarngravel_shelf_size_in bytes; yarngravel_walk_next_in goes over it. Frames due before V are compared by epsilon
+ *             counts, all others by wider_epsilon
+ */
+uint64_t yarngravel_tick_in(const struct yarngravel_setup *setup, uint32_t clock, uint8_t tables[YARNGRAVEL_TABLES], uint8_t *shelf,
+                            size_t shelf_len, const uint8_t *bundle, size_t bundle_len, bool send, const uint8_t *ticket,
+                            size_t ticket_len, uint8_t *outgoing, size_t outgoing_len, uint8_t *verdicts, size_t verdicts_len,
+                            uint8_t *handout, size_t handout_len);
+
+/* One call of an observer with both pairs, as yarngravel_listen but for the same. Its own number is not looked at.
+ * Refusals: 1 (no own number is asked for), 19, 2, 3, 5, and 6 for the verdict or the hand-out buffer.
+ */
+uint64_t yarngravel_listen_in(const struct yarngravel_setup *setup, uint32_t clock, uint8_t last[YARNGRAVEL_LAST], uint8_t *shelf,
+                              size_t shelf_len, const uint8_t *bundle, size_t bundle_len, uint8_t *verdicts, size_t verdicts_len,
+                              uint8_t *handout, size_t handout_len);
+
+/* Fresh tables at a clock, as yarngravel_fresh makes them: narrow where the setup is not marked, else wide. The mark here is that of this
+ * clock, not of the tick after it. An observer that starts has yarngravel_fresh_last, with either pair.
+ * Refusals: 1, 19, 2; then the tables stay as they were.
+ */
+uint64_t yarngravel_fresh_in(const struct yarngravel_setup *setup, uint32_t clock, uint8_t tables[YARNGRAVEL_TABLES]);
+
+/* Says when something shows next, as yarngravel_poll, after a call with both pairs: with that call's clock and mark.
+ * Refusals: 1, 19, 2, 3.
+ */
+uint64_t yarngravel_poll_in(const struct yarngravel_setup *setup, uint32_t clock, uint16_t within, const uint8_t *shelf,
+                            size_t shelf_len);
+
+/* Says which of two frames comes first and what decided, as yarngravel_compare, at a clock and with the mark of that clock; each may have
+ * either width. Frames whose sum is due before V are compared by epsilon counts, all others by wider_epsilon, a missing one being 0; 12
+ * is by the limits of that clock.
+ * Refusals: 1, 19, 2, then 10 to 12 of the first frame, then of the second.
+ */
+uint64_t yarngravel_compare_in(const struct yarngravel_setup *setup, uint32_t clock, const uint8_t *first, size_t first_len,
+                               const uint8_t *second, size_t second_len);
+
+/* Writes a line of words for each frame of a bundle, as yarngravel_words, with the limits of the mark's side: the mark is that of the
+ * tick. 13 has delta + epsilon of that side also where a frame is refused because it is due before the clock.
+ * Refusals: 1, 19, 5, 6.
+ */
+uint64_t yarngravel_words_in(const struct yarngravel_setup *setup, const uint8_t *bundle, size_t bundle_len, const uint8_t *verdicts,
+                             size_t verdicts_len, uint8_t *text, size_t text_len);
+
+/* Reads a frame of either width, as yarngravel_read; yarngravel_is_wide of the answer says which. 12 is by the frame's width, whatever
+ * the mark is. The tables get the frame's counts from byte 3 on, in their order, and zeros behind them.
+ * Refusals: 1, 19, 10, 11, 12; then the tables stay as they were.
+ */
+uint64_t yarngravel_read_in(const struct yarngravel_setup *setup, const uint8_t *frame, size_t frame_len,
+                            uint8_t tables[YARNGRAVEL_TABLES]);
+
+/* Writes a frame of a station, a stamp and a ticket, as yarngravel_write: with 2 * wider_epsilon counts where wide is true, else 2 *
+ * epsilon. 12 is by that width, whatever the mark is.
+ * Refusals: 1, 19, 4, 11, 12, and 6 for a buffer shorter than the frame.
+ */
+uint64_t yarngravel_write_in(const struct yarngravel_setup *setup, uint32_t station, bool wide, const uint8_t tables[YARNGRAVEL_TABLES],
+                             const uint8_t *ticket, size_t ticket_len, uint8_t *out, size_t out_len);
 
 #ifdef __cplusplus
 }

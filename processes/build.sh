@@ -1,6 +1,6 @@
 #!/usr/bin/env bash
 # Builds the drill's programs into target/processes, warnings as errors, where one is not newer than all that it is made of; with the word
-# drill only those that do without the library, with the word plants also the four copies of the station that have a fault.
+# drill only those that do without the library, with the word plants also the seven copies of the station that have a fault.
 set -euo pipefail
 cd "$(dirname "$0")/.."
 out=target/processes
@@ -21,10 +21,12 @@ make_one judge processes/judge.c processes/setup.c
 make_one drill processes/drill.c processes/setup.c
 [ "${1:-}" != drill ] || exit 0
 bash host/library.sh
-make_one station processes/station.c processes/setup.c "$archive"
+station=(processes/station.c processes/calls.c processes/setup.c)
+make_one station "${station[@]}" "$archive"
 [ "${1:-}" = plants ] || exit 0
-for plant in 1 2 3 4; do
+for plant in 1 2 3 4 5 6 7; do
   gcc "${flags[@]}" -DPLANT=$plant -c processes/plants.c -o "$out/plant-$plant.o"
   more=(-Dyarngravel_tick=planted_tick -Dyarngravel_listen=planted_listen)
-  make_one "station-$plant" processes/station.c processes/setup.c "$out/plant-$plant.o" "$archive"
+  more+=(-Dyarngravel_tick_in=planted_tick_in -Dyarngravel_listen_in=planted_listen_in)
+  make_one "station-$plant" "${station[@]}" "$out/plant-$plant.o" "$archive"
 done

@@ -1,6 +1,7 @@
 /* A drill of a yard of processes: starts the radio, the stations and an observer, disturbs them while they run (kills in the middle of
  * calls, random bytes over what a station keeps, wrong clocks, floods of junk), and has each stretch between two disturbances judged
- * (judge.c). It makes no call of the library. All that it does comes from the seed; when a kill falls is the machine's own. */
+ * (judge.c). In the middle the yard goes to wider limits (02, 2.10), with disturbances before, at and after that clock. It makes no call of
+ * the library. All that it does comes from the seed; when a kill falls is the machine's own. */
 #include <dirent.h>
 #include <errno.h>
 #include <fcntl.h>
@@ -21,19 +22,24 @@
 #include "setup.h"
 
 #define NAME "drill"
-enum { BOARDS = 17, PATH = 512, JUDGED = 17, FIGURES = 13, MEMORY = 1 << 18, LEAST_TICKS = 500, AWAY = 50, LOOK = 200 };
+enum { BOARDS = 17, PATH = 512, JUDGED = 19, FIGURES = 13, MEMORY = 1 << 18, LEAST_TICKS = 500, AWAY = 50, LOOK = 200 };
+enum { CHANGE_TICKS = 2000, APART = 20, LONGER = 400 }; /* of a change: a drill with one, boards' setups, what B is larger by */
 
 static const char help[] =
-    "./drill [--seed S] [--ticks N] [--stations K] [--board PROGRAM] [--keep FOLDER]\n"
+    "./drill [--seed S] [--ticks N] [--stations K] [--change HOW] [--board PROGRAM] [--keep FOLDER]\n"
     "\n"
     "Starts a yard of K stations and an observer, each a process, over a radio that loses, repeats and delays frames and carries junk; kills\n"
     "one in the middle of a call and starts it again, writes random bytes over what one keeps, gives one wrong clocks, floods all with junk,\n"
     "in turn, until the clocks are at N. What the boards showed between two disturbances is judged by document 01: from X + delta + 3 epsilon\n"
-    "on all boards agree, each message heard is shown once, when due, causes first. At the end each board says how well it heard each station\n"
-    "in its last 256 ticks.\n"
+    "on all boards agree, each message heard is shown once, when due, causes first. In the middle of a drill of 2000 ticks or more the limits\n"
+    "get wider: each board takes up both pairs, and then the wider one alone, when document 02 (2.10) lets it, and all is judged by that. At\n"
+    "the end each board says how well it heard each station in its last 256 ticks.\n"
     "  --seed S         all is drawn from it, the limits of the yard too; without it the day is, as 20261116\n"
     "  --ticks N        from 500 on; without it 3000\n"
     "  --stations K     1 to 16; without it 4\n"
+    "  --change HOW     at: one is killed when the limits change; before: one's memory is written over shortly before that; clear: nothing is\n"
+    "                   disturbed around it, and boards take up both pairs as late as they may and leave them as soon as they may; none: the\n"
+    "                   limits stay. Without it one of the first three by the seed, in a shorter drill none\n"
     "  --board PROGRAM  board 1, or 0 where it is alone, is this program in place of station: a host of your own, or one with a fault\n"
     "  --keep FOLDER    works in this new folder and leaves there the logs of the last stretch; without it all is removed at the end\n"
     "Exit status: 0 all is as 01 has it; 1 a board is wrong; 2 the command line is wrong; 3 the drill could not go on or was not fair.\n";
@@ -53,6 +59,13 @@ static struct {
 static pid_t radio;
 static FILE *to_radio, *from_radio;
 static char answer[256]; /* the radio's last */
+
+enum { AT, BEFORE, CLEAR, NONE, BY_SEED };
+static const char *const hows[] = {"at", "before", "clear", "none"};
+static int how = BY_SEED;                            /* the change falls among the disturbances */
+static long aim;                                     /* the clock of the disturbance for it; 0 for none, or once it was */
+static long both_from[BOARDS], wider_from[BOARDS];   /* when each board's setup changes */
+static unsigned disturbed_with_both[2];              /* before the change, from it on */
 
 static struct die plan;
 static long clock_now, least_stretch; /* the largest clock; ticks in which a stretch shows what was sent from T on */
@@ -193,6 +206,9 @@ static void write_setup(const char *path, int board, long port) {
     FILE *file = fopen(path, "w");
     if (file == NULL) fail(3, "%s cannot be written: %s", path, strerror(errno));
     fprintf(file, "n %u\nepsilon %u\ndelta %u\nmodulus %u\n", setup.n, setup.epsilon, setup.delta, setup.modulus);
+    if (setup.change != NEVER)
+        fprintf(file, "wider_epsilon %u\nwider_delta %u\nchange %ld\n", setup.wider_epsilon, setup.wider_delta, setup.change);
+    if (setup.change != NEVER && board >= 0) fprintf(file, "both_from %ld\nwider_from %ld\n", both_from[board], wider_from[board]);
     if (board >= 0) fprintf(file, "radio %ld\nmemory %s\n", port, path_of("memory", board));
     if (board == (int)setup.n) fputs("observer\n", file);
     else if (board >= 0) fprintf(file, "own %d\n", board);
@@ -355,14 +371,17 @@ static void disturb_by_kill(int board) {
     begin_stretch("");
 }
 
+/* is the next disturbance the one for the change? */
+static bool is_aimed(void) { return aim > 0 && clock_now >= aim; }
+
 /* random bytes over all of a board's memory or over a part of it, or what stood there some ticks before */
 static void disturb_file(int board) {
     static uint8_t bytes[MEMORY];
     size_t len = read_memory(board, bytes), from = 0;
-    uint32_t how = roll(&plan, 3);
-    if (how == 0) run_for(1 + (long)roll(&plan, setup.delta + 2 * setup.epsilon));
+    uint32_t what = is_aimed() ? 1 : roll(&plan, 3);
+    if (what == 0) run_for(1 + (long)roll(&plan, setup.wider_delta + 2 * setup.wider_epsilon));
     else roll_bytes(&plan, bytes, (unsigned)len);
-    if (how == 2) {
+    if (what == 2) {
         from = roll(&plan, 2) == 0 ? roll(&plan, 40) : 40 + roll(&plan, 100);
         len = 1 + roll(&plan, 64);
     }
@@ -375,7 +394,7 @@ static void disturb_file(int board) {
 static void disturb_clock(int board) {
     judge_stretch();
     progress("gives wrong clocks to board", board);
-    uint32_t most = setup.modulus - 2 * setup.epsilon - 5, off = setup.epsilon + 1 + roll(&plan, most - setup.epsilon);
+    uint32_t epsilon = setup.wider_epsilon, most = setup.modulus - 2 * epsilon - 5, off = epsilon + 1 + roll(&plan, most - epsilon);
     uint32_t calls = 1 + roll(&plan, 4);
     tell_radio("wrong %d %u %u", board, off, calls);
     hear_radio("wrong");
@@ -394,11 +413,20 @@ static int draw(struct bag *bag, int count) {
     return number;
 }
 
-/* the next disturbance: each kind in turn, and for each kind each board */
+/* have all boards both pairs at this clock? */
+static bool with_both(void) {
+    for (int k = 0; k < board_count; k++)
+        if (clock_now < both_from[k] || clock_now >= wider_from[k]) return false;
+    return true;
+}
+
+/* the next disturbance: each kind in turn, and for each kind each board; the one for the change is a kill at it, or random bytes before it */
 static void disturb(void) {
     static struct bag kinds, victims[KINDS];
-    int kind = draw(&kinds, KINDS), board = kind == FLOOD ? -1 : draw(&victims[kind], board_count);
+    int kind = !is_aimed() ? draw(&kinds, KINDS) : how == AT ? KILL : FILE_OVER;
+    int board = kind == FLOOD ? -1 : draw(&victims[kind], board_count);
     disturbed[kind]++;
+    if (with_both()) disturbed_with_both[clock_now >= setup.change]++;
     if (kind == KILL) disturb_by_kill(board);
     else if (kind == FILE_OVER) disturb_file(board);
     else if (kind == WRONG) disturb_clock(board);
@@ -409,14 +437,63 @@ static void disturb(void) {
     }
 }
 
+/* The change, in about the middle: where something is to be disturbed around it boards take up both pairs soon and leave them late, else
+ * they take them up as late and leave them as soon as 02 has it; no two need do so at the same clock. */
+static void choose_change(void) {
+    long b, epsilon, late, soon;
+    for (int k = 0; k < BOARDS; k++) both_from[k] = wider_from[k] = NEVER;
+    setup.wider_epsilon = setup.epsilon;
+    setup.wider_delta = setup.delta;
+    setup.change = NEVER;
+    if (how == BY_SEED) how = ticks < CHANGE_TICKS ? NONE : (int)roll(&plan, 3);
+    if (how == NONE) return;
+    setup.wider_epsilon += 1 + roll(&plan, 2);
+    setup.wider_delta += roll(&plan, 5);
+    setup.modulus += 3 * (setup.wider_delta - setup.delta) + 12 * (setup.wider_epsilon - setup.epsilon) + LONGER;
+    setup.change = ticks / 2 + (long)roll(&plan, (uint32_t)ticks / 20);
+    b = setup.modulus;
+    epsilon = setup.wider_epsilon;
+    late = how == CLEAR ? setup.change - (long)setup.delta - 2 * (long)setup.epsilon + 1 : setup.change - b + APART;
+    soon = how == CLEAR ? setup.change + (long)setup.wider_delta + 3 * epsilon : setup.change + b - APART;
+    for (int k = 0; k < board_count; k++) { /* the first two at the ends */
+        both_from[k] = late - (long)(k == 0 ? 0 : k == 1 ? APART : roll(&plan, APART));
+        wider_from[k] = soon + (long)(k == 0 ? 0 : k == 1 ? APART : roll(&plan, APART));
+    }
+    if (how == AT) aim = setup.change;
+    if (how == BEFORE) aim = setup.change - 1 - (long)roll(&plan, setup.wider_delta + 3 * setup.wider_epsilon);
+}
+
 /* limits of the yard, from the seed */
 static void choose_setup(void) {
     plan = die_for(seed, FOR_PLAN, 0, 0);
     setup.epsilon = 2 + roll(&plan, 3);
     setup.delta = setup.epsilon + 1 + roll(&plan, 6);
     setup.modulus = 3 * setup.delta + 12 * setup.epsilon + 2 * AWAY + roll(&plan, 60);
-    least_stretch = 2 * (long)setup.delta + 5 * (long)setup.epsilon;
     board_count = (int)setup.n + 1;
+    choose_change();
+    least_stretch = 2 * (long)setup.wider_delta + 5 * (long)setup.wider_epsilon;
+}
+
+/* how long a disturbance takes at most, until the last stretch that it starts */
+static long longest_disturbance(void) { return least_stretch + AWAY + APART + 4 * (long)setup.wider_epsilon; }
+
+/* No board's setup may change until its last clock is past X + 2 delta + 3 epsilon, of the wider pair: where one would in the freeze of what a
+ * disturbance starts now, runs on until all have changed. */
+static void wait_for_changes(const long *changes) {
+    long first = changes[0], last = changes[0], epsilon = setup.wider_epsilon;
+    for (int k = 1; k < board_count; k++) {
+        if (changes[k] < first) first = changes[k];
+        if (changes[k] > last) last = changes[k];
+    }
+    long frozen = clock_now + longest_disturbance() + 2 * (long)setup.wider_delta + 5 * epsilon;
+    if (last != NEVER && frozen >= first && clock_now <= last + epsilon) run_for(last + 2 * epsilon - clock_now);
+}
+
+/* how long the next stretch is: by chance, but not past the clock at which a disturbance is wanted */
+static long next_stretch(long spread) {
+    long some = least_stretch + (long)roll(&plan, (uint32_t)spread);
+    bool is_near = clock_now < aim && clock_now + some + longest_disturbance() >= aim;
+    return is_near ? aim - clock_now : some;
 }
 
 static void drill(void) {
@@ -426,8 +503,12 @@ static void drill(void) {
     started_at = seconds();
     begin_stretch("");
     while (clock_now < ticks - last) {
-        run_for(least_stretch + (long)roll(&plan, (uint32_t)spread));
+        run_for(next_stretch(spread));
+        wait_for_changes(both_from);
+        wait_for_changes(wider_from);
+        bool aimed = is_aimed();
         disturb();
+        if (aimed) aim = 0;
     }
     run_for(ticks - clock_now > least_stretch ? ticks - clock_now : least_stretch + 1);
     judge_stretch();
@@ -465,28 +546,39 @@ static void report_hearing(void) {
     }
 }
 
-/* what was seen: nine lines, those of how the boards hear each other, and that they agree */
+/* what was seen: nine lines, one more where the limits changed, those of how the boards hear each other, and that they agree */
 static void report(double took) {
     const uint64_t *f = figures, *j = judged;
     typedef unsigned long long u;
     if (isatty(2)) fputs("\r\x1b[K", stderr);
     printf("drill: seed %llu, %u station%s and an observer, epsilon %u, delta %u, B %u, up to clock %ld in %.1f s\n", (u)seed, setup.n,
            setup.n == 1 ? "" : "s", setup.epsilon, setup.delta, setup.modulus, clock_now, took);
-    printf("calls: %llu, of them %llu with a clock that was nudged; no two clocks more than %u apart\n", (u)f[8], (u)f[9], setup.epsilon);
+    printf("calls: %llu, of them %llu with a clock that was nudged; no two clocks more than %u apart\n", (u)f[8], (u)f[9], setup.wider_epsilon);
     printf("disturbed: %u kills in the middle of calls (%u inside the library's) and as many starts, %u files written over, %u clocks set "
            "wrong, %u floods\n", disturbed[KILL], torn, disturbed[FILE_OVER], disturbed[WRONG], disturbed[FLOOD]);
     printf("in the air: %llu messages sent, %llu a second; heard %llu times, %llu of these again, %llu times lost, up to %llu of %u ticks "
-           "late\n", (u)f[0], (u)((double)f[0] / took), (u)f[1], (u)f[2], (u)f[3], (u)f[7], setup.delta);
+           "late\n", (u)f[0], (u)((double)f[0] / took), (u)f[1], (u)f[2], (u)f[3], (u)f[7], setup.wider_delta);
     printf("not to be heard: %llu older frames, %llu of junk, %llu of noise; stations dropped %llu datagrams, and asked %llu times again\n",
            (u)f[4], (u)f[5], (u)f[6], (u)f[11], (u)f[12]);
     printf("stations mended: tables %llu times, shelf %llu, both %llu; refused by 10: %llu, 11: %llu, 12: %llu, 13: %llu, 14: %llu, 15: %llu, "
            "16: %llu\n", (u)j[6], (u)j[7], (u)j[8], (u)j[9], (u)j[10], (u)j[11], (u)j[12], (u)j[13], (u)j[14], (u)j[15]);
+    if (setup.change != NEVER)
+        printf("changed: epsilon %u, delta %u from clock %ld on (%s); boards changed their setups %llu times, disturbed with both pairs %u "
+               "times before it and %u from it on; narrow messages shown from it on %llu times\n", setup.wider_epsilon, setup.wider_delta,
+               setup.change, hows[how], (u)j[16], disturbed_with_both[0], disturbed_with_both[1], (u)j[17]);
     printf("judged: %u stretches, each from X + delta + 3 epsilon on: %llu messages covered\n", stretches, (u)j[0]);
     printf("shown: %llu times, each heard message once on its board and when due, %llu of these past the due clock, by a nudge\n", (u)j[1],
            (u)j[2]);
     printf("causes first: %llu times; two boards show one message: %llu times, always in one order\n", (u)j[3], (u)j[4]);
     report_hearing();
     printf("boards agree: %016llx\n", (u)boards_digest);
+}
+
+/* how the change is to fall, by its word */
+static int how_of(const char *word) {
+    for (int k = AT; k <= NONE; k++)
+        if (strcmp(hows[k], word) == 0) return k;
+    die(NAME, 2, "--change must be at, before, clear or none, and is '%s'", word);
 }
 
 static void read_options(int argc, char **argv) {
@@ -497,11 +589,13 @@ static void read_options(int argc, char **argv) {
         if (strcmp(argv[k], "--seed") == 0) seed = number_of(NAME, "--seed", argv[++k], 0, UINT64_MAX);
         else if (strcmp(argv[k], "--ticks") == 0) ticks = (long)number_of(NAME, "--ticks", argv[++k], LEAST_TICKS, 1000000000);
         else if (strcmp(argv[k], "--stations") == 0) setup.n = (uint32_t)number_of(NAME, "--stations", argv[++k], 1, 16);
+        else if (strcmp(argv[k], "--change") == 0) how = how_of(argv[++k]);
         else if (strcmp(argv[k], "--board") == 0) other = argv[++k];
         else if (strcmp(argv[k], "--keep") == 0) keep = snprintf(folder, sizeof folder, "%s", argv[++k]) > 0;
         else die(NAME, 2, "'%s' is not known here: ./drill --help", argv[k]);
     }
     if (other != NULL && access(other, X_OK) != 0) die(NAME, 2, "%s is no program", other);
+    if (how < NONE && ticks < CHANGE_TICKS) die(NAME, 2, "a change needs %d ticks or more", CHANGE_TICKS);
 }
 
 /* a folder of its own for all files */

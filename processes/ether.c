@@ -45,7 +45,7 @@ void ether_start(const struct setup *of, uint64_t from) {
 struct ether_figures ether_figures(void) { return figures; }
 
 void ether_stretch(uint64_t stretch, long at, bool flood) {
-    uint32_t ticks = setup.delta + 2 * setup.epsilon + 1;
+    uint32_t ticks = setup.wider_delta + 2 * setup.wider_epsilon + 1;
     stretch_number = stretch;
     largest = at;
     flooded = flood;
@@ -60,9 +60,9 @@ void ether_stretch(uint64_t stretch, long at, bool flood) {
     }
 }
 
-/* how many ticks a copy is under way: half of them one at most, the others up to the delay limit */
-static uint8_t delay(struct die *die) {
-    uint32_t most = roll(die, 2) == 0 && setup.delta > 1 ? 1 : setup.delta;
+/* how many ticks a copy is under way: half of them one at most, the others up to the delay limit of the sending */
+static uint8_t delay(struct die *die, long sent_at) {
+    uint32_t delta = (uint32_t)delta_at(&setup, sent_at), most = roll(die, 2) == 0 && delta > 1 ? 1 : delta;
     return (uint8_t)roll(die, most + 1);
 }
 
@@ -78,7 +78,7 @@ uint32_t ether_carry(int sender, long clock, const uint8_t *bytes, unsigned len)
     struct die die = die_for(seed, FOR_AIR, stretch_number, number);
     for (unsigned board = 0; board < BOARDS; board++) {
         uint32_t copies = roll(&die, 8) == 0 ? 0 : roll(&die, 3) > 0 ? 1 : 2 + roll(&die, 2);
-        for (uint32_t copy = 0; copy < COPIES; copy++) m->ready[board][copy] = copy < copies ? delay(&die) : NONE;
+        for (uint32_t copy = 0; copy < COPIES; copy++) m->ready[board][copy] = copy < copies ? delay(&die, clock) : NONE;
     }
     return number;
 }
@@ -91,12 +91,12 @@ static long lowest_of(const long *clocks) {
 }
 
 /* the last clock at which what is older may be heard */
-static long until(void) { return largest + setup.delta + setup.epsilon; }
+static long until(void) { return largest + (long)setup.wider_delta + (long)setup.wider_epsilon; }
 
 /* whether nobody can hear a message any more */
 static bool is_gone(const struct message *m, const long *clocks) {
     if (m->older) return lowest_of(clocks) >= until();
-    return clocks[m->sender] > m->sent_at + setup.delta;
+    return clocks[m->sender] > m->sent_at + delta_at(&setup, m->sent_at);
 }
 
 /* takes what nobody can hear any more out of the air */
@@ -130,8 +130,8 @@ static unsigned hear_messages(int board, const long *clocks, struct entry *entri
     unsigned count = 0;
     for (unsigned k = 0; k < air_count; k++) {
         struct message *m = &air[k];
-        long ticks = m->older ? clocks[board] - largest + (long)setup.epsilon : clocks[m->sender] - m->sent_at;
-        if (m->older ? clocks[board] > until() : ticks > (long)setup.delta) continue;
+        long ticks = m->older ? clocks[board] - largest + (long)setup.wider_epsilon : clocks[m->sender] - m->sent_at;
+        if (m->older ? clocks[board] > until() : ticks > delta_at(&setup, m->sent_at)) continue;
         for (unsigned copy = 0; copy < COPIES && count < HEARD / 2; copy++) {
             if (m->ready[board][copy] == NONE || m->ready[board][copy] > ticks) continue;
             m->ready[board][copy] = NONE;
@@ -141,10 +141,11 @@ static unsigned hear_messages(int board, const long *clocks, struct entry *entri
     return count;
 }
 
-/* a frame of the right form whose stamp may be anything, and is sound as a rule */
+/* a frame of the right form, narrow or wide, whose stamp may be anything, and is sound as a rule */
 static unsigned forge(struct die *die, long clock, uint8_t *bytes) {
-    uint32_t width = 2 * setup.epsilon, c = roll(die, setup.epsilon), ticket = roll(die, 33);
-    uint32_t near = (uint32_t)clock + setup.modulus + roll(die, 4 * setup.epsilon) - 3 * setup.epsilon;
+    bool wide = setup.change != NEVER && roll(die, 2) == 0;
+    uint32_t epsilon = wide ? setup.wider_epsilon : setup.epsilon, width = 2 * epsilon, c = roll(die, epsilon), ticket = roll(die, 33);
+    uint32_t near = (uint32_t)clock + setup.modulus + roll(die, 4 * epsilon) - 3 * epsilon;
     uint32_t r = roll(die, 4) == 0 ? roll(die, setup.modulus) : near % setup.modulus;
     bytes[0] = 3;
     bytes[1] = (uint8_t)roll(die, setup.n);
@@ -152,8 +153,8 @@ static unsigned forge(struct die *die, long clock, uint8_t *bytes) {
     bytes[3] = (uint8_t)(r >> 8);
     bytes[4] = (uint8_t)(1 + width);
     bytes[5] = (uint8_t)c;
-    for (uint32_t i = 0; i < width; i++) bytes[6 + i] = i > setup.epsilon + c ? 0 : (uint8_t)roll(die, setup.n + 1);
-    if (bytes[6 + setup.epsilon + c] == 0) bytes[6 + setup.epsilon + c] = (uint8_t)(roll(die, 5) > 0);
+    for (uint32_t i = 0; i < width; i++) bytes[6 + i] = i > epsilon + c ? 0 : (uint8_t)roll(die, setup.n + 1);
+    if (bytes[6 + epsilon + c] == 0) bytes[6 + epsilon + c] = (uint8_t)(roll(die, 5) > 0);
     bytes[6 + width] = (uint8_t)ticket;
     roll_bytes(die, bytes + 7 + width, ticket);
     return 7 + width + ticket;

@@ -1,6 +1,7 @@
 /* The air of a yard: it loses frames, repeats them, lets them overtake each other, delays them by up to delta of their sender's ticks, and
  * adds junk. What it does is drawn from a seed. A stretch is the time between two disturbances: what is in the air when it starts is
- * older, and is heard, like junk, in no call for a clock past X + delta + epsilon, X being the largest clock at its start. */
+ * older, and is heard, like junk, in no call for a clock past X + delta + epsilon, X being the largest clock at its start. Where the limits
+ * change, a message has the delay limit of its sending, and that bound has the wider pair. */
 #ifndef ETHER_H
 #define ETHER_H
 

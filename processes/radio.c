@@ -1,6 +1,6 @@
 /* The time service and the air of a yard in one process. It gives each station its clock, one call at a time, and waits for the answer:
  * so all calls stand in one order, and a slow machine cannot break the limits. Clocks step by 1 to epsilon, and no two of those
- * present are ever further than epsilon apart. What is heard comes from the ether (ether.h). All that it does comes from the seed and
+ * present are ever further than epsilon apart; where the setup has a change to wider limits, by the limits of the clocks. What is heard comes from the ether (ether.h). All that it does comes from the seed and
  * its commands. A board that does not answer is absent from then on, and may say hello again. */
 #include <errno.h>
 #include <stdio.h>
@@ -138,10 +138,11 @@ static void send_frames(int board, uint32_t number, const struct entry *entries,
 }
 
 static void send_clock(int board, uint32_t number, long clock, unsigned count) {
-    uint8_t datagram[HEADER + 4];
+    uint8_t datagram[HEADER + 8];
     put_head(datagram, 'C', number);
     put_two(datagram + HEADER, (unsigned)(clock % (long)setup.modulus));
     put_two(datagram + HEADER + 2, count);
+    put_four(datagram + HEADER + 4, (uint32_t)clock);
     transmit(board, datagram, sizeof datagram);
 }
 
@@ -226,9 +227,9 @@ static void step(int board, long ticks) {
 
 /* a board that has said hello comes in, at a clock near the others' */
 static void take_in(int board) {
-    long lowest = lowest_clock(), largest = largest_clock(), epsilon = setup.epsilon;
+    long lowest = lowest_clock(), largest = largest_clock(), epsilon = epsilon_at(&setup, lowest), first = lowest < setup.change ? 0 : setup.change;
     struct die die = die_for(seed, FOR_START, stretch_number, (uint64_t)board);
-    long least = lowest < 0 ? 0 : largest - epsilon > 0 ? largest - epsilon : 0, most = lowest < 0 ? epsilon : lowest + epsilon;
+    long least = lowest < 0 ? 0 : largest - epsilon > first ? largest - epsilon : first, most = lowest < 0 ? epsilon : lowest + epsilon;
     boards[board].clock = least + roll(&die, (uint32_t)(most - least + 1));
     boards[board].present = true;
     boards[board].waits = false;
@@ -242,15 +243,34 @@ static void take_in_all(void) {
     }
 }
 
-/* one step of one clock, by chance: of a board that has room for it; 1, or in one of four a nudge, as far as there is room */
+/* may a board's clock step so far? Then no two are further apart than epsilon, the old one while any of them is before the change. */
+static bool may_step(int board, long ticks) {
+    long clock = boards[board].clock + ticks, lowest = clock, largest = clock;
+    for (int k = 0; k < board_count; k++) {
+        if (k == board || !boards[k].present) continue;
+        if (boards[k].clock < lowest) lowest = boards[k].clock;
+        if (boards[k].clock > largest) largest = boards[k].clock;
+    }
+    return ticks <= epsilon_at(&setup, clock) && largest - lowest <= epsilon_at(&setup, lowest);
+}
+
+/* the steps that a board's clock may take; how many */
+static uint32_t steps_of(int board, long *steps) {
+    uint32_t count = 0;
+    for (long ticks = 1; ticks <= (long)setup.wider_epsilon && boards[board].present; ticks++)
+        if (may_step(board, ticks)) steps[count++] = ticks;
+    return count;
+}
+
+/* one step of one clock, by chance: of a board that may take one; the least, or in one of four a nudge, any other that it may take */
 static void step_one(void) {
     struct die die = die_for(seed, FOR_STEP, stretch_number, stretch_calls);
-    long limit = lowest_clock() + setup.epsilon;
+    long steps[16];
+    uint32_t count;
     int board;
     do board = (int)roll(&die, (uint32_t)board_count);
-    while (!boards[board].present || boards[board].clock >= limit);
-    uint32_t room = (uint32_t)(limit - boards[board].clock);
-    step(board, room > 1 && roll(&die, 4) == 0 ? 2 + roll(&die, room - 1) : 1);
+    while ((count = steps_of(board, steps)) == 0);
+    step(board, steps[count > 1 && roll(&die, 4) == 0 ? 1 + roll(&die, count - 1) : 0]);
 }
 
 static void run_to(long clock) {

@@ -12,6 +12,7 @@
 #include <sys/stat.h>
 #include <unistd.h>
 
+#include "calls.h"
 #include "setup.h"
 #include "wire.h"
 #include "yarngravel.h"
@@ -30,10 +31,17 @@ static const char help[] =
     "  own 2                  this station's number, below n; or the word `observer` alone\n"
     "  radio 40123            the radio's port on the loopback address\n"
     "  memory station-2.mem   the file for tables, shelf, last clock and figures; where there is none the station starts afresh\n"
+    "and, all or none of them, where the yard goes to wider limits (clocks here are not reduced):\n"
+    "  wider_epsilon 5        the limits from the change on, none smaller than before\n"
+    "  wider_delta 9\n"
+    "  change 1500            the clock of the change, V\n"
+    "  both_from 1400         calls for this clock and later ones have both pairs\n"
+    "  wider_from 1550        calls for this clock and later ones have the wider pair alone\n"
     "\n"
     "Standard input has the tickets, one a line of at most 32 bytes: the next one is sent in the next tick. A line - is an empty\n"
     "ticket, an empty line is none. Standard output is the board: a line `tick CLOCK mend MEND c C took TAKEN sent SENT gave GAVE` for\n"
-    "each call, and then `give STATION R TICKET` for each message shown, the ticket in hexadecimal. Standard error is the log: every\n"
+    "each call, and then `give STATION R TICKET` for each message shown, the ticket in hexadecimal; with a change `limits old`, `both` or\n"
+    "`wider` stands behind GAVE. Standard error is the log: every\n"
     "mend, refused frame and dropped datagram, and at the end their numbers and how well each station was heard in the last 256 ticks.\n"
     "  --words                a line `hear WORDS` for each frame heard: its place, station, r, and what became of it\n"
     "  --reasons              behind each ticket what put it behind the line before: sum, count CLOCK, station, r or -\n"
@@ -55,7 +63,8 @@ static struct setup setup;
 static bool observer, with_words, with_reasons, with_frames, paced;
 static unsigned patience; /* in waits for a datagram; 0 for no end */
 static struct memory *memory;
-static size_t shelf_len;
+static size_t shelf_room; /* for the largest shelf that it will have: it grows where it stands */
+static struct limits limits; /* of the call under way */
 static bool fresh; /* the file is new, and no call was made */
 
 static int channel;
@@ -101,11 +110,11 @@ static uint32_t own(void) { return observer ? 0 : setup.own; }
 
 static const uint8_t *kept(void) { return observer ? memory->last : memory->tables; }
 
-static uint8_t *figures(void) { return memory->shelf + shelf_len; }
+static uint8_t *figures(void) { return memory->shelf + shelf_room; }
 
 /* maps the file, which is made where there is none */
 static void map_memory(void) {
-    size_t size = sizeof(struct memory) + shelf_len + YARNGRAVEL_FIGURES;
+    size_t size = sizeof(struct memory) + shelf_room + YARNGRAVEL_FIGURES;
     struct stat found;
     int file = open(setup.memory, O_RDWR | O_CREAT | O_CLOEXEC, 0600);
     if (file < 0 || fstat(file, &found) != 0) die(NAME, 1, "%s cannot be opened: %s", setup.memory, strerror(errno));
@@ -120,11 +129,10 @@ static void map_memory(void) {
 }
 
 /* fresh tables, or an observer's fresh last clock, at the clock before a first call */
-static void start_afresh(uint32_t clock) {
-    uint32_t before = (clock + setup.modulus - 1) % setup.modulus;
-    uint64_t answer =
-        observer ? yarngravel_fresh_last(setup.n, setup.epsilon, setup.delta, setup.modulus, before, memory->last)
-                 : yarngravel_fresh(setup.n, setup.epsilon, setup.delta, setup.modulus, own(), before, memory->tables);
+static void start_afresh(long clock) {
+    uint32_t before = (uint32_t)(clock - 1 + (long)setup.modulus) % setup.modulus;
+    struct limits then = limits_at(&setup, own(), clock - 1);
+    uint64_t answer = observer ? call_fresh_last(&then, before, memory->last) : call_fresh(&then, before, memory->tables);
     unsigned number = yarngravel_number(answer);
     if (number != 0) die(NAME, 1, "the start at clock %u is refused by %u: %s", before, number, yarngravel_number_text(number));
     fresh = false;
@@ -189,8 +197,7 @@ static void print_bytes(const uint8_t *bytes, size_t len) {
 static void print_reason(const uint8_t *before, size_t before_len, const uint8_t *frame, size_t len) {
     static const char *const words[] = {"-", "sum", "count", "station", "r"};
     uint64_t answer = 0;
-    if (before != NULL)
-        answer = yarngravel_compare(setup.n, setup.epsilon, setup.delta, setup.modulus, own(), clock_now, before, before_len, frame, len);
+    if (before != NULL) answer = call_compare(&limits, clock_now, before, before_len, frame, len);
     unsigned reason = yarngravel_reason(answer);
     printf(" %s", words[reason]);
     if (reason == YARNGRAVEL_BY_COUNT) printf(" %u", yarngravel_count_clock(answer));
@@ -201,9 +208,9 @@ static void show(uint64_t answer, const uint8_t *handout) {
     struct yarngravel_walk walk = yarngravel_walk_of(answer, handout);
     const uint8_t *before = NULL;
     size_t before_len = 0;
-    while (yarngravel_walk_next(&walk, setup.epsilon)) {
+    while (yarngravel_walk_next_in(&walk)) {
         uint8_t stamp[YARNGRAVEL_TABLES];
-        uint64_t got = yarngravel_read(setup.n, setup.epsilon, setup.delta, setup.modulus, own(), walk.frame, walk.len, stamp);
+        uint64_t got = call_read(&limits, walk.frame, walk.len, stamp);
         printf("give %u %u ", yarngravel_station(got), yarngravel_last_clock(stamp));
         print_bytes(walk.frame + yarngravel_ticket_at(got), yarngravel_ticket_len(got));
         if (with_reasons) print_reason(before, before_len, walk.frame, walk.len);
@@ -218,8 +225,7 @@ static void show(uint64_t answer, const uint8_t *handout) {
 /* what became of each frame heard: the words to the board if they are wanted, each refusal to the log */
 static void tell(const uint8_t *verdicts) {
     static uint8_t text[ENTRIES * YARNGRAVEL_LINE];
-    uint64_t told = yarngravel_words(setup.n, setup.epsilon, setup.delta, setup.modulus, own(), bundle.bytes, bundle.len, verdicts,
-                                     YARNGRAVEL_VERDICTS, text, sizeof text);
+    uint64_t told = call_words(&limits, bundle.bytes, bundle.len, verdicts, text, sizeof text);
     const uint8_t *line = text;
     for (unsigned k = 0; k < bundle.bytes[0]; k++) {
         int len = (int)((const uint8_t *)memchr(line, '\n', (size_t)(text + yarngravel_text_len(told) - line)) - line);
@@ -234,13 +240,10 @@ static void tell(const uint8_t *verdicts) {
 static uint64_t call_library(uint32_t clock, bool send, const uint8_t *ticket, size_t ticket_len, uint8_t *verdicts, uint8_t *handout) {
     uint64_t answer;
     memory->calling = 1;
-    if (observer)
-        answer = yarngravel_listen(setup.n, setup.epsilon, setup.delta, setup.modulus, clock, memory->last, memory->shelf, shelf_len,
-                                   bundle.bytes, bundle.len, verdicts, YARNGRAVEL_VERDICTS, handout, SHELF);
+    if (observer) answer = call_listen(&limits, clock, memory->last, memory->shelf, bundle.bytes, bundle.len, verdicts, handout, SHELF);
     else
-        answer = yarngravel_tick(setup.n, setup.epsilon, setup.delta, setup.modulus, setup.own, clock, memory->tables, memory->shelf,
-                                 shelf_len, bundle.bytes, bundle.len, send, ticket, ticket_len, done.outgoing, sizeof done.outgoing,
-                                 verdicts, YARNGRAVEL_VERDICTS, handout, SHELF);
+        answer = call_tick(&limits, clock, memory->tables, memory->shelf, bundle.bytes, bundle.len, send, ticket, ticket_len, done.outgoing,
+                           sizeof done.outgoing, verdicts, handout, SHELF);
     memory->calling = 0;
     return answer;
 }
@@ -253,11 +256,13 @@ static void keep_figures(const uint8_t *verdicts) {
     if (number != 0) die(NAME, 1, "the figures are refused by %u: %s", number, yarngravel_number_text(number));
 }
 
-/* one call for a clock, with the bundle; the board and the log get what came of it */
-static void call(uint32_t clock) {
+/* one call for a clock, which is not reduced, with the bundle; the board and the log get what came of it */
+static void call(long true_clock) {
     static uint8_t ticket[YARNGRAVEL_TICKET], verdicts[YARNGRAVEL_VERDICTS], handout[SHELF];
     size_t ticket_len;
-    if (fresh) start_afresh(clock);
+    uint32_t clock = (uint32_t)(true_clock % (long)setup.modulus);
+    if (fresh) start_afresh(true_clock);
+    limits = limits_at(&setup, own(), true_clock);
     unsigned last = yarngravel_last_clock(kept());
     bool send = next_ticket(ticket, &ticket_len);
     uint64_t answer = call_library(clock, send, ticket, ticket_len, verdicts, handout);
@@ -270,7 +275,9 @@ static void call(uint32_t clock) {
     printf("tick %u mend %u c ", clock, mend);
     if (observer) putchar('-');
     else printf("%u", memory->tables[2]);
-    printf(" took %u sent %d gave %u\n", yarngravel_taken(answer), send, yarngravel_gave(answer));
+    printf(" took %u sent %d gave %u", yarngravel_taken(answer), send, yarngravel_gave(answer));
+    if (setup.change != NEVER) printf(" limits %s", limits_word(&setup, true_clock));
+    putchar('\n');
     tell(verdicts);
     keep_figures(verdicts);
     show(answer, handout);
@@ -327,7 +334,7 @@ static void hear(uint32_t number, const uint8_t *frame, size_t len) {
 }
 
 /* The radio gives a clock: the call is made, unless it was made already or not all of its frames came. */
-static void come_to(uint32_t number, uint32_t clock, unsigned frames) {
+static void come_to(uint32_t number, long clock, unsigned frames) {
     bool again = done.made && number == done.call;
     if (number != bundle.call) gather(number);
     if (!again && bundle.came != frames) {
@@ -358,7 +365,7 @@ static void take(const uint8_t *datagram, size_t len) {
     uint32_t number = len < HEADER ? 0 : call_of(datagram);
     char kind = len < HEADER ? '-' : (char)datagram[0];
     if (kind == 'F') hear(number, datagram + HEADER, len - HEADER);
-    else if (kind == 'C' && len == HEADER + 4) come_to(number, two_at(datagram + HEADER), two_at(datagram + HEADER + 2));
+    else if (kind == 'C' && len == HEADER + 8) come_to(number, (long)four_at(datagram + HEADER + 4), two_at(datagram + HEADER + 2));
     else if (kind == 'P') signal_radio('P', number);
     else if (kind == 'E') ended = 1;
     else drop(len, "is of no known kind");
@@ -448,11 +455,14 @@ int main(int argc, char **argv) {
     setvbuf(stderr, NULL, _IOFBF, 1 << 16);
     sigaction(SIGTERM, &on_end, NULL);
     sigaction(SIGINT, &on_end, NULL);
-    shelf_len = yarngravel_shelf_size(setup.n, setup.epsilon, setup.delta);
+    shelf_room = yarngravel_shelf_size(setup.n, setup.wider_epsilon, setup.wider_delta);
     map_memory();
     unsigned port = open_channel();
     note("version %s, n %u, epsilon %u, delta %u, modulus %u, %s %u, port %u", YARNGRAVEL_VERSION_TEXT, setup.n, setup.epsilon,
          setup.delta, setup.modulus, observer ? "observer, board" : "own", setup.own, port);
+    if (setup.change != NEVER)
+        note("epsilon %u, delta %u from clock %ld on; both pairs from %ld on, the wider one alone from %ld on", setup.wider_epsilon,
+             setup.wider_delta, setup.change, setup.both_from, setup.wider_from);
     fflush(stderr);
     serve();
     sum_up();

@@ -2,7 +2,8 @@
  * it belongs to, four bytes, low first; a number is given to one call only. Two-byte numbers have the low byte first.
  *
  *   radio to station   'F'  a frame heard: its bytes follow
- *                      'C'  the clock: modulo B in two bytes, and in two how many 'F' came for this call. It asks for the call
+ *                      'C'  the clock: modulo B in two bytes, in two how many 'F' came for this call, and in four the clock that is not
+ *                           reduced. It asks for the call
  *                      'P'  a pause: asks for a 'P' back, so that a flood fits the machine's buffers
  *                      'E'  the end
  *   station to radio   'H'  hello: its board's number in one byte, n for an observer; the call's number is 0
@@ -32,13 +33,19 @@ static inline void put_two(uint8_t *at, unsigned number) {
 
 static inline unsigned two_at(const uint8_t *at) { return at[0] + 256u * at[1]; }
 
-static inline void put_head(uint8_t *datagram, char kind, uint32_t call) {
-    datagram[0] = (uint8_t)kind;
-    put_two(datagram + 1, call & 0xffff);
-    put_two(datagram + 3, call >> 16);
+static inline void put_four(uint8_t *at, uint32_t number) {
+    put_two(at, number & 0xffff);
+    put_two(at + 2, number >> 16);
 }
 
-static inline uint32_t call_of(const uint8_t *datagram) { return two_at(datagram + 1) + 65536u * two_at(datagram + 3); }
+static inline uint32_t four_at(const uint8_t *at) { return two_at(at) + 65536u * two_at(at + 2); }
+
+static inline void put_head(uint8_t *datagram, char kind, uint32_t call) {
+    datagram[0] = (uint8_t)kind;
+    put_four(datagram + 1, call);
+}
+
+static inline uint32_t call_of(const uint8_t *datagram) { return four_at(datagram + 1); }
 
 static inline struct sockaddr_in loopback(uint16_t port) {
     struct sockaddr_in address;

@@ -1,6 +1,6 @@
 //! Times the tick, an observer's call and the poll: the proved library, the oracle and a twin tuned by
-//! hand, on the same calls in one run; the tick of an engine with long clocks beside its station's; charges and totals; and the
-//! figures. First all must agree on every call, byte for byte, and on random ones.
+//! hand, on the same calls in one run; the tick with both pairs of limits beside the plain one; the tick of an engine with long clocks
+//! beside its station's; charges and totals; and the figures. First all must agree on every call, byte for byte, and on random ones.
 
 mod agreement;
 mod programs;
@@ -11,7 +11,7 @@ mod yard;
 
 use oracle::generate::{FiguresCase, LongCase};
 use programs::{Case, Each};
-use workloads::Workload;
+use workloads::{Beside, Workload};
 
 /// How many random calls the programs must agree on.
 const RANDOM: usize = 20_000;
@@ -35,6 +35,14 @@ fn main() {
     for case in observers.iter().flat_map(|workload| &workload.cases) {
         let (answer, _) = agreement::agree(case);
         assert!(answer & 0xffff == 0, "an observer's call is refused or mends");
+    }
+    // Both pairs before V, across it and after it, and the plain ticks beside them.
+    let beside = workloads::beside();
+    let across = [workloads::across(false), workloads::across(true)];
+    let with_both = beside.iter().map(|row| &row.both).chain(across.iter().flatten());
+    for case in with_both.flat_map(|workload| &workload.cases) {
+        let (answer, _) = agreement::agree(case);
+        assert!(answer & 0xffff == 0, "a call with both pairs is refused or mends");
     }
     // An engine beside each station where no more than 64 messages are held.
     let engines = workloads::engines();
@@ -63,6 +71,7 @@ fn main() {
     rows.extend(observers.iter().map(Row::of));
     print_table(&rows);
     print_observers(&rows);
+    print_beside(&beside);
     print_engines(&rows, &engines);
     println!("\nledger          bales    proved    oracle   proved/oracle    to half the bales");
     print_ledger(&half.0, &full.0);
@@ -71,6 +80,7 @@ fn main() {
     println!("\ngrowth              frames    proved    oracle      twin");
     shelves[0].iter().zip(&shelves[1]).for_each(|(half, full)| print_growth(half, full));
     polls[0].iter().zip(&polls[1]).for_each(|(half, full)| print_growth(half, full));
+    across[0].iter().zip(&across[1]).for_each(|(half, full)| print_growth(half, full));
 }
 
 /// A workload's times.
@@ -111,6 +121,17 @@ fn times_of<'r>(rows: &'r [Row], name: &str) -> &'r Each {
     &rows.iter().find(|row| row.name == name).expect("a workload").times
 }
 
+/// A tick with both pairs as a ratio to the plain one of the same yard.
+fn print_beside(beside: &[Beside]) {
+    println!("\nboth pairs       frames    proved    oracle   proved/oracle   proved/plain");
+    for Beside { name, both, plain } in beside {
+        let ([times], [plain]) = (timing::measure([both]), timing::measure([plain]));
+        let (proved, oracle) = (times[0], times[1]);
+        print!("{name:<16}{:>7.0}{proved:>10.0}{oracle:>10.0}", both.frames());
+        println!("{:>16.2}{:>15.2}", proved / oracle, proved / plain[0]);
+    }
+}
+
 /// An engine's tick beside its station's in the same yard.
 fn print_engines(rows: &[Row], engines: &[Workload<LongCase>]) {
     println!("\nengine         frames    proved    oracle   proved/oracle   proved/station's");
@@ -141,7 +162,8 @@ fn print_figures(figures: &[Workload<FiguresCase>]) {
 /// How much longer a call takes where the shelf has twice the frames or a little more.
 fn print_growth<C: Case>(half: &Workload<C>, full: &Workload<C>) {
     let [before, after] = timing::measure([half, full]);
-    let [proved, oracle, twin] = [0, 1, 2].map(|i: usize| after[i] / before[i]);
     let frames = full.frames() / half.frames();
-    println!("{:<15}{frames:>11.2}{proved:>10.2}{oracle:>10.2}{twin:>10.2}", full.name);
+    print!("{:<15}{frames:>11.2}", full.name);
+    after.iter().zip(before).for_each(|(after, before)| print!("{:>10.2}", after / before));
+    println!();
 }

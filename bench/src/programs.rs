@@ -1,10 +1,11 @@
 //! The programs, called alike: each gets the same case, and its answer is packed as the library's.
 
 use crate::twin;
-use oracle::abi::{self, library};
+use oracle::abi::{self, library, library_in};
 use oracle::generate::{
     ChargeCase, FiguresCase, ListenCase, LongCase, PollCase, TickCase, TotalCase,
 };
+use oracle::Both;
 
 /// Makes a call and answers its packed answer.
 pub type Program<C> = fn(&mut C) -> u64;
@@ -14,7 +15,7 @@ pub type Each = Vec<f64>;
 
 /// A call that is timed.
 pub trait Case: Clone + PartialEq + 'static {
-    /// The proved library, the oracle, the twin. An engine, a charge, a total and the figures have no twin.
+    /// The proved library, the oracle, the twin. A tick with both pairs, an engine, a charge, a total and the figures have no twin.
     const PROGRAMS: &'static [Program<Self>];
 
     /// What is kept between calls: the shelf, or the figures.
@@ -32,6 +33,20 @@ pub trait Case: Clone + PartialEq + 'static {
 impl Case for TickCase {
     const PROGRAMS: &'static [Program<Self>] =
         &[library::tick, |case| abi::pack_tick(&case.run()), tick];
+
+    fn shelf(&self) -> &[u8] {
+        &self.holdback
+    }
+
+    fn put_back(&mut self, given: &Self) {
+        self.state = given.state;
+        self.holdback.copy_from_slice(&given.holdback);
+    }
+}
+
+impl Case for TickCase<Both> {
+    const PROGRAMS: &'static [Program<Self>] =
+        &[library_in::tick, |case| abi::pack_tick(&case.run())];
 
     fn shelf(&self) -> &[u8] {
         &self.holdback

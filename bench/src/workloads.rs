@@ -1,18 +1,21 @@
 //! The calls that are timed. Each workload has 256 of them: of a few the processor would learn which way their branches go.
 
 use crate::programs::Case;
-use crate::yard::{Engines, Yard};
+use crate::yard::{Change, Engines, Plan, Yard};
 use oracle::board::{judge, Owner};
 use oracle::generate::{
     frames, ledgers, ChargeCase, FiguresCase, ListenCase, LongCase, PollCase, Prng, TickCase, TotalCase,
 };
 use oracle::holdback::Holdback;
-use oracle::{batch, Setup, Timestamp};
+use oracle::{batch, Both, Setup, Timestamp};
 
 /// Calls of each workload.
 const CALLS: i64 = 256;
 const LARGEST: Setup = Setup { n: 16, epsilon: 16, delta: 64, modulus: 65_535, own: 0 };
 const TYPICAL: Setup = Setup { n: 4, epsilon: 2, delta: 8, modulus: 65_535, own: 0 };
+/// Narrower limits than these, for a yard that goes to them.
+const BELOW_LARGEST: Setup = Setup { epsilon: 15, delta: 60, ..LARGEST };
+const BELOW_TYPICAL: Setup = Setup { epsilon: 1, ..TYPICAL };
 const NUDGED: Setup = Setup { n: 6, epsilon: 4, delta: 12, modulus: 65_535, own: 0 };
 
 pub struct Workload<C> {
@@ -46,6 +49,72 @@ pub fn engines() -> Vec<Workload<LongCase>> {
     let idle = Workload { name: "idle tick", cases: beside((vec![], idle())) };
     let typical = Workload { name: "typical yard", cases: beside(steady(TYPICAL, 16, TYPICAL.n)) };
     vec![idle, typical, Workload { name: "nudged yard", cases: nudged_engines() }]
+}
+
+/// Ticks with both pairs, and the plain ones of the same yard beside them.
+pub struct Beside {
+    pub name: &'static str,
+    pub both: Workload<TickCase<Both>>,
+    pub plain: Workload<TickCase>,
+}
+
+/// A yard with both pairs, in its steady state long before V, where V lies amid the calls, and after V, and a setup whose pairs are
+/// equal: typical, the largest, and on its shelf ticks that hear and send nothing. The plain ticks are those of the pair that holds,
+/// across V the wider one.
+pub fn beside() -> Vec<Beside> {
+    const NAMES: [[&str; 4]; 3] = [
+        ["typical, before", "typical, across", "typical, after", "typical, equal"],
+        ["empty, before", "empty, across", "empty, after", "empty, equal"],
+        ["largest, before", "largest, across", "largest, after", "largest, equal"],
+    ];
+    let typical = sides(BELOW_TYPICAL, TYPICAL, 16, TYPICAL.n);
+    let largest = sides(BELOW_LARGEST, LARGEST, 32, LARGEST.n);
+    let empty = largest.clone().map(|(both, plain)| (quiet(both), quiet(plain)));
+    let yards = NAMES.into_iter().zip([typical, empty, largest]);
+    let rows = yards.flat_map(|(names, sides)| names.into_iter().zip(sides));
+    rows.map(|(name, (both, plain))| Beside {
+        name,
+        both: Workload { name, cases: both },
+        plain: Workload { name, cases: plain },
+    })
+    .collect()
+}
+
+/// On the largest yard's shelf, where all of it or only half has been sending: ticks with both pairs across V that hear nothing, and that
+/// hear everybody.
+pub fn across(full: bool) -> [Workload<TickCase<Both>>; 2] {
+    let senders = if full { LARGEST.n } else { LARGEST.n / 2 };
+    let [_, (heard, _), ..] = sides(BELOW_LARGEST, LARGEST, 32, senders);
+    [
+        Workload { name: "both, empty", cases: quiet(heard.clone()) },
+        Workload { name: "both, largest", cases: heard },
+    ]
+}
+
+/// Calls with both pairs, and plain ones beside them.
+type Sides = (Vec<TickCase<Both>>, Vec<TickCase>);
+
+/// A yard's calls before V, across it and after it, and with equal pairs.
+fn sides(old: Setup, wider: Setup, payload: usize, senders: i64) -> [Sides; 4] {
+    let change = |clock| Change { old, wider, clock };
+    let middle = before_steady(&old) + CALLS / old.n / 2;
+    let both = |plan: Change| steady(plan, payload, senders).1;
+    let [plain_old, plain] = [old, wider].map(|setup| steady(setup, payload, senders).1);
+    let equal = steady(Change { old: wider, wider, clock: middle }, payload, senders).1;
+    [
+        (both(change(60_000)), plain_old),
+        (both(change(middle)), plain.clone()),
+        (both(change(0)), plain.clone()),
+        (equal, plain),
+    ]
+}
+
+/// The same calls where nothing is heard or sent.
+fn quiet<S>(mut cases: Vec<TickCase<S>>) -> Vec<TickCase<S>> {
+    for case in &mut cases {
+        (case.batch, case.send) = (vec![0], false);
+    }
+    cases
 }
 
 /// Charges of new bales on ledgers that hold so many already, and totals of one of their growers.
@@ -96,17 +165,13 @@ fn has_early(case: &TickCase) -> bool {
 /// The largest yard, where all of it or only half has been sending: an empty tick, one that hears everybody, and a flood.
 pub fn on_shelf(full: bool) -> [Workload<TickCase>; 3] {
     let (_, heard) = steady(LARGEST, 32, if full { LARGEST.n } else { LARGEST.n / 2 });
-    let mut empty = heard.clone();
     let mut flood = heard.clone();
     let mut rng = Prng::new(2);
-    for case in &mut empty {
-        (case.batch, case.send) = (vec![0], false);
-    }
     for case in &mut flood {
         case.batch = batch::encode(&junk(&mut rng, case));
     }
     [
-        Workload { name: "empty tick", cases: empty },
+        Workload { name: "empty tick", cases: quiet(heard.clone()) },
         Workload { name: "largest yard", cases: heard },
         Workload { name: "flood", cases: flood },
     ]
@@ -151,13 +216,21 @@ pub fn figures(ticks: &Workload<TickCase>) -> [Workload<FiguresCase>; 2] {
     [after("figures", |rng| rng.below(255) as u8), after("afresh", |_| 255)]
 }
 
+/// Calls of a yard's stations.
+type Ticks<P> = Vec<TickCase<<P as Plan>::Setup>>;
+
 /// Calls of a yard in its steady state, where only some send until shortly before the end and then all do; before them those by
 /// which it came there.
-fn steady(setup: Setup, payload: usize, senders: i64) -> (Vec<TickCase>, Vec<TickCase>) {
-    let mut yard = Yard::fresh(setup, payload);
-    let mut before = yard.run(2 * (setup.delta + 4 * setup.epsilon), senders);
+fn steady<P: Plan>(plan: P, payload: usize, senders: i64) -> (Ticks<P>, Ticks<P>) {
+    let (mut yard, setup) = (Yard::fresh(plan, payload), plan.first());
+    let mut before = yard.run(before_steady(&setup) - 3, senders);
     before.extend(yard.run(3, setup.n));
     (before, yard.run(CALLS / setup.n, setup.n))
+}
+
+/// How many ticks a yard makes until it is in its steady state.
+fn before_steady(setup: &Setup) -> i64 {
+    2 * (setup.delta + 4 * setup.epsilon) + 3
 }
 
 /// 255 frames that are all refused: random bytes, damaged frames, late, early and forged ones, repeats.

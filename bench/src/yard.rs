@@ -1,14 +1,60 @@
 //! A yard in its steady state: its stations tick in turn, at clocks spread over the drift limit; every sender sends at each tick,
 //! and everybody hears each frame one to three ticks later. Its ticks step by one, or all clocks are nudged: then those of a round
-//! step by 2 to ε.
+//! step by 2 to ε. Its limits stay, or get wider at a clock (02, 2.10).
 
 use oracle::generate::{LongCase, Prng, TickCase};
 use oracle::long::{fresh_tables, holdback_len};
 use oracle::timestamp::fresh;
-use oracle::{batch, ClockState, LongState, Setup};
+use oracle::{batch, Both, ClockState, LongState, Pairs, Settings, Setup};
 
-pub struct Yard {
-    setup: Setup,
+/// Which setup the calls of a yard have.
+pub trait Plan: Copy {
+    type Setup: Settings;
+
+    /// The setup of a station's call for a clock.
+    fn setup(&self, own: i64, clock: i64) -> Self::Setup;
+
+    /// The limits that hold from the start.
+    fn first(&self) -> Setup;
+}
+
+/// A plain setup, always.
+impl Plan for Setup {
+    type Setup = Setup;
+
+    fn setup(&self, own: i64, _clock: i64) -> Setup {
+        Setup { own, ..*self }
+    }
+
+    fn first(&self) -> Setup {
+        *self
+    }
+}
+
+/// Both pairs, marked from a clock on, which is below B.
+#[derive(Clone, Copy)]
+pub struct Change {
+    pub old: Setup,
+    pub wider: Setup,
+    pub clock: i64,
+}
+
+impl Plan for Change {
+    type Setup = Both;
+
+    fn setup(&self, own: i64, clock: i64) -> Both {
+        let Setup { epsilon: wider_epsilon, delta: wider_delta, .. } = self.wider;
+        let (old, marked) = (Setup { own, ..self.old }, i64::from(clock >= self.clock));
+        Both { old, wider_epsilon, wider_delta, change: self.clock, marked }
+    }
+
+    fn first(&self) -> Setup {
+        self.old
+    }
+}
+
+pub struct Yard<P: Plan = Setup> {
+    plan: P,
     payload: usize,
     rng: Prng,
     nudged: bool,
@@ -24,30 +70,34 @@ struct Station {
     coming: [Vec<Vec<u8>>; 3],
 }
 
-impl Yard {
+impl<P: Plan> Yard<P> {
     /// A yard of fresh stations that send tickets of this length.
-    pub fn fresh(setup: Setup, payload: usize) -> Self {
-        let shelf = vec![0; setup.holdback_len()];
-        let station = |k| Station {
-            tables: fresh(&setup, lead(&setup, k)),
-            shelf: shelf.clone(),
-            coming: Default::default(),
+    pub fn fresh(plan: P, payload: usize) -> Self {
+        let first = plan.first();
+        let station = |k| {
+            let clock = lead(&first, k);
+            let setup = plan.setup(k, clock);
+            Station {
+                tables: fresh(&setup.side(), clock),
+                shelf: vec![0; setup.widest().holdback_len()],
+                coming: Default::default(),
+            }
         };
-        let stations = (0..setup.n).map(station).collect();
-        Yard { setup, payload, rng: Prng::new(1), nudged: false, slowest: 0, stations }
+        let stations = (0..first.n).map(station).collect();
+        Yard { plan, payload, rng: Prng::new(1), nudged: false, slowest: 0, stations }
     }
 
     /// The same, with nudged clocks. ε is at least 2, δ at least 3ε.
-    pub fn nudged(setup: Setup, payload: usize) -> Self {
-        Yard { nudged: true, ..Self::fresh(setup, payload) }
+    pub fn nudged(plan: P, payload: usize) -> Self {
+        Yard { nudged: true, ..Self::fresh(plan, payload) }
     }
 
     /// Lets all stations tick this often, the first `senders` of them sending; all their calls, as given.
-    pub fn run(&mut self, rounds: i64, senders: i64) -> Vec<TickCase> {
-        let mut cases = Vec::new();
+    pub fn run(&mut self, rounds: i64, senders: i64) -> Vec<TickCase<P::Setup>> {
+        let (mut cases, Setup { n, epsilon, .. }) = (Vec::new(), self.plan.first());
         for _ in 0..rounds {
-            self.slowest += if self.nudged { self.rng.range(2, self.setup.epsilon) } else { 1 };
-            for k in 0..self.setup.n {
+            self.slowest += if self.nudged { self.rng.range(2, epsilon) } else { 1 };
+            for k in 0..n {
                 cases.push(self.tick(k, k < senders));
             }
         }
@@ -55,9 +105,9 @@ impl Yard {
     }
 
     /// One tick of a station; the call as it was given.
-    fn tick(&mut self, k: i64, send: bool) -> TickCase {
-        let clock = self.slowest + lead(&self.setup, k);
-        let setup = Setup { own: k, ..self.setup };
+    fn tick(&mut self, k: i64, send: bool) -> TickCase<P::Setup> {
+        let clock = self.slowest + lead(&self.plan.first(), k);
+        let setup = self.plan.setup(k, clock);
         let station = &mut self.stations[k as usize];
         station.coming.rotate_left(1);
         let heard = std::mem::take(&mut station.coming[2]);

@@ -5,7 +5,7 @@ use crate::fault::{planted, skew};
 use crate::holdback::{self, Entry, Holdback};
 use crate::limits::Part;
 use crate::setup::VERDICTS;
-use crate::timestamp::all_at_most;
+use crate::timestamp::{all_at_most, misplaced};
 use crate::{ask, batch, Frame, Limits, Setup};
 
 /// What a call may write for its board.
@@ -135,12 +135,14 @@ pub fn judge<'a>(
     if owner == Owner::Node || planted(31) {
         ask(has_possible_counts(setup, &entry), 15)?;
     }
-    ask(!holdback.contains(setup, &entry), 16)?;
+    let other_width = planted(170) && !holdback.has_width_of(&entry);
+    ask(!holdback.contains(setup, &entry) || other_width, 16)?;
     Ok(entry)
 }
 
 /// Check 15: is each count for v or later at most n − 1?
 pub fn has_possible_counts(setup: &Setup, entry: &Entry) -> bool {
-    let from_v = entry.frame.timestamp.counts_from(-entry.ahead);
+    let timestamp = &entry.frame.timestamp;
+    let from_v = timestamp.counts_from(-entry.ahead + misplaced(setup, timestamp, 169));
     all_at_most(from_v, setup.n - 1 + skew(4))
 }

@@ -164,17 +164,28 @@
 //! 165. the figures ask 5 before 3
 //! 166. a tick that hears nothing is not counted
 //! 167. the figures count 17, which no judgement gives
+//! 168. V and the mark are not asked about where the pairs are equal
+//! 169. check 15 finds the counts of a frame of the other width by places, and so for wrong clocks
+//! 170. frames of one node and r are no repeats where they have different widths
+//! 171. the words have for 12 the limits of the frame's width
+//! 172. the reader lays the counts of a narrow frame at the places of a wide one's offsets
+//! 173. the writer takes the counts of a narrow frame from the places of a wide one's offsets
+//! 174. the reader reads frames of the mark's width alone
+//! 175. a poll has due clocks by the pair of its clock
+//! 176. an observer does not ask 19
+//! 177. a start asks 2 before 19
 
 use std::ops::RangeInclusive;
 
-/// The last of those that are numbered one after the other; those of charges and of the figures stand behind them.
+/// The last of those that are numbered one after the other; those of charges, of the figures and of the eight calls with both pairs stand
+/// behind them.
 const COUNT: u8 = 124;
 /// Those that are in the program `yard` alone.
 pub const OF_YARD: RangeInclusive<u8> = 39..=47;
 /// Those that are in engines (02, 2.9) alone.
 pub const OF_ENGINES: RangeInclusive<u8> = 48..=66;
-/// Those that are in calls with both pairs (02, 2.10) alone.
-pub const OF_WIDER: RangeInclusive<u8> = 70..=124;
+/// Those that are in calls with both pairs (02, 2.10) alone: by the sentences of 2.10, and by its eight calls.
+pub const OF_WIDER: [RangeInclusive<u8>; 2] = [70..=124, 168..=177];
 /// Those that are in charges and totals (02, 2.11) alone.
 pub const OF_CHARGES: RangeInclusive<u8> = 130..=149;
 /// Those that are in the figures (02, 2.13) alone.
@@ -182,7 +193,8 @@ pub const OF_FIGURES: RangeInclusive<u8> = 150..=167;
 
 /// All faults.
 pub fn all() -> impl Iterator<Item = u8> {
-    (1..=COUNT).chain(OF_CHARGES).chain(OF_FIGURES)
+    let [_, of_calls] = OF_WIDER;
+    (1..=COUNT).chain(OF_CHARGES).chain(OF_FIGURES).chain(of_calls)
 }
 
 #[cfg(feature = "plant")]

@@ -78,6 +78,7 @@ pub fn read<'a, S: Settings>(setup: &S, bytes: &'a [u8]) -> Result<Frame<'a>, u8
     setup.check()?;
     let frame = Frame::whole(setup, bytes)?;
     let width = frame.timestamp.kn.len();
+    ask(!planted(174) || width == setup.side().width(), 10)?;
     let judging = if planted(113) { setup.side() } else { setup.of_width(width) };
     check_origin(&judging, frame.node, &frame.timestamp)?;
     Ok(frame)
@@ -109,7 +110,22 @@ pub fn write_in(
     let wide = if planted(116) { setup.is_marked() } else { wide };
     let pair = if wide { setup.wider() } else { setup.old };
     let judging = if planted(114) { setup.side() } else { pair };
-    write_by(&pair, &judging, node, state, payload, out)
+    let mut moved = *state;
+    if planted(173) {
+        moved[3..].rotate_left(setup.wider().width() / 2 - pair.width() / 2);
+    }
+    write_by(&pair, &judging, node, &moved, payload, out)
+}
+
+/// What the reader of a setup with both pairs leaves in the tables: the frame's counts from place 3 on,
+/// zeros behind them, whatever its width.
+pub fn read_state(setup: &Both, frame: &Frame) -> ClockState {
+    let mut state = frame.timestamp.to_state();
+    if planted(172) {
+        let half = frame.timestamp.kn.len() / 2;
+        state[3..].rotate_right(setup.wider().width() / 2 - half);
+    }
+    state
 }
 
 /// The writer behind 1, of a frame with the first's width, 12 by the second.

@@ -34,7 +34,7 @@ pub mod yard_trace;
 pub use board::Buffers;
 pub use engine::{long_tick, LongCall};
 pub use figures::figures;
-pub use frame::{read, write, write_in, Frame};
+pub use frame::{read, read_state, write, write_in, Frame};
 pub use limits::{Both, Limits, Pairs, Schedule, Settings};
 pub use long::{long_read, long_start, long_write, LongState};
 pub use node::{tick, Answer, Call};

@@ -162,6 +162,13 @@ impl Both {
         self.marked == 1
     }
 
+    /// The plain setup that this one is where its pairs are equal and V and the mark are in their limits.
+    pub fn plain(&self) -> Option<Setup> {
+        let is_plain =
+            self.wider() == self.old && self.change < self.old.modulus && self.marked <= 1;
+        is_plain.then_some(self.old)
+    }
+
     /// Has a frame with so many counts more than 2ε?
     pub fn is_wide(&self, counts: usize) -> bool {
         match planted(115) {
@@ -190,9 +197,10 @@ impl Both {
         is_in(&self.old) && (is_in(&wider) || planted(111))
     }
 
-    /// "V below B (else 1)", and the mark 0 or 1.
+    /// "V below B (else 1)", and the mark 0 or 1; asked also where the pairs are equal.
     fn has_change(&self) -> bool {
-        self.change < self.old.modulus + skew(108) && (self.marked <= 1 || planted(109))
+        let unasked = planted(168) && self.wider() == self.old;
+        unasked || self.change < self.old.modulus + skew(108) && (self.marked <= 1 || planted(109))
     }
 
     /// "Number 19 when ε′ or δ′ is smaller than the old": is neither?
@@ -235,7 +243,10 @@ impl Settings for Both {
     }
 
     fn check_observer(&self) -> Result<(), u8> {
-        self.check_by(if planted(112) { Setup::is_valid } else { Setup::is_in_limits })
+        match self.check_by(if planted(112) { Setup::is_valid } else { Setup::is_in_limits }) {
+            Err(19) if planted(176) => Ok(()),
+            checked => checked,
+        }
     }
 
     fn side(&self) -> Setup {

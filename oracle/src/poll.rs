@@ -1,7 +1,7 @@
 //! 02's 2.5: when something shows next.
 
 use crate::fault::{planted, skew};
-use crate::holdback::{self, Holdback};
+use crate::holdback::{self, Entry, Holdback};
 use crate::{Limits, Settings};
 
 /// What a poll answers.
@@ -20,13 +20,21 @@ pub fn poll<S: Settings>(setup: &S, clock: i64, within: u16, bytes: &[u8]) -> Re
     holdback::check(&setup.widest(), clock, bytes)?;
     let limits = setup.at(clock);
     let dues: Vec<i64> = match Holdback::decode(&limits, clock, 1 - skew(24), bytes) {
-        Some(queue) => queue.entries().iter().map(|entry| entry.due(&limits)).collect(),
+        Some(queue) => queue.entries().iter().map(|entry| due(&limits, entry)).collect(),
         None if planted(26) => holdback::dues(&limits, clock, bytes).collect(),
         None => Vec::new(),
     };
     let soonest = if planted(30) { dues.last() } else { dues.iter().min() };
     let next = soonest.map(|due| limits.own().reduced(clock + due, 27));
     Ok(Outlook { next, within: count_within(&dues, within) })
+}
+
+/// A frame's due clock, relative to v.
+fn due(limits: &impl Limits, entry: &Entry) -> i64 {
+    match planted(175) {
+        true => limits.own().due(entry.sum),
+        false => entry.due(limits),
+    }
 }
 
 /// How many of the due clocks, which are relative to v, are at most so many ticks after it.

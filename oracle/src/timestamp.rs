@@ -89,6 +89,9 @@ pub fn all_at_most(kn: &[u8], limit: i64) -> bool {
 
 /// A node's start: asks 1 and 2; fresh tables at a clock.
 pub fn start<S: Settings>(setup: &S, clock: i64) -> Result<ClockState, u8> {
+    if planted(177) && setup.check() == Err(19) {
+        ask(clock < setup.widest().modulus, 2)?;
+    }
     setup.check()?;
     ask(clock < setup.widest().modulus, 2)?;
     match planted(119) {
@@ -105,7 +108,7 @@ pub fn fresh(setup: &Setup, r: i64) -> ClockState {
 }
 
 /// How far off counts of another width are if they are taken by their places; only with this fault.
-fn misplaced(setup: &Setup, other: &Timestamp, fault: u8) -> i64 {
+pub(crate) fn misplaced(setup: &Setup, other: &Timestamp, fault: u8) -> i64 {
     skew(fault) * (setup.epsilon - other.kn.len() as i64 / 2)
 }
 

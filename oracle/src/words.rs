@@ -15,6 +15,9 @@ pub fn words<S: Settings>(
     text: &mut [u8],
 ) -> Result<usize, u8> {
     setup.check()?;
+    let of_width = |entry: &[u8]| {
+        setup.of_width(usize::from(entry.get(4).copied().unwrap_or(1)).saturating_sub(1))
+    };
     let setup = &match () {
         () if planted(117) => setup.pairs()[0],
         () if planted(118) => setup.pairs()[1],
@@ -24,7 +27,10 @@ pub fn words<S: Settings>(
     ask(verdicts.len() >= entries.len(), 6)?;
     ask(text.len() >= LINE * entries.len(), 6)?;
     let judged = entries.iter().zip(verdicts).enumerate();
-    let lines = judged.map(|(place, (entry, &number))| line(setup, place, entry, number));
+    let lines = judged.map(|(place, (entry, &number))| match number {
+        12 if planted(171) => line(&of_width(entry), place, entry, number),
+        _ => line(setup, place, entry, number),
+    });
     let lines: String = lines.collect::<Option<_>>().ok_or(6)?;
     text[..lines.len()].copy_from_slice(lines.as_bytes());
     Ok(lines.len())

@@ -3,7 +3,7 @@ use Prim.Native.Nat.{ℕ, _≤_, _<_}
 use mathlib.Core.Path.{_≡_, refl}
 use mathlib.Core.Bool.{Bool, true, false}
 use mathlib.Core.List.{List}
-use borrow.Author.Tests.{lt-ltb, le-ltb}
+use borrow.Author.Tests.{lt-ltb, le-ltb, eq-eqb, ne-eqb}
 use Rattle.model.specs.Question.{ask, firstNo}
 use Rattle.abi.specs.Fresh.{startNumber, startBytes}
 
@@ -24,3 +24,10 @@ module _ (valid : Bool) (bound clock : ℕ) (made kept : List ℕ) where
     pub start-accepted : clock < bound → (0 ≡ number) × (made ≡ startBytes number made kept)
     unfolding firstNo
     start-accepted k = (rw (h, lt-ltb clock bound k), rw (h, lt-ltb clock bound k))
+
+-- a start by the number of the first no
+pub not-started : (number : ℕ) (made kept : List ℕ) → (number ≡ 0 → ⊥) → kept ≡ startBytes number made kept
+not-started number made kept h = rw (ne-eqb number 0 h)
+
+pub started : (number : ℕ) (made kept : List ℕ) → number ≡ 0 → made ≡ startBytes number made kept
+started number made kept h = rw (eq-eqb number 0 h)

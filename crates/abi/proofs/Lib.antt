@@ -2,6 +2,7 @@
 -- `Charges` those of a charge.
 -- `Refusals` says that a refused call changes no byte, `Narrowing` that an engine's tables come to the station's bytes.
 mod Words
+mod Both
 mod LongWords
 mod Fresh
 mod Charges

@@ -207,39 +207,32 @@ listened-small i o same zero-number byte =
       last-small = omega (arith, a .clock-below, a .limits .modulus-most);
     }
 
-listened-number : (i : Listening) → firstNo (listenQuestions i) ≡ 0 → listen i .number ≡ 0
-unfolding listened
-listened-number i q = ap (λ (o : Listened). o .number) (listen-by i 0 q)
-
-not-listened-word : (i : Listening) (k : ℕ) (o : Listened) → o ≡ notListened i (suc k) → o .number ≡ packedListened o
-unfolding notListened packedListened
-not-listened-word i k o e =
-    let word : suc k ≡ packedListened (notListened i (suc k)) = omega arith in
-    ap (λ (x : Listened). x .number) e ∙ (word ∙ sym (ap packedListened e))
-
-not-listened-last : (i : Listening) (k : ℕ) (o : Listened) → o ≡ notListened i (suc k) → twoBytes (i .last) ≡ twoBytes (o .last)
-unfolding notListened
-not-listened-last i k o e = ap (λ (x : Listened). twoBytes (x .last)) (sym e)
-
 -- a refused call gives back the number alone, and its last clock and buffers
-pub refused-listening : (i : Listening) (s : List ℕ) (o : Listened) → o ≡ listen i → twoBytes (i .last) ≡ s → (o .number ≡ 0 → ⊥)
-    → returnedListening (o .number) s (o .holdback) (o .verdicts) (o .delivery) ≡ packedListening (listen i)
-unfolding packedListening
-refused-listening i s o e back h = go (firstNo (listenQuestions i)) refl
-  where
-    go : (k : ℕ) → firstNo (listenQuestions i) ≡ k → returnedListening (o .number) s (o .holdback) (o .verdicts) (o .delivery) ≡ packedListening (listen i)
-    go zero q = absurd (h (ap (λ (x : Listened). x .number) e ∙ listened-number i q))
-    go (suc k) q =
-        let is : o ≡ notListened i (suc k) = e ∙ listen-by i (suc k) q in
-        ap₂ (λ (w : ℕ) (l : List ℕ). returnedListening w l (o .holdback) (o .verdicts) (o .delivery)) (not-listened-word i k o is) (sym back ∙ not-listened-last i k o is)
-        ∙ ap packedListening e
+module _ (i : Listening) (o out : Listened) (e : o ≡ out) where
+  pub refused-listening : (s : List ℕ) → twoBytes (i .last) ≡ s → ((out .number ≡ 0 → ⊥) → out ≡ notListened i (out .number)) → (o .number ≡ 0 → ⊥)
+      → returnedListening (o .number) s (o .holdback) (o .verdicts) (o .delivery) ≡ packedListening out
+  unfolding packedListening notListened packedListened
+  refused-listening s back refused h =
+      let is : o ≡ notListened i (o .number) = e ∙ (refused (λ z. h (ap (λ (x : Listened). x .number) e ∙ z)) ∙ ap (λ (x : Listened). notListened i (x .number)) (sym e)) in
+      let plain : o .number ≡ packedListened (notListened i (o .number)) = omega arith in
+      ap₂ (λ (w : ℕ) (l : List ℕ). returnedListening w l (o .holdback) (o .verdicts) (o .delivery))
+      (plain ∙ ap packedListened (sym is)) (sym back ∙ ap (λ (x : Listened). twoBytes (x .last)) (sym is))
+      ∙ ap packedListening e
 
--- an accepted one
-pub accepted-listening : (i : Listening) (o : Listened) (word : ℕ) (last : List ℕ) → o ≡ listen i → word ≡ packedListened o → last ≡ twoBytes (o .last)
-    → returnedListening word last (o .holdback) (o .verdicts) (o .delivery) ≡ packedListening (listen i)
-unfolding packedListening
-accepted-listening i o word last e ew el =
-    ap₂ (λ (w : ℕ) (l : List ℕ). returnedListening w l (o .holdback) (o .verdicts) (o .delivery)) ew el ∙ ap packedListening e
+  -- an accepted one
+  pub accepted-listening : (word : ℕ) (last : List ℕ) → word ≡ packedListened o → last ≡ twoBytes (o .last)
+      → returnedListening word last (o .holdback) (o .verdicts) (o .delivery) ≡ packedListening out
+  unfolding packedListening
+  accepted-listening word last ew el =
+      ap₂ (λ (w : ℕ) (l : List ℕ). returnedListening w l (o .holdback) (o .verdicts) (o .delivery)) ew el ∙ ap packedListening e
+
+pub refused-listen : (i : Listening) → (listen i .number ≡ 0 → ⊥) → listen i ≡ notListened i (listen i .number)
+unfolding notListened listened
+refused-listen i h = go (firstNo (listenQuestions i)) refl
+  where
+    go : (k : ℕ) → firstNo (listenQuestions i) ≡ k → listen i ≡ notListened i (listen i .number)
+    go zero q = absurd (h (ap (λ (o : Listened). o .number) (listen-by i 0 q)))
+    go (suc k) q = listen-by i (suc k) q ∙ ap (notListened i) (sym (ap (λ (o : Listened). o .number) (listen-by i (suc k) q)))
 
 -- ---- a reader's answer, a station's or an engine's
 

@@ -8,6 +8,8 @@ use Rattle.model.specs.Timestamp.{fresh, widened}
 use Rattle.model.specs.Frame.{twoBytes}
 use Rattle.model.specs.Question.{Question, ask, firstNo, askSetup}
 use Rattle.model.specs.Long.{longBound, askLongSetup}
+use Rattle.model.specs.Schedule.{Wider}
+use Rattle.model.specs.WiderCalls.{freshInQuestions, freshIn}
 use Rattle.abi.specs.Packing.{tablesBytes, longTablesBytes}
 
 -- 01: 1 and 2, "in order; a no ends it"; `bound` is what the clock must be below
@@ -43,6 +45,14 @@ unfoldable pub longFreshBytes : Setup → ℕ → ℕ → List ℕ → List ℕ
 longFreshBytes s own clock tables =
     startBytes (longFreshNumber s own clock) (longTablesBytes (widened (fresh (s .epsilon) clock))) tables
 
--- the version 2.13.0: major, minor and patch in a byte each, the patch lowest
+-- 02, 2.10: with both pairs of limits 1, 19 and 2
+unfoldable pub freshInNumber : Setup → Wider → ℕ → ℕ → ℕ
+freshInNumber s w own clock = firstNo (freshInQuestions s w own clock)
+
+-- fresh tables, "of the width of that clock"
+unfoldable pub freshInBytes : Setup → Wider → ℕ → ℕ → List ℕ → List ℕ
+freshInBytes s w own clock tables = startBytes (freshInNumber s w own clock) (tablesBytes (widened (freshIn s w clock))) tables
+
+-- the version 2.13.1: major, minor and patch in a byte each, the patch lowest
 abbrev pub version : ℕ
-version = 134400
+version = 134401

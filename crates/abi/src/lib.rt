@@ -5,6 +5,7 @@ mod charging;
 mod counting;
 mod engine;
 mod packing;
+mod widening;
 
 use comparing::compare_call;
 use node::tick;
@@ -326,5 +327,5 @@ pub extern "C" fn yarngravel_fresh_last(
 pub extern "C" fn yarngravel_version() -> u32
     ensures { λ r. ⌜ r ≡ version ⌝ }
 {
-    0x020d00
+    0x020d01
 }

@@ -3,7 +3,7 @@ use Prim.Native.Nat.{ℕ, zero, suc, _+_, _-_, _%_, _≤_, _<_, compare, Orderin
 use native.Mathlib.Omega.{arith}
 use native.Mathlib.Nat.{add-mod-left}
 use mathlib.Core.Path.{_≡_, refl, sym, ap, ap₂, subst, _∙_}
-use mathlib.Core.List.{List, [], _∷_, _++_}
+use mathlib.Core.List.{List, [], _∷_}
 use mathlib.Core.Logic.{_⊎_, inl, inr}
 use lib.ListN.{length, getD, List·getD-append, List·getD-eq-default}
 use lib.Seq.{getD-append-add}
@@ -19,7 +19,7 @@ use Rattle.lemmas.proofs.Questions.{limits-from}
 use Rattle.lemmas.proofs.Counts.{length-down}
 use Rattle.lemmas.proofs.Queue.{reading-true}
 use Rattle.lemmas.proofs.Comparing.{keys-order, key-long, order-kept, at-count, at-station, at-r, at-end, reading-low}
-use Rattle.comparing.specs.Statements.{OldOrder, sumNear, countDown, CountDecided, Level, Decided, TrueReason, TrueClock}
+use Rattle.comparing.specs.Statements.{OldOrder, sumNear, countDown, Level, Decided, TrueReason, TrueClock}
 
 -- 02: "The order itself is the old one"
 pub old-order : OldOrder

@@ -2,5 +2,5 @@
 pub mod Deciding
 -- The questions of the call.
 pub mod Asking
--- For the proofs of this crate: a count named by its clock.
-mod Naming
+-- A count named by its clock.
+pub mod Naming

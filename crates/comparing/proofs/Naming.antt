@@ -7,7 +7,7 @@ use mathlib.Core.Logic.{_⊎_, inl, inr}
 use Rattle.model.specs.Setup.{Setup}
 use Rattle.model.specs.Timestamp.{sum}
 use Rattle.model.specs.Frame.{Frame}
-use Rattle.model.specs.Order.{keyBy, keyNear}
+use Rattle.model.specs.Order.{keyBy}
 use Rattle.model.specs.Comparison.{reasonAt, compareKeys, countClock, clocked, atClocks, compared, bySum, byCount, byStation, byR, byNothing, reasonNumber, reasonClock, compareBy}
 use Rattle.model.specs.Comparison as model
 use Rattle.lemmas.proofs.Comparing.{count-among}

@@ -12,7 +12,7 @@ ghost use Rattle.model.specs.Question.{firstNo};
 ghost use Rattle.model.specs.Comparison.{reasonNumber, reasonClock, compareQuestions, compareBy, compareCall};
 ghost use Rattle.setup.specs.Views.{setupOf};
 ghost use Rattle.timestamp.specs.Ranks.{reasonOf, comparisonOf};
-ghost use Rattle.comparing.specs.Answers.{compareAnswer};
+ghost use Rattle.comparing.specs.Answers.{compareAnswer, refusedCompare};
 
 // What the call answers.
 pub struct Compared {
@@ -68,7 +68,7 @@ fn reason_clock(reason: Reason) -> usize
 }
 
 // A comparison in numbers.
-fn numbers_of(comparison: Comparison) -> Compared
+pub fn numbers_of(comparison: Comparison) -> Compared
     ensures { λ r. ⌜ compareAnswer r ≡ compareBy 0 (comparisonOf comparison) ⌝ }
 {
     match comparison {
@@ -93,18 +93,25 @@ fn numbers_of(comparison: Comparison) -> Compared
     }
 }
 
+// 01: a refused one "answers the number alone".
+pub fn refused(number: u8) -> Compared
+    ensures { λ r. ⌜ compareAnswer r ≡ refusedCompare number ⌝ }
+{
+    Compared {
+        number,
+        order: 0,
+        reason: 0,
+        clock: 0,
+    }
+}
+
 // The comparison of two frames by their bytes.
 pub fn compare_call(setup: Setup, own: u32, clock: usize, first: &[u8], second: &[u8]) -> Compared
     ensures { λ r. ⌜ compareAnswer r ≡ compareCall (setupOf setup) own clock (now (first .entry)) (now (second .entry)) ⌝ }
 {
     let number = check_compare(setup, own, clock, first, second);
     if number != 0 {
-        return Compared {
-            number,
-            order: 0,
-            reason: 0,
-            clock: 0,
-        };
+        return refused(number);
     }
     numbers_of(compare_frames(setup, clock, first, second))
 }

@@ -39,7 +39,7 @@ fn at_clock(setup: Setup, clock: usize, sum: usize, reason: Reason) -> Reason
 }
 
 // The same comparison, with a count named by its clock.
-fn at_clocks(setup: Setup, clock: usize, sum: usize, comparison: Comparison) -> Comparison
+pub fn at_clocks(setup: Setup, clock: usize, sum: usize, comparison: Comparison) -> Comparison
     requires { ⌜ (inLimits (setupOf setup) ≡ true) × (clock < setup .modulus) ⌝ }
     requires { ⌜ Counted sum (comparisonOf comparison .reason) × (sum ≤ 2 ^ 18) ⌝ }
     ensures { λ o. ⌜ comparisonOf o ≡ atClocks (countClock (setupOf setup) clock sum) (comparisonOf comparison) ⌝ }

@@ -4,4 +4,7 @@ mod frames;
 
 pub use call::Compared;
 pub use call::compare_call;
+pub use call::numbers_of;
+pub use call::refused;
+pub use frames::at_clocks;
 pub use frames::compare_frames;

@@ -14,7 +14,7 @@ use Rattle.splice.specs.Bytes.{pasted, part, cleared, inserted, zeros}
 use Rattle.splice.proofs.Laws.{pasted-pieces, inserted-pieces, pasted-right, pasted-left}
 use Rattle.model.specs.Frame.{Frame, twoBytes, twoAt, encode, decode, wellFormed}
 use Rattle.model.specs.Holdback.{heldBytes, held, framesBy, encodeFrames, encodeHoldback}
-use Rattle.holdback.specs.Queue.{frameStart, bytesAt, frameAt, Spans}
+use Rattle.holdback.specs.Queue.{frameStart, bytesAt, frameAt, Spans, Written}
 use Rattle.holdback.proofs.RoundTrip.{Bytes, encode-decode}
 use Rattle.holdback.proofs.Frames.{heldBytes-tab, held-tab, FormedUpTo, take-start, start-within}
 use Rattle.holdback.proofs.Judging.{every-tab-at}
@@ -72,21 +72,6 @@ two-long x = refl
 pasted-front : (d s : List ℕ) → pasted d 0 s ≡ s ++ drop (length s) d
 unfolding pasted
 pasted-front d s = rw (zero-add (length s))
-
--- the frames of a queue behind its count, and where they end
-given-behind : (epsilon : ℕ) (d : List ℕ) → Pieces epsilon d (twoAt d 0) → drop 2 d ≡ joined encode (held epsilon d) ++ drop (frameStart epsilon d (twoAt d 0)) d
-unfolding twoBytes joined
-given-behind epsilon d g =
-    ap (drop 2) (g .split)
-    ∙ ap₂ (λ (a b : List Frame). joined encode a ++ (joined encode b ++ drop (frameStart epsilon d (twoAt d 0)) d))
-    (take-all (twoAt d 0) (held epsilon d) (omega (arith, length-held epsilon d))) (drop-of-length-le (held epsilon d) all)
-  where
-    all : length (held epsilon d) ≤ twoAt d 0
-    all = omega (arith, length-held epsilon d)
-
-given-ends : (epsilon : ℕ) (d : List ℕ) → Pieces epsilon d (twoAt d 0) → frameStart epsilon d (twoAt d 0) ≡ 2 + length (joined encode (held epsilon d))
-given-ends epsilon d g =
-    g .front ∙ ap (λ (l : List Frame). 2 + length (joined encode l)) (take-all (twoAt d 0) (held epsilon d) (omega (arith, length-held epsilon d)))
 
 -- ---- placing
 
@@ -162,76 +147,6 @@ module _ (epsilon : ℕ) (s : List ℕ) (k : ℕ) (p : Pieces epsilon s k) where
       omega (arith, p .front, p .back, ap length (joined-halves encode k q), length-append first others) in
       whole ∙ ap (λ (n : ℕ). encodeFrames q ++ drop n s) e
 
-  put-made : (f : Frame) (src l : List ℕ) → encode f ≡ src
-      → l ≡ pasted (inserted s end (frameStart epsilon s k) src) 0 (twoBytes (twoAt s 0 + 1))
-      → l ≡ overlay (encodeFrames (insertAt k f q)) s
-  unfolding encodeFrames
-  put-made f src l e made =
-      made
-      ∙ ap₂ (λ (r : List ℕ) (n : ℕ). pasted (inserted s end (frameStart epsilon s k) r) 0 (twoBytes (n + 1))) (sym e) (sym (length-held epsilon s))
-      ∙ put-frames encode q k f s (drop end s) (frameStart epsilon s k) end whole (p .front) (p .back)
-
-  -- ---- cutting off the first k frames
-
-  first-bytes : (n : ℕ) → n ≡ frameStart epsilon s k - 2 → take n (drop 2 s) ≡ first
-  unfolding twoBytes
-  first-bytes n e =
-      ap (λ (l : List ℕ). take n (drop 2 l)) (p .split) ∙ take-at first (others ++ drop end s) n (omega (arith, p .front))
-
-  other-bytes : (n : ℕ) → n ≡ end - frameStart epsilon s k → take n (drop (frameStart epsilon s k) s) ≡ others
-  unfolding twoBytes
-  other-bytes n e =
-      ap (λ (l : List ℕ). take n (drop (frameStart epsilon s k) l)) (p .split ∙ sym (append-assoc (twoBytes (twoAt s 0)) first (others ++ drop end s)))
-      ∙ ap (take n) (drop-at (twoBytes (twoAt s 0) ++ first) (others ++ drop end s) (frameStart epsilon s k) (omega (arith, p .front)))
-      ∙ take-at others (drop end s) n (omega (arith, p .back))
-
-  -- written to the delivery, behind the frames that it has
-  delivery-made : (d l : List ℕ) → Pieces epsilon d (twoAt d 0) → k ≤ twoAt s 0
-      → l ≡ pasted (pasted d 0 (twoBytes (twoAt d 0 + k))) (frameStart epsilon d (twoAt d 0)) (take (frameStart epsilon s k - 2) (drop 2 s))
-      → l ≡ overlay (encodeFrames (held epsilon d ++ take k q)) d
-  unfolding overlay encodeFrames
-  delivery-made d l g h made =
-      let n : ℕ = twoAt d 0 in
-      let given : List ℕ = joined encode (held epsilon d) in
-      let stop : ℕ = frameStart epsilon d n in
-      let c : List ℕ = twoBytes (n + k) in
-      let two : length c ≡ 2 = omega (arith, two-long (n + k)) in
-      let ends : stop ≡ length (c ++ given) = omega (arith, given-ends epsilon d g, length-append c given, two-long (n + k)) in
-      let more : pasted d 0 c ≡ pasted d 0 (c ++ given) =
-      pasted-front d c
-      ∙ ap (λ (r : List ℕ). c ++ r) (ap (λ (m : ℕ). drop m d) two ∙ given-behind epsilon d g)
-      ∙ sym (append-assoc c given (drop stop d))
-      ∙ ap (λ (m : ℕ). (c ++ given) ++ drop m d) ends
-      ∙ sym (pasted-front d (c ++ given)) in
-      let count : length (held epsilon d ++ take k q) ≡ n + k =
-      length-append (held epsilon d) (take k q) ∙ ap₂ _+_ (length-held epsilon d) (length-take-le k q (omega (arith, length-held epsilon s))) in
-      let whole : (c ++ given) ++ first ≡ encodeFrames (held epsilon d ++ take k q) =
-      append-assoc c given first ∙ sym (ap₂ (λ (m : ℕ) (r : List ℕ). twoBytes m ++ r) count (joined-append encode (held epsilon d) (take k q))) in
-      made
-      ∙ ap₂ (λ (a b : List ℕ). pasted a stop b) more (first-bytes (frameStart epsilon s k - 2) refl)
-      ∙ pasted-right d 0 (c ++ given) stop (ends ∙ sym (zero-add (length (c ++ given)))) first (omega arith)
-      ∙ pasted-front d ((c ++ given) ++ first)
-      ∙ ap (λ (r : List ℕ). r ++ drop (length r) d) whole
-
-  -- the others moved to the front
-  front-made : (l : List ℕ) → 2 ≤ length s
-      → l ≡ pasted (pasted s 2 (part s (frameStart epsilon s k) (end - frameStart epsilon s k))) 0 (twoBytes (twoAt s 0 - k))
-      → l ≡ overlay (encodeFrames (drop k q)) s
-  unfolding overlay encodeFrames
-  front-made l two made =
-      let count : length (drop k q) ≡ twoAt s 0 - k = length-drop k q ∙ ap (λ (n : ℕ). n - k) (length-held epsilon s) in
-      let c : List ℕ = twoBytes (twoAt s 0 - k) in
-      made
-      ∙ ap (λ (r : List ℕ). pasted (pasted s 2 r) 0 c) (other-bytes (end - frameStart epsilon s k) refl)
-      ∙ pasted-left s 0 c 2 (two-long (twoAt s 0 - k)) others two
-      ∙ pasted-front s (c ++ others)
-      ∙ sym (ap (λ (n : ℕ). overlay (twoBytes n ++ others) s) count)
-
-  -- where they then end
-  others-end : length (encodeFrames (drop k q)) ≡ end - (frameStart epsilon s k - 2)
-  unfolding encodeFrames twoBytes
-  others-end = omega (arith, p .front, p .back)
-
 -- ---- clearing what stands behind
 
 behind-cleared : (new old : List ℕ) (at : ℕ) → length new ≡ at → at ≤ length old → cleared (overlay new old) at (length old) ≡ padded (length old) new
@@ -261,60 +176,154 @@ pub cleared-empty : (s : List ℕ) → 2 ≤ length s → cleared s 0 (length s)
 unfolding encodeHoldback encodeFrames padded twoBytes joined
 cleared-empty s h = all-cleared s ∙ zeros-from (length s) h
 
--- ---- the same, as the code goes
+-- the frames of a buffer behind its count, and where they end
+frames-behind : {queue : List Frame} {d : List ℕ} {count stop index at : ℕ} → Written queue d count stop index at → drop 2 d ≡ joined encode queue ++ drop stop d
+unfolding overlay encodeFrames twoBytes
+frames-behind {queue} {d} w =
+    ap (drop 2) (w .front) ∙ ap (λ (n : ℕ). joined encode queue ++ drop n d) (sym (w .ends))
+
+-- ---- frames that are written at the front of a buffer
+
+module _ {queue : List Frame} {s : List ℕ} {count stop index at : ℕ} (w : Written queue s count stop index at) where
+  abbrev leading-bytes : List ℕ
+  leading-bytes = joined encode (take index queue)
+
+  abbrev other-bytes : List ℕ
+  other-bytes = joined encode (drop index queue)
+
+  at-is : at ≡ 2 + length leading-bytes
+  unfolding encodeFrames twoBytes
+  at-is = omega (arith, w .starts)
+
+  stop-is : stop ≡ at + length other-bytes
+  unfolding encodeFrames twoBytes
+  stop-is =
+      omega (arith, w .ends, at-is, ap length (joined-halves encode index queue), length-append leading-bytes other-bytes)
+
+  all-there : s ≡ encodeFrames queue ++ drop stop s
+  unfolding overlay
+  all-there = w .front ∙ ap (λ (n : ℕ). encodeFrames queue ++ drop n s) (sym (w .ends))
+
+  pub written-in : (2 ≤ at) × ((at ≤ stop) × (stop ≤ length s))
+  written-in =
+      (omega (arith, at-is), (omega (arith, stop-is), omega (arith, ap length all-there, length-append (encodeFrames queue) (drop stop s), w .ends)))
+
+  all-split : s ≡ twoBytes (length queue) ++ (leading-bytes ++ (other-bytes ++ drop stop s))
+  unfolding encodeFrames
+  all-split =
+      all-there
+      ∙ ap (λ (r : List ℕ). (twoBytes (length queue) ++ r) ++ drop stop s) (joined-halves encode index queue)
+      ∙ append-assoc (twoBytes (length queue)) (leading-bytes ++ other-bytes) (drop stop s)
+      ∙ ap (λ (r : List ℕ). twoBytes (length queue) ++ r) (append-assoc leading-bytes other-bytes (drop stop s))
+
+  -- a frame more
+  pub frame-put : (f : Frame) (frame a l : List ℕ) → encode f ≡ frame → a ≡ inserted s stop at frame → l ≡ pasted a 0 (twoBytes (count + 1))
+      → l ≡ overlay (encodeFrames (insertAt index f queue)) s
+  unfolding encodeFrames
+  frame-put f frame a l e moved count-is =
+      count-is
+      ∙ ap₂ (λ (r : List ℕ) (n : ℕ). pasted r 0 (twoBytes (n + 1))) (moved ∙ ap (inserted s stop at) (sym e)) (w .count-is)
+      ∙ put-frames encode queue index f s (drop stop s) at stop all-there at-is stop-is
+
+  -- the bytes of the first ones, and of the others
+  first-part : take (at - 2) (drop 2 s) ≡ leading-bytes
+  unfolding twoBytes
+  first-part =
+      ap (λ (l : List ℕ). take (at - 2) (drop 2 l)) all-split ∙ take-at leading-bytes (other-bytes ++ drop stop s) (at - 2) (omega (arith, at-is))
+
+  other-part : take (stop - at) (drop at s) ≡ other-bytes
+  unfolding twoBytes
+  other-part =
+      ap (λ (l : List ℕ). take (stop - at) (drop at l)) (all-split ∙ sym (append-assoc (twoBytes (length queue)) leading-bytes (other-bytes ++ drop stop s)))
+      ∙ ap (take (stop - at)) (drop-at (twoBytes (length queue) ++ leading-bytes) (other-bytes ++ drop stop s) at (omega (arith, at-is)))
+      ∙ take-at other-bytes (drop stop s) (stop - at) (omega (arith, stop-is))
+
+  -- the first ones written to the delivery, behind the frames that it has
+  pub frames-appended : {given : List Frame} {before stop′ : ℕ} (d a l : List ℕ) → Written given d before stop′ before stop′
+      → a ≡ pasted d 0 (twoBytes (before + index)) → l ≡ pasted a stop′ (take (at - 2) (drop 2 s))
+      → l ≡ overlay (encodeFrames (given ++ take index queue)) d
+  unfolding overlay encodeFrames
+  frames-appended {given} {before} {stop′} d a l g count-is copied =
+      let c : List ℕ = twoBytes (before + index) in
+      let old : List ℕ = joined encode given in
+      let two : length c ≡ 2 = omega (arith, two-long (before + index)) in
+      let ends : stop′ ≡ length (c ++ old) = omega (arith, g .ends, two-long (length given), length-append (twoBytes (length given)) old, length-append c old, two-long (before + index)) in
+      let behind : drop 2 d ≡ old ++ drop stop′ d = frames-behind g in
+      let more : pasted d 0 c ≡ pasted d 0 (c ++ old) =
+      pasted-front d c
+      ∙ ap (λ (r : List ℕ). c ++ r) (ap (λ (m : ℕ). drop m d) two ∙ behind)
+      ∙ sym (append-assoc c old (drop stop′ d))
+      ∙ ap (λ (m : ℕ). (c ++ old) ++ drop m d) ends
+      ∙ sym (pasted-front d (c ++ old)) in
+      let count-all : length (given ++ take index queue) ≡ before + index =
+      length-append given (take index queue) ∙ ap₂ _+_ (sym (g .count-is)) (length-take-le index queue (omega (arith, w .inside, w .count-is))) in
+      let all : (c ++ old) ++ leading-bytes ≡ encodeFrames (given ++ take index queue) =
+      append-assoc c old leading-bytes ∙ sym (ap₂ (λ (m : ℕ) (r : List ℕ). twoBytes m ++ r) count-all (joined-append encode given (take index queue))) in
+      copied
+      ∙ ap₂ (λ (x y : List ℕ). pasted x stop′ y) (count-is ∙ more) first-part
+      ∙ pasted-right d 0 (c ++ old) stop′ (ends ∙ sym (zero-add (length (c ++ old)))) leading-bytes (omega arith)
+      ∙ pasted-front d ((c ++ old) ++ leading-bytes)
+      ∙ ap (λ (r : List ℕ). r ++ drop (length r) d) all
+
+  -- the others moved to the front
+  pub frames-dropped : (a l : List ℕ) → a ≡ pasted s 2 (part s at (stop - at)) → l ≡ pasted a 0 (twoBytes (count - index))
+      → l ≡ overlay (encodeFrames (drop index queue)) s
+  unfolding overlay encodeFrames
+  frames-dropped a l moved count-is =
+      let left : length (drop index queue) ≡ count - index = length-drop index queue ∙ ap (λ (n : ℕ). n - index) (sym (w .count-is)) in
+      let c : List ℕ = twoBytes (count - index) in
+      count-is
+      ∙ ap (λ (r : List ℕ). pasted r 0 c) (moved ∙ ap (pasted s 2) other-part)
+      ∙ pasted-left s 0 c 2 (two-long (count - index)) other-bytes (omega (arith, written-in))
+      ∙ pasted-front s (c ++ other-bytes)
+      ∙ sym (ap (λ (n : ℕ). overlay (twoBytes n ++ other-bytes) s) left)
+
+  -- where they then end
+  left-end : length (encodeFrames (drop index queue)) ≡ stop - (at - 2)
+  unfolding encodeFrames twoBytes
+  left-end = omega (arith, at-is, stop-is)
+
+  -- and zeros behind them
+  pub frames-cut : (a l : List ℕ) → a ≡ overlay (encodeFrames (drop index queue)) s → l ≡ cleared a (stop - (at - 2)) (length s)
+      → l ≡ encodeHoldback (length s) (drop index queue)
+  unfolding encodeHoldback
+  frames-cut a l cut-out emptied =
+      emptied
+      ∙ ap (λ (r : List ℕ). cleared r (stop - (at - 2)) (length s)) cut-out
+      ∙ behind-cleared (encodeFrames (drop index queue)) s (stop - (at - 2)) left-end (omega (arith, written-in))
+
+-- ---- a queue whose frames are well-formed is one
 
 module _ {epsilon : ℕ} {s : List ℕ} {count stop index at : ℕ} (known : Spans epsilon s count stop index at) (bytes : Bytes s) where
   spans-pieces : Pieces epsilon s index
   spans-pieces =
       pieces epsilon s bytes (known .two) (formed-frames epsilon s (known .formed)) index (omega (arith, known .count-is, known .inside))
 
-  stop-is : stop ≡ frameStart epsilon s (twoAt s 0)
-  stop-is = known .ends ∙ ap (frameStart epsilon s) (known .count-is)
+  starts-at : frameStart epsilon s index ≡ length (encodeFrames (take index (held epsilon s)))
+  unfolding encodeFrames twoBytes
+  starts-at = omega (arith, spans-pieces .front)
 
-  index-in : index ≤ twoAt s 0
-  index-in = omega (arith, known .count-is, known .inside)
+  ends-at : stop ≡ length (encodeFrames (held epsilon s))
+  unfolding encodeFrames twoBytes
+  ends-at =
+      omega (
+        arith,
+        known .ends ∙ ap (frameStart epsilon s) (known .count-is),
+        spans-pieces .front,
+        spans-pieces .back,
+        ap length (joined-halves encode index (held epsilon s)),
+        length-append (joined encode (take index (held epsilon s))) (joined encode (drop index (held epsilon s))),
+      )
+
+  pub spans-written : Written (held epsilon s) s count stop index at
+  spans-written =
+      record {
+        front = written-over epsilon s index spans-pieces;
+        count-is = known .count-is ∙ sym (length-held epsilon s);
+        ends = ends-at;
+        inside = known .inside;
+        starts = known .starts ∙ starts-at;
+      }
 
   pub located : (2 ≤ at) × ((at ≤ stop) × (stop ≤ length s))
-  located =
-      let p = spans-pieces in
-      (omega (arith, p .front, known .starts), (omega (arith, p .back, known .starts, stop-is), omega (arith, p .ends, stop-is)))
-
-  pub put-placed : (frame a l : List ℕ) → Bytes frame → wellFormed epsilon frame ≡ true → a ≡ inserted s stop at frame
-      → l ≡ pasted a 0 (twoBytes (count + 1)) → l ≡ overlay (encodeFrames (insertAt index (decode epsilon frame) (held epsilon s))) s
-  unfolding twoBytes
-  put-placed frame a l clean well moved count-is =
-      put-made epsilon s index spans-pieces (decode epsilon frame) frame l (encode-decode epsilon frame clean well)
-      (count-is
-      ∙ ap₂ (λ (r : List ℕ) (n : ℕ). pasted r 0 (twoBytes (n + 1)))
-      (moved ∙ ap₂ (λ (n m : ℕ). inserted s n m frame) stop-is (known .starts)) (known .count-is))
-
-  pub prefix-appended : {before stop′ : ℕ} (d a l : List ℕ) → Spans epsilon d before stop′ before stop′ → Bytes d
-      → a ≡ pasted d 0 (twoBytes (before + index)) → l ≡ pasted a stop′ (take (at - 2) (drop 2 s))
-      → l ≡ overlay (encodeFrames (held epsilon d ++ take index (held epsilon s))) d
-  unfolding twoBytes
-  prefix-appended d a l given clean count-is copied =
-      delivery-made epsilon s index spans-pieces d l
-      (pieces epsilon d clean (given .two) (formed-frames epsilon d (given .formed)) (twoAt d 0) (omega arith)) index-in
-      (copied
-      ∙ ap₂ (λ (r : List ℕ) (n : ℕ). pasted r n (take (at - 2) (drop 2 s)))
-      (count-is ∙ ap (λ (n : ℕ). pasted d 0 (twoBytes (n + index))) (given .count-is)) (given .ends ∙ ap (frameStart epsilon d) (given .count-is))
-      ∙ ap (λ (n : ℕ). pasted (pasted d 0 (twoBytes (twoAt d 0 + index))) (frameStart epsilon d (twoAt d 0)) (take (n - 2) (drop 2 s))) (known .starts))
-
-  pub front-cut : (a l : List ℕ) → a ≡ pasted s 2 (part s at (stop - at)) → l ≡ pasted a 0 (twoBytes (count - index))
-      → l ≡ overlay (encodeFrames (drop index (held epsilon s))) s
-  unfolding twoBytes
-  front-cut a l moved count-is =
-      front-made epsilon s index spans-pieces l (known .two)
-      (count-is
-      ∙ ap₂ (λ (r : List ℕ) (n : ℕ). pasted r 0 (twoBytes (n - index))) moved (known .count-is)
-      ∙ ap₂ (λ (n m : ℕ). pasted (pasted s 2 (part s m (n - m))) 0 (twoBytes (twoAt s 0 - index))) stop-is (known .starts))
-
-  pub prefix-cut : (a l : List ℕ) → a ≡ overlay (encodeFrames (drop index (held epsilon s))) s → l ≡ cleared a (stop - (at - 2)) (length s)
-      → l ≡ encodeHoldback (length s) (drop index (held epsilon s))
-  unfolding encodeHoldback
-  prefix-cut a l cut-out emptied =
-      let ends : length (encodeFrames (drop index (held epsilon s))) ≡ stop - (at - 2) =
-      others-end epsilon s index spans-pieces ∙ ap₂ (λ (n m : ℕ). n - (m - 2)) (sym stop-is) (sym (known .starts)) in
-      emptied
-      ∙ ap (λ (r : List ℕ). cleared r (stop - (at - 2)) (length s)) cut-out
-      ∙ behind-cleared (encodeFrames (drop index (held epsilon s))) s (stop - (at - 2)) ends (omega (arith, located))
+  located = written-in spans-written

@@ -73,7 +73,7 @@ module _ (s : Setup) (v least : ℕ) (queue : List ℕ) (sound : soundHoldback s
 
 -- ---- the marks
 
-apart-drop : (i : ℕ) (l : List Frame) → apart sameOrigin l ≡ true → apart sameOrigin (drop i l) ≡ true
+pub apart-drop : (i : ℕ) (l : List Frame) → apart sameOrigin l ≡ true → apart sameOrigin (drop i l) ≡ true
 unfolding apart
 apart-drop zero l h = h
 apart-drop (suc i) [] h = refl

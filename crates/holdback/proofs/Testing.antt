@@ -115,12 +115,12 @@ pub key-ranked : (s : Setup) (v : ℕ) (f : Frame) (rank : Rank) (kn : List ℕ)
 unfolding keyNear key
 key-ranked s v f rank kn er ek = key-read (s .epsilon) (readingOf s v f) f rank kn er ek
 
-less-first : (tags : Tags) (o : Comparison) → tags .tag o ≡ 0 → true ≡ isLess (comparisonOf o .order)
+pub less-first : (tags : Tags) (o : Comparison) → tags .tag o ≡ 0 → true ≡ isLess (comparisonOf o .order)
 less-first tags (First reason) t = refl
 less-first tags (Second reason) t = absurd (omega (arith, tags .at-second reason))
 less-first tags Alike t = absurd (omega (arith, tags .at-alike))
 
-less-not : (tags : Tags) (o : Comparison) → (tags .tag o ≡ 1) ⊎ (tags .tag o ≡ 2) → false ≡ isLess (comparisonOf o .order)
+pub less-not : (tags : Tags) (o : Comparison) → (tags .tag o ≡ 1) ⊎ (tags .tag o ≡ 2) → false ≡ isLess (comparisonOf o .order)
 less-not tags (First reason) (inl t) = absurd (omega (arith, tags .at-first reason))
 less-not tags (First reason) (inr t) = absurd (omega (arith, tags .at-first reason))
 less-not tags (Second reason) t = refl

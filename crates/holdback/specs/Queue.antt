@@ -5,10 +5,10 @@ use mathlib.Core.Path.{_≡_}
 use mathlib.Core.Bool.{Bool, true}
 use mathlib.Core.List.{List}
 use lib.ListN.{length, take, drop}
-use Rattle.laws.specs.Lists.{every}
+use Rattle.laws.specs.Lists.{every, overlay}
 use Rattle.laws.specs.Lex.{lexCompare, isLess}
 use Rattle.model.specs.Frame.{Frame, twoAt, countsOf, wellFormed, decode, frameEnd}
-use Rattle.model.specs.Holdback.{heldBytes}
+use Rattle.model.specs.Holdback.{heldBytes, encodeFrames}
 use Rattle.model.specs.Setup.{Setup}
 use Rattle.model.specs.Order.{readingOf, keyBy}
 use Rattle.timestamp.specs.declared.ordering.Rank.{Rank}
@@ -39,6 +39,14 @@ pub record Spans (epsilon : ℕ) (queue : List ℕ) (count end index at : ℕ) :
   pub ends : end ≡ frameStart epsilon queue count
   pub inside : index ≤ count
   pub starts : at ≡ frameStart epsilon queue index
+
+-- the same of frames of any form, as they are written at the front of a buffer
+pub record Written (queue : List Frame) (buffer : List ℕ) (count end index at : ℕ) : Type 0 where
+  pub front : buffer ≡ overlay (encodeFrames queue) buffer
+  pub count-is : count ≡ length queue
+  pub ends : end ≡ length (encodeFrames queue)
+  pub inside : index ≤ count
+  pub starts : at ≡ length (encodeFrames (take index queue))
 
 -- a place in a queue: so many frames stand before it, and where it stands
 pub record Stands (epsilon : ℕ) (queue : List ℕ) (place index at : ℕ) : Type 0 where

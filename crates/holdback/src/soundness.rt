@@ -37,7 +37,7 @@ pub struct Walk {
     pub end: usize,
 }
 
-fn emptied() -> Walk
+pub fn emptied() -> Walk
     ensures { λ r. ⌜ r ≡ emptied ⌝ }
 {
     Walk {

@@ -40,14 +40,14 @@ module _ (s : Setup) (v least : ℕ) (buffer buffer₁ : List ℕ) (opened : lon
       → buffer₃ ≡ longEncodeHoldback (length buffer₂) (keptFrames s v (longHeld (s .epsilon) buffer₂))
       → AttendedQueue s v least batch buffer verdicts delivery emptied took delivered buffer₃ verdicts₂ delivery₃
   attended-queue {batch} {verdicts} {delivery} {buffer₂ = buffer₂} repaired g number given kept =
-      let queue-is : longHeld (s .epsilon) buffer₂ ≡ attendedAll s v least batch buffer .queue = g .queue ∙ ap (λ (h : Heard). h .queue) (all batch) in
+      let queue-is : longHeld (s .epsilon) buffer₂ ≡ attendedAll s v least batch buffer .queue = g .buffers .queue ∙ ap (λ (h : Heard). h .queue) (all batch) in
       record {
         repaired = repaired;
-        taken-is = g .taken-is ∙ ap (λ (h : Heard). takenCount (h .verdicts)) (all batch);
+        taken-is = g .buffers .taken-is ∙ ap (λ (h : Heard). takenCount (h .verdicts)) (all batch);
         count-is = number ∙ ap (λ (q : List Frame). length (dueFrames s v q)) queue-is;
         kept =
             kept ∙ ap₂ (λ (n : ℕ) (q : List Frame). longEncodeHoldback n (keptFrames s v q)) (g .holding .extent .sized) queue-is;
-        numbers = g .numbers ∙ ap (λ (h : Heard). overlay (h .verdicts) verdicts) (all batch);
+        numbers = g .buffers .numbers ∙ ap (λ (h : Heard). overlay (h .verdicts) verdicts) (all batch);
         given = given ∙ ap (λ (q : List Frame). overlay (longEncodeFrames (dueFrames s v q)) delivery) queue-is;
       }
 

@@ -6,7 +6,7 @@ use mathlib.Core.Bool.{true}
 use mathlib.Core.List.{List, [], _∷_, _++_}
 use lib.ListN.{length, take, drop, set}
 use Rattle.laws.specs.Lists.{apart, overlay}
-use Rattle.laws.proofs.Lists.{insertAt-end, overlay-hides}
+use Rattle.laws.proofs.Lists.{insertAt-end}
 use Rattle.laws.proofs.Sorted.{apart-insertAt}
 use Rattle.model.specs.Setup.{Setup, width}
 use Rattle.model.specs.Timestamp.{Timestamp, trimmed, widened}
@@ -20,7 +20,7 @@ use Rattle.lemmas.proofs.Queue.{origin-sym}
 use Rattle.lemmas.proofs.LongTick.{long-taken, long-one-verdict}
 use Rattle.batch.specs.Walk.{countOf, entryAt, nextAt}
 use Rattle.longqueue.specs.Queue.{Extent}
-use Rattle.node.proofs.HearTurns.{sofar, HearTurning, hear-start, hear-refused, hear-taken, Adding, written-last, heard-queue, heard-numbers, heard-taken}
+use Rattle.node.proofs.HearTurns.{sofar, hear-start, Adding, written-last, LaidTurning, laid-refused, laid-taken, laid-end}
 use Rattle.node.proofs.StampTurns.{Share, StampTurning, stamp-end}
 use Rattle.long.specs.States.{Holding, heardWith, HeardQueue}
 
@@ -28,13 +28,12 @@ use Rattle.long.specs.States.{Holding, heardWith, HeardQueue}
 
 -- this half of the loop's invariant, at entry i, whose length stands at `at`
 pub record QueueTurning (s : Setup) (v : ℕ) (batch buffer₀ verdicts₀ : List ℕ) (took count stop at i : ℕ) (buffer verdicts : List ℕ) : Type 0 where
-  pub heard : HearTurning (longHearOne s v) (longHeld (s .epsilon) buffer₀) batch verdicts₀ (longHeld (s .epsilon) buffer) took at i verdicts
+  pub turn : LaidTurning (longHearOne s v) (longHeld (s .epsilon)) longEncodeFrames batch buffer₀ verdicts₀ took at i buffer verdicts
   pub holding : Holding s buffer count stop
-  pub laid : buffer ≡ overlay (longEncodeFrames (longHeld (s .epsilon) buffer)) buffer₀
 
 pub queue-start : {s : Setup} {v count stop : ℕ} {batch buffer verdicts : List ℕ} → exactBatch batch ≡ true → Holding s buffer count stop
     → QueueTurning s v batch buffer verdicts 0 count stop 1 0 buffer verdicts
-queue-start exact holding = record { heard = hear-start exact; holding = holding; laid = holding .extent .written }
+queue-start exact holding = record { turn = record { heard = hear-start exact; laid = holding .extent .written }; holding = holding }
 
 -- one entry heard, by its number
 refused-one : (s : Setup) (v : ℕ) (queue : List Frame) (done bytes : List ℕ) (x : ℕ) → x ≡ firstNo (longQuestions s v queue bytes) → (x ≡ 0 → ⊥)
@@ -56,9 +55,8 @@ module _ {s : Setup} {v : ℕ} {batch buffer₀ verdicts₀ : List ℕ} {took co
       → QueueTurning s v batch buffer₀ verdicts₀ took count stop at′ (i + 1) buffer (set verdicts i x)
   queue-refused {x} e h =
       record {
-        heard = hear-refused (u .heard) more few entry step h (refused-one s v (longHeld (s .epsilon) buffer) (take i verdicts) bytes x e h);
+        turn = laid-refused (u .turn) more few entry step h (refused-one s v (longHeld (s .epsilon) buffer) (take i verdicts) bytes x e h);
         holding = u .holding;
-        laid = u .laid;
       }
 
   pub queue-taken : {buffer′ : List ℕ} {x : ℕ} → x ≡ 0 → 1 ≤ s .epsilon → 0 ≡ firstNo (longQuestions s v (longHeld (s .epsilon) buffer) bytes)
@@ -70,24 +68,18 @@ module _ {s : Setup} {v : ℕ} {batch buffer₀ verdicts₀ : List ℕ} {took co
       let queue : List Frame = longHeld (s .epsilon) buffer in
       let f : Frame = longDecode (s .epsilon) bytes in
       let new = long-taken s v queue bytes some (sym e) .new in
-      let behind : longHeld (s .epsilon) buffer′ ≡ queue ++ (f ∷ []) = held in
-      let longer : List ℕ = longEncodeFrames (queue ++ (f ∷ [])) in
-      let size : length longer ≡ stop + length bytes = sym (extent .end-is ∙ ap (λ (q : List Frame). length (longEncodeFrames q)) behind) in
-      let hidden : overlay longer buffer ≡ overlay longer buffer₀ =
-      ap (overlay longer) (u .laid) ∙ overlay-hides longer (longEncodeFrames queue) buffer₀ (omega (arith, size, u .holding .extent .end-is)) in
+      let size : length (longEncodeFrames (queue ++ (f ∷ []))) ≡ stop + length bytes = sym (extent .end-is ∙ ap (λ (q : List Frame). length (longEncodeFrames q)) held) in
       subst (λ (k : ℕ). QueueTurning s v batch buffer₀ verdicts₀ (took + 1) (count + 1) (stop + length bytes) at′ (i + 1) buffer′ (set verdicts i k)) (sym zeros)
       record {
-        heard =
-            hear-taken (u .heard) more few entry step
-            (taken-one s v queue (take i verdicts) bytes e ∙ ap (λ (q : List Frame). sofar q (take i verdicts ++ (0 ∷ []))) (sym behind));
+        turn =
+            laid-taken (u .turn) more few entry step (taken-one s v queue (take i verdicts) bytes e) held put (omega (arith, size, u .holding .extent .end-is));
         holding =
             record {
               extent = extent;
               single =
-                  ap (apart sameOrigin) (behind ∙ sym (insertAt-end f queue))
+                  ap (apart sameOrigin) (held ∙ sym (insertAt-end f queue))
                   ∙ apart-insertAt sameOrigin origin-sym (length queue) f queue new (u .holding .single);
             };
-        laid = put ∙ hidden ∙ ap (λ (q : List Frame). overlay (longEncodeFrames q) buffer₀) (sym behind);
       }
 
 -- the verdicts of all entries have the one that was written last at its place
@@ -98,20 +90,13 @@ pub queue-written : {s : Setup} {v : ℕ} {batch buffer₀ verdicts₀ : List �
     → QueueTurning s v batch buffer₀ verdicts₀ took count stop at (i + 1) buffer (set verdicts i x) → i < length verdicts
     → drop i (heardWith s v (longHeld (s .epsilon) buffer₀) batch .verdicts) ≡ x ∷ drop (i + 1) (heardWith s v (longHeld (s .epsilon) buffer₀) batch .verdicts)
 unfolding longHear
-queue-written {s} {v} verdicts i x u inside = written-last (hearer-adds s v) verdicts i x (u .heard) inside
+queue-written {s} {v} verdicts i x u inside = written-last (hearer-adds s v) verdicts i x (u .turn .heard) inside
 
 pub queue-end : {s : Setup} {v : ℕ} {batch buffer₀ verdicts₀ : List ℕ} {took count stop at i : ℕ} {buffer verdicts : List ℕ}
     → QueueTurning s v batch buffer₀ verdicts₀ took count stop at i buffer verdicts → countOf batch ≤ i → countOf batch ≤ length verdicts₀
     → HeardQueue s v batch buffer₀ verdicts₀ took count stop buffer verdicts
 unfolding longHear
-queue-end {buffer₀ = buffer₀} u h few =
-    record {
-      holding = u .holding;
-      buffer-is = u .laid ∙ ap (λ (q : List Frame). overlay (longEncodeFrames q) buffer₀) (heard-queue (u .heard) h few);
-      queue = heard-queue (u .heard) h few;
-      numbers = heard-numbers (u .heard) h few;
-      taken-is = heard-taken (u .heard) h few;
-    }
+queue-end u h few = record { holding = u .holding; buffers = laid-end (u .turn) h few }
 
 -- ---- what is absorbed
 

@@ -17,7 +17,7 @@ use Rattle.model.specs.Judge.{Heard}
 use Rattle.model.specs.Tick.{takenCount}
 use Rattle.model.specs.Long.{longBound, longLimits, longEncode, longFrameQuestions, longBefore, longHoldbackSize, longHeld, longSoundHoldback, longEncodeFrames, longEncodeHoldback, longHear, longAbsorbAll, longTablesSound, longLeastDue, longDueBy}
 use Rattle.longqueue.specs.Queue.{Extent}
-use Rattle.node.specs.States.{Hearing}
+use Rattle.node.specs.States.{Hearing, HeardBuffers}
 
 -- a call that has passed 1 and 2
 pub record Timed (s : Setup) (v : ℕ) : Type 0 where
@@ -59,10 +59,7 @@ pub record Holding (s : Setup) (buffer : List ℕ) (count stop : ℕ) : Type 0 w
 -- what is held, with every byte of its buffer, and the verdicts
 pub record HeardQueue (s : Setup) (v : ℕ) (batch buffer verdicts : List ℕ) (took count stop : ℕ) (buffer′ verdicts′ : List ℕ) : Type 0 where
   pub holding : Holding s buffer′ count stop
-  pub buffer-is : buffer′ ≡ overlay (longEncodeFrames (heardWith s v (longHeld (s .epsilon) buffer) batch .queue)) buffer
-  pub queue : longHeld (s .epsilon) buffer′ ≡ heardWith s v (longHeld (s .epsilon) buffer) batch .queue
-  pub numbers : verdicts′ ≡ overlay (heardWith s v (longHeld (s .epsilon) buffer) batch .verdicts) verdicts
-  pub taken-is : took ≡ takenCount (heardWith s v (longHeld (s .epsilon) buffer) batch .verdicts)
+  pub buffers : HeardBuffers (longHeld (s .epsilon)) longEncodeFrames (heardWith s v (longHeld (s .epsilon) buffer) batch) buffer verdicts took buffer′ verdicts′
 
 -- what goes into the stamp, by the verdicts
 pub record HeardStamp (s : Setup) (v : ℕ) (t : Timestamp) (batch buffer : List ℕ) (t′ : Timestamp) : Type 0 where

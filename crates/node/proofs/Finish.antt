@@ -1,31 +1,29 @@
 -- The tick from its parts: what is opened, heard, count-is, sent and delivered is the model's tick. Assumes nothing.
-use Prim.Native.Nat.{ℕ, zero, suc, _+_, _≤_}
+use Prim.Native.Nat.{ℕ, zero, suc, _+_, _*_, _≤_, _<_}
 use native.Mathlib.Omega.{arith}
 use mathlib.Core.Path.{_≡_, refl, sym, ap, ap₂, subst, _∙_}
-use mathlib.Core.Bool.{Bool, true, false, _&&_, not, cond}
-use mathlib.Core.List.{List, [], _++_}
-use lib.Dec.{leb, ltb, eqb}
+use mathlib.Core.Bool.{Bool, true, false, cond}
+use mathlib.Core.List.{List, []}
 use lib.ListN.{length, getD}
-use borrow.Author.Tests.{leb-true, eqb-true}
-use Rattle.laws.specs.Lists.{select, overlay}
-use Rattle.laws.proofs.Numbers.{and-left, and-right}
+use Rattle.laws.specs.Lists.{overlay}
+use Rattle.laws.proofs.Numbers.{and-left}
 use Rattle.laws.proofs.Lists.{getD-padded}
-use Rattle.model.specs.Setup.{Setup, inLimits, isMember, widest, longestFrame, longestPayload, verdictLength}
+use Rattle.model.specs.Setup.{Setup, inLimits, width, widest, verdictLength}
 use Rattle.model.specs.Timestamp.{Timestamp, trimmed, widened, clockStep, step, replaced, countOwn}
 use Rattle.model.specs.Frame.{Frame, encode}
 use Rattle.model.specs.Batch.{exactBatch, batchEntries}
 use Rattle.model.specs.Holdback.{soundHoldback, encodeFrames, encodeHoldback}
-use Rattle.model.specs.Question.{firstNo, askSetup}
-use Rattle.model.specs.Codec.{askPayload, frameOf}
+use Rattle.model.specs.Question.{firstNo}
+use Rattle.model.specs.Codec.{frameOf}
 use Rattle.model.specs.Judge.{Heard, absorbAll}
-use Rattle.model.specs.Tick.{Input, holdbackSize, roomy, callQuestions, refusal, tablesSound, stepOf, leastAfter, leastDue, holdbackSound, repairOf, openingStamp, openedQueue, overdueOf, heardOf, heardStamp, newStamp, sentBytes, dueNow, deliveredOf, keptOf, takenCount, acceptance, tick}
-use Rattle.lemmas.proofs.Bounds.{Limits}
-use Rattle.lemmas.proofs.Questions.{first-yes, other-yes}
+use Rattle.model.specs.Tick.{Input, holdbackSize, callQuestions, refusal, tablesSound, stepOf, leastAfter, leastDue, holdbackSound, repairOf, openingStamp, openedQueue, overdueOf, heardOf, heardStamp, newStamp, sentBytes, deliveredOf, keptOf, acceptedWith, acceptance, tick}
+use Rattle.lemmas.proofs.Bounds.{Limits, Opened}
 use Rattle.lemmas.proofs.Counts.{count-zero, tables-clock, trimmed-same, trimmed-widened}
 use Rattle.lemmas.proofs.OneTick.{Accepted, passes-questions, tick-by, opening-stamp, absorbing-end, new-sound}
 use Rattle.frame.specs.Lay.{Room, Laid}
+use Rattle.node.proofs.Calls.{Sized, sized-passed, sized-asked}
 use Rattle.node.specs.Views.{questionsFor}
-use Rattle.node.specs.States.{Timed, LastClock, ClockOpened, StampOpened, overdueOnes, absorbedFor, Sent, bytesToSend, Attending, attendedAll, attendedFrames, AttendedQueue, AttendedStamp}
+use Rattle.node.specs.States.{Timed, LastClock, ClockOpened, StampOpened, absorbedFor, Sent, bytesToSend, Attending, attendedAll, AttendedWith, AttendedQueue, AttendedStamp}
 
 -- ---- the tables opened
 
@@ -84,23 +82,16 @@ pub record Call (i : Input) : Type 0 where
   pub delivery-room : holdbackSize (i .setup) ≤ length (i .delivery)
 
 pub call-passed : (i : Input) → firstNo (callQuestions i) ≡ 0 → Call i
-unfolding callQuestions askSetup askPayload roomy
 call-passed i e =
-    let valid : Bool = inLimits (i .setup) && isMember (i .setup) (i .own) in
-    let e₁ = other-yes valid 0 _ e in
-    let e₂ = other-yes (ltb (i .clock) (i .setup .modulus)) 1 _ e₁ in
-    let e₃ = other-yes (eqb (length (i .holdback)) (holdbackSize (i .setup))) 2 _ e₂ in
-    let e₄ = other-yes (leb (length (i .payload)) longestPayload) 3 _ e₃ in
-    let e₅ = other-yes (exactBatch (i .batch)) 4 _ e₄ in
-    let room : roomy i ≡ true = first-yes (roomy i) 5 _ e₅ in
-    let rest = and-right (leb (longestFrame (i .setup .epsilon)) (length (i .outgoing))) _ room in
+    let (valid, asked) = sized-asked i e in
+    let z : Sized (i .setup) i = sized-passed (i .setup) i asked in
     record {
-      limits-test = and-left (inLimits (i .setup)) _ (first-yes valid 0 _ e);
+      limits-test = and-left (inLimits (i .setup)) _ valid;
       accepted = passes-questions i e;
-      size = eqb-true (length (i .holdback)) (holdbackSize (i .setup)) (first-yes (eqb (length (i .holdback)) (holdbackSize (i .setup))) 2 _ e₂);
-      exact = first-yes (exactBatch (i .batch)) 4 _ e₄;
-      verdicts-room = leb-true verdictLength (length (i .verdicts)) (and-left (leb verdictLength (length (i .verdicts))) _ rest);
-      delivery-room = leb-true (holdbackSize (i .setup)) (length (i .delivery)) (and-right (leb verdictLength (length (i .verdicts))) _ rest);
+      size = z .size;
+      exact = z .exact;
+      verdicts-room = z .verdicts-room;
+      delivery-room = z .delivery-room;
     }
 
 pub call-timed : (i : Input) → Call i → Timed (i .setup) (i .clock)
@@ -122,10 +113,6 @@ callLeast i = leastDue (i .setup) (i .clock) (i .tables)
 heard-same : (i : Input) → attendedAll false (i .setup) (i .clock) (callLeast i) (i .batch) (i .holdback) ≡ heardOf i
 unfolding heardOf openedQueue questionsFor
 heard-same i = refl
-
-overdue-same : (i : Input) → overdueOnes (i .setup) (i .clock) (callLeast i) (i .holdback) ≡ overdueOf i
-unfolding overdueOf openedQueue
-overdue-same i = refl
 
 -- what it shares with an observer's, by the name of the least due clock
 pub call-queue : (i : Input) {t₁ : Timestamp} {least repair emptied took delivered : ℕ} {buffer verdicts delivery : List ℕ} → StampOpened (i .setup) (i .clock) (i .tables) t₁ least repair
@@ -149,17 +136,56 @@ pub call-repair : (i : Input) {t₁ : Timestamp} {least repair emptied : ℕ} �
 unfolding repairOf holdbackSound
 call-repair i o e = rw (o .repaired, e, o .least-is)
 
--- the own event fits
-pub own-room : (i : Input) {t : Timestamp} → Call i → t ≡ widened (heardStamp i) → getD (t .kn) (i .setup .epsilon) 0 ≤ 254
-unfolding widened
-own-room i {t} c h =
-    let same : getD (t .kn) (i .setup .epsilon) 0 ≡ getD (heardStamp i .kn) (i .setup .epsilon) 0 =
-    ap (λ (x : Timestamp). getD (x .kn) (i .setup .epsilon) 0) h ∙ getD-padded widest (heardStamp i .kn) (i .setup .epsilon) in
-    omega (arith, count-zero (heardStamp i .kn) (i .setup .epsilon), absorbing-end i (c .accepted) .opened .most (i .setup .epsilon), c .accepted .limits .n-most)
+-- ---- a stamp of 2ε counts in the code's places
 
--- the stamp that has absorbed what was taken, and its places past the 2ε counts, which are 0
+module _ (epsilon : ℕ) (x : Timestamp) {t : Timestamp} (small : epsilon ≤ 16) (wide : length (x .kn) ≡ width epsilon) (places : t ≡ widened x) where
+  pub places-trimmed : trimmed epsilon t ≡ x
+  places-trimmed = ap (trimmed epsilon) places ∙ trimmed-widened epsilon x small wide
+
+  -- the places past the counts are 0
+  pub places-narrow : t ≡ widened (trimmed epsilon t)
+  places-narrow = places ∙ ap widened (sym places-trimmed)
+
+  -- the own event fits
+  pub places-own : (n : ℕ) → n ≤ 16 → Opened n epsilon x → getD (t .kn) epsilon 0 ≤ 254
+  unfolding widened
+  places-own n few o =
+      let same : getD (t .kn) epsilon 0 ≡ getD (x .kn) epsilon 0 = ap (λ (y : Timestamp). getD (y .kn) epsilon 0) places ∙ getD-padded widest (x .kn) epsilon in
+      omega (arith, count-zero (x .kn) epsilon, o .most epsilon)
+
+  -- the frame that is sent carries it
+  pub places-sent : (own : ℕ) (send : Bool) (payload : List ℕ) → bytesToSend epsilon own t send payload ≡ cond send (encode (frameOf epsilon own x payload)) []
+  unfolding bytesToSend frameOf
+  places-sent own send payload =
+      ap (λ (y : Timestamp). cond send (encode (record { station = own; stamp = y; payload = payload })) [])
+      (places-trimmed ∙ sym (trimmed-same epsilon x wide))
+
+-- it can be sent: each number fits its bytes, and there is room
+pub places-room : (epsilon own : ℕ) {t : Timestamp} (x : Timestamp) (payload outgoing : List ℕ) → t ≡ widened x → epsilon ≤ 16 → own < 16 → x .r < 65536 → x .c < epsilon
+    → length payload ≤ 32 → 39 + 2 * epsilon ≤ length outgoing → Room epsilon own t payload outgoing
+unfolding widened
+places-room epsilon own {t} x payload outgoing places small few r-below close short room =
+    let r-is : t .r ≡ x .r = ap (λ (y : Timestamp). y .r) places in
+    let c-is : t .c ≡ x .c = ap (λ (y : Timestamp). y .c) places in
+    record {
+      narrow = small;
+      station-fits = omega arith;
+      r-fits = omega arith;
+      c-fits = omega arith;
+      payload-fits = omega arith;
+      room = omega arith;
+    }
+
+-- ---- the same in a call
+
+pub own-room : (i : Input) {t : Timestamp} → Call i → t ≡ widened (heardStamp i) → getD (t .kn) (i .setup .epsilon) 0 ≤ 254
+own-room i c h =
+    let lim = c .accepted .limits in
+    let o = absorbing-end i (c .accepted) .opened in
+    places-own (i .setup .epsilon) (heardStamp i) (lim .epsilon-most) (o .wide) h (i .setup .n) (lim .n-most) o
+
 heard-trimmed : (i : Input) {t : Timestamp} → Call i → t ≡ widened (heardStamp i) → trimmed (i .setup .epsilon) t ≡ heardStamp i
-heard-trimmed i c h = ap (trimmed (i .setup .epsilon)) h ∙ trimmed-widened (i .setup .epsilon) (heardStamp i) (c .accepted .limits .epsilon-most) (absorbing-end i (c .accepted) .opened .wide)
+heard-trimmed i c h = places-trimmed (i .setup .epsilon) (heardStamp i) (c .accepted .limits .epsilon-most) (absorbing-end i (c .accepted) .opened .wide) h
 
 pub heard-narrow : (i : Input) {t : Timestamp} → Call i → t ≡ widened (heardStamp i) → t ≡ widened (trimmed (i .setup .epsilon) t)
 heard-narrow i c h = h ∙ ap widened (sym (heard-trimmed i c h))
@@ -171,28 +197,38 @@ own-count-is i c h e = e ∙ ap (λ (x : Timestamp). widened (countOwn (i .setup
 
 -- it can be sent
 pub send-room : (i : Input) (t : Timestamp) → Call i → t ≡ widened (newStamp i) → Room (i .setup .epsilon) (i .own) t (i .payload) (i .outgoing)
-unfolding widened newStamp countOwn
+unfolding newStamp countOwn
 send-room i t c e =
     let lim = c .accepted .limits in
-    let r-is : t .r ≡ i .clock = ap (λ (x : Timestamp). x .r) e in
-    let c-is : t .c ≡ newStamp i .c = ap (λ (x : Timestamp). x .c) e in
-    record {
-      narrow = lim .epsilon-most;
-      station-fits = omega (arith, c .accepted .own-below, lim .n-most);
-      r-fits = omega (arith, c .accepted .clock-below, lim .modulus-most);
-      c-fits = omega (arith, new-sound i (c .accepted) .close, lim .epsilon-most);
-      payload-fits = omega (arith, c .accepted .payload-short);
-      room = omega (arith, c .accepted .payload-short, c .accepted .outgoing-room);
-    }
+    places-room (i .setup .epsilon) (i .own) (newStamp i) (i .payload) (i .outgoing) e (lim .epsilon-most) (omega (arith, c .accepted .own-below, lim .n-most))
+    (omega (arith, c .accepted .clock-below, lim .modulus-most)) (new-sound i (c .accepted) .close) (c .accepted .payload-short) (c .accepted .outgoing-room)
 
 sent-same : (i : Input) (t : Timestamp) → Call i → t ≡ widened (newStamp i) → bytesToSend (i .setup .epsilon) (i .own) t (i .send) (i .payload) ≡ sentBytes i
-unfolding bytesToSend sentBytes frameOf
+unfolding sentBytes
 sent-same i t c e =
-    let wide = new-sound i (c .accepted) .wide in
-    let kept : trimmed (i .setup .epsilon) t ≡ newStamp i =
-    ap (trimmed (i .setup .epsilon)) e ∙ trimmed-widened (i .setup .epsilon) (newStamp i) (c .accepted .limits .epsilon-most) wide in
-    let same : trimmed (i .setup .epsilon) t ≡ trimmed (i .setup .epsilon) (newStamp i) = kept ∙ sym (trimmed-same (i .setup .epsilon) (newStamp i) wide) in
-    ap (λ (x : Timestamp). cond (i .send) (encode (record { station = i .own; stamp = x; payload = i .payload })) []) same
+    places-sent (i .setup .epsilon) (newStamp i) (c .accepted .limits .epsilon-most) (new-sound i (c .accepted) .wide) e (i .own) (i .send) (i .payload)
+
+-- an accepted call from its parts, whatever the frames' widths
+pub accepted-with : (i : Input) (stamp : Timestamp) (repair₀ : ℕ) (bytes : List ℕ) {sound : Bool} {heard : Heard} {handed stays : List Frame} {room : ℕ}
+    {t′ : Timestamp} {emptied took delivered : ℕ} {buffer verdicts delivery : List ℕ} {repair size : ℕ} {outgoing : List ℕ}
+    → AttendedWith sound heard handed stays room (i .verdicts) (i .delivery) emptied took delivered buffer verdicts delivery
+    → t′ ≡ widened stamp → repair ≡ repair₀ → size ≡ length bytes → outgoing ≡ overlay bytes (i .outgoing)
+    → record {
+      answer = record { number = 0; tables = t′; repair = repair; taken = took; delivered = delivered; sent = size };
+      holdback = buffer;
+      outgoing = outgoing;
+      verdicts = verdicts;
+      delivery = delivery;
+    } ≡ acceptedWith i repair₀ stamp (heard .verdicts) bytes handed (encodeFrames handed) (encodeHoldback room stays)
+accepted-with i stamp repair₀ bytes h e-tables e-repair e-size e-outgoing =
+    rw (e-tables, e-repair, h .taken-is, h .count-is, e-size, h .kept, e-outgoing, h .numbers, h .given)
+
+-- what it shares with an observer's, in the tick's terms
+call-attended : (i : Input) {emptied took delivered : ℕ} {buffer verdicts delivery : List ℕ}
+    → AttendedQueue false (i .setup) (i .clock) (callLeast i) (i .batch) (i .holdback) (i .verdicts) (i .delivery) emptied took delivered buffer verdicts delivery
+    → AttendedWith (holdbackSound (i .setup) (i .clock) (i .tables) (i .holdback)) (heardOf i) (deliveredOf i) (keptOf i) (holdbackSize (i .setup)) (i .verdicts) (i .delivery) emptied took delivered buffer verdicts delivery
+unfolding holdbackSound heardOf openedQueue overdueOf deliveredOf keptOf questionsFor
+call-attended i h = h
 
 -- all of it
 pub accepted-output : (i : Input) → firstNo (callQuestions i) ≡ 0 → {t′ : Timestamp} {emptied took delivered : ℕ} {buffer verdicts delivery : List ℕ} {repair size : ℕ} {outgoing : List ℕ}
@@ -207,19 +243,11 @@ pub accepted-output : (i : Input) → firstNo (callQuestions i) ≡ 0 → {t′ 
       delivery = delivery;
     } ≡ tick i
 unfolding acceptance deliveredOf keptOf
-accepted-output i e {t′} {emptied} {took} {delivered} {buffer} {verdicts} {delivery} {repair} {size} {outgoing} h own e-repair sent =
-    let c : Call i = call-passed i e in
-    let sent-is = sent-same i t′ c own in
-    let same-frames : attendedFrames false (i .setup) (i .clock) (callLeast i) (i .batch) (i .holdback) ≡ deliveredOf i =
-    ap₂ (λ (l : List Frame) (x : Heard). l ++ select (dueNow (i .setup) (i .clock)) (x .queue)) (overdue-same i) (heard-same i) in
-    let e-taken : took ≡ takenCount (heardOf i .verdicts) = h .taken-is ∙ ap (λ (x : Heard). takenCount (x .verdicts)) (heard-same i) in
-    let e-delivered : delivered ≡ length (deliveredOf i) = h .count-is ∙ ap length same-frames in
-    let e-sent : size ≡ length (sentBytes i) = sent .long ∙ ap length sent-is in
-    let e-holdback : buffer ≡ encodeHoldback (holdbackSize (i .setup)) (keptOf i) = h .kept ∙ ap (λ (x : Heard). encodeHoldback (holdbackSize (i .setup)) (select (λ f. not (dueNow (i .setup) (i .clock) f)) (x .queue))) (heard-same i) in
-    let e-outgoing : outgoing ≡ overlay (sentBytes i) (i .outgoing) = sent .bytes ∙ ap (λ (l : List ℕ). overlay l (i .outgoing)) sent-is in
-    let e-verdicts : verdicts ≡ overlay (heardOf i .verdicts) (i .verdicts) = h .numbers ∙ ap (λ (x : Heard). overlay (x .verdicts) (i .verdicts)) (heard-same i) in
-    let e-delivery : delivery ≡ overlay (encodeFrames (deliveredOf i)) (i .delivery) = h .given ∙ ap (λ (l : List Frame). overlay (encodeFrames l) (i .delivery)) same-frames in
-    rw (own, e-repair, e-taken, e-delivered, e-sent, e-holdback, e-outgoing, e-verdicts, e-delivery) (sym (tick-by i 0 e))
+accepted-output i e {t′} h own e-repair sent =
+    let sent-is = sent-same i t′ (call-passed i e) own in
+    accepted-with i (newStamp i) (repairOf (i .setup) (i .clock) (i .tables) (i .holdback)) (sentBytes i) (call-attended i h) own e-repair
+    (sent .long ∙ ap length sent-is) (sent .bytes ∙ ap (λ (l : List ℕ). overlay l (i .outgoing)) sent-is)
+    ∙ sym (tick-by i 0 e)
 
 -- ---- a refused call
 

@@ -12,7 +12,7 @@ use lib.ListN.{length, take, drop, getD, set, length-set, length-append, take-ap
 use lib.Seq.{take-suc-set, drop-cons, drop-set-lt, length-take-le, drop-drop, getD-append-seam}
 use borrow.Author.Tests.{ne-eqb}
 use Rattle.laws.specs.Lists.{select, overlay, foldLeft}
-use Rattle.laws.proofs.Lists.{select-append, select-no}
+use Rattle.laws.proofs.Lists.{select-append, select-no, overlay-hides}
 use Rattle.model.specs.Frame.{Frame}
 use Rattle.model.specs.Batch.{exactBatch, batchEntries}
 use Rattle.model.specs.Judge.{Heard}
@@ -20,6 +20,7 @@ use Rattle.model.specs.Tick.{takenCount}
 use Rattle.lemmas.proofs.OneTick.{taken-more}
 use Rattle.batch.specs.Walk.{countOf, entryAt, nextAt}
 use Rattle.batch.proofs.Walk.{walked, batch-walked}
+use Rattle.node.specs.States.{HeardBuffers}
 
 -- hearing one entry
 abbrev pub Hearer : Type 0
@@ -173,3 +174,37 @@ module _ {one : Hearer} {queue₀ : List Frame} {batch verdicts₀ : List ℕ} {
 
   pub heard-taken : took ≡ takenCount (heardBy one queue₀ batch .verdicts)
   heard-taken = u .taken-is ∙ ap (λ (x : Heard). takenCount (x .verdicts)) (sym all)
+
+-- ---- with every byte of the buffer: `held` says which frames stand in it, and `bytes` what frames come to
+
+pub record LaidTurning (one : Hearer) (held : List ℕ → List Frame) (bytes : List Frame → List ℕ) (batch buffer₀ verdicts₀ : List ℕ) (took at i : ℕ) (buffer verdicts : List ℕ) : Type 0 where
+  pub heard : HearTurning one (held buffer₀) batch verdicts₀ (held buffer) took at i verdicts
+  pub laid : buffer ≡ overlay (bytes (held buffer)) buffer₀
+
+module _ {one : Hearer} {held : List ℕ → List Frame} {frameBytes : List Frame → List ℕ} {batch buffer₀ verdicts₀ : List ℕ} {took at i : ℕ} {buffer verdicts : List ℕ}
+    (u : LaidTurning one held frameBytes batch buffer₀ verdicts₀ took at i buffer verdicts) where
+  module _ (more : i < countOf batch) (few : countOf batch ≤ length verdicts₀) {bytes : List ℕ} {at′ : ℕ} (entry : bytes ≡ entryAt batch at) (step : at′ ≡ nextAt batch at) where
+    pub laid-refused : {x : ℕ} → (x ≡ 0 → ⊥) → one (sofar (held buffer) (take i verdicts)) bytes ≡ sofar (held buffer) (take i verdicts ++ (x ∷ []))
+        → LaidTurning one held frameBytes batch buffer₀ verdicts₀ took at′ (i + 1) buffer (set verdicts i x)
+    laid-refused no-zero e = record { heard = hear-refused (u .heard) more few entry step no-zero e; laid = u .laid }
+
+    -- the frames with the taken one take no fewer bytes
+    pub laid-taken : {queue′ : List Frame} {buffer′ : List ℕ} → one (sofar (held buffer) (take i verdicts)) bytes ≡ sofar queue′ (take i verdicts ++ (0 ∷ []))
+        → held buffer′ ≡ queue′ → buffer′ ≡ overlay (frameBytes queue′) buffer → length (frameBytes (held buffer)) ≤ length (frameBytes queue′)
+        → LaidTurning one held frameBytes batch buffer₀ verdicts₀ (took + 1) at′ (i + 1) buffer′ (set verdicts i 0)
+    laid-taken {queue′} e back put longer =
+        let hidden : overlay (frameBytes queue′) buffer ≡ overlay (frameBytes queue′) buffer₀ =
+        ap (overlay (frameBytes queue′)) (u .laid) ∙ overlay-hides (frameBytes queue′) (frameBytes (held buffer)) buffer₀ longer in
+        record {
+          heard = hear-taken (u .heard) more few entry step (e ∙ ap (λ (q : List Frame). sofar q (take i verdicts ++ (0 ∷ []))) (sym back));
+          laid = put ∙ hidden ∙ ap (λ (q : List Frame). overlay (frameBytes q) buffer₀) (sym back);
+        }
+
+  pub laid-end : countOf batch ≤ i → countOf batch ≤ length verdicts₀ → HeardBuffers held frameBytes (heardBy one (held buffer₀) batch) buffer₀ verdicts₀ took buffer verdicts
+  laid-end h few =
+      record {
+        buffer-is = u .laid ∙ ap (λ (q : List Frame). overlay (frameBytes q) buffer₀) (heard-queue (u .heard) h few);
+        queue = heard-queue (u .heard) h few;
+        numbers = heard-numbers (u .heard) h few;
+        taken-is = heard-taken (u .heard) h few;
+      }

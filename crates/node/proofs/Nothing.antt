@@ -14,7 +14,7 @@ use Rattle.model.specs.Timestamp.{Timestamp, trimmed, widened}
 use Rattle.model.specs.Frame.{Frame, twoBytes, twoAt}
 use Rattle.model.specs.Batch.{batchEntries, entriesOf}
 use Rattle.model.specs.Holdback.{cutBy, cutFrames, heldBytes, held, soundHoldback, encodeFrames, encodeHoldback}
-use Rattle.model.specs.Judge.{hear, absorbEach, absorbAll}
+use Rattle.model.specs.Judge.{Heard, hear, absorbEach, absorbAll}
 use Rattle.model.specs.Tick.{holdbackSize, openingQueue, takenCount}
 use Rattle.timestamp.specs.declared.stamp.Timestamp as stamps
 use Rattle.timestamp.specs.Views.{stampOf}
@@ -22,7 +22,7 @@ use Rattle.batch.specs.Walk.{countOf}
 use Rattle.splice.specs.Bytes.{pasted}
 use Rattle.node.specs.declared.attending.Attended.{Attended}
 use Rattle.node.specs.Answers.{passedOver}
-use Rattle.node.specs.States.{isIdle, overdueOnes, absorbedFor, attendedAll, attendedFrames, AttendedQueue, AttendedStamp}
+use Rattle.node.specs.States.{isIdle, overdueOnes, absorbedFor, attendedAll, attendedFrames, AttendedWith, AttendedQueue, AttendedStamp}
 
 -- ---- no frames
 
@@ -43,9 +43,25 @@ module _ (s : Setup) (v least : ℕ) (buffer : List ℕ) (none : twoAt buffer 0 
   unfolding openingQueue
   opening-none = rw (sound-none, held-none)
 
+-- ---- no frames and no entries, whatever the frames' widths: what is answered, and left
+
+pub idle-with : {r : Attended} {t : stamps.Timestamp} {sound : Bool} {all : Heard} {handed stays : List Frame} {size : ℕ} {verdicts delivery buffer′ delivery′ : List ℕ} → r ≡ passedOver t
+    → sound ≡ true → all ≡ record { queue = []; verdicts = [] } → handed ≡ [] → stays ≡ [] → buffer′ ≡ encodeHoldback size [] → delivery′ ≡ overlay (encodeFrames []) delivery
+    → AttendedWith sound all handed stays size verdicts delivery (r .repair) (r .taken) (r .delivered) buffer′ verdicts delivery′
+unfolding select takenCount overlay
+idle-with {size = size} {delivery = delivery} passed sound all handed stays kept given =
+    record {
+      repaired = ap (λ (x : Attended). x .repair) passed ∙ rw sound;
+      taken-is = ap (λ (x : Attended). x .taken) passed ∙ rw all;
+      count-is = ap (λ (x : Attended). x .delivered) passed ∙ ap length (sym handed);
+      kept = kept ∙ ap (encodeHoldback size) (sym stays);
+      numbers = rw all;
+      given = given ∙ ap (λ (l : List Frame). overlay (encodeFrames l) delivery) (sym handed);
+    }
+
 -- ---- no entries
 
-entries-none : (batch : List ℕ) → countOf batch ≡ 0 → batchEntries batch ≡ []
+pub entries-none : (batch : List ℕ) → countOf batch ≡ 0 → batchEntries batch ≡ []
 unfolding batchEntries countOf entriesOf
 entries-none [] e = refl
 entries-none (count ∷ rest) e = rw e
@@ -91,16 +107,9 @@ module _ (listens : Bool) (s : Setup) (v least : ℕ) (batch buffer : List ℕ) 
     pub idle-queue : {verdicts delivery buffer′ delivery′ : List ℕ} → length buffer ≡ holdbackSize s → buffer′ ≡ encodeHoldback (length buffer) []
         → delivery′ ≡ overlay (encodeFrames []) delivery
         → AttendedQueue listens s v least batch buffer verdicts delivery (r .repair) (r .taken) (r .delivered) buffer′ verdicts delivery′
-    unfolding select takenCount overlay
+    unfolding select
     idle-queue {verdicts} {delivery} size kept given =
-        record {
-          repaired = ap (λ (x : Attended). x .repair) passed ∙ rw (sound-none s v least buffer no-frames);
-          taken-is = ap (λ (x : Attended). x .taken) passed ∙ rw heard-none;
-          count-is = ap (λ (x : Attended). x .delivered) passed ∙ ap length (sym attended-none);
-          kept = kept ∙ rw (size, heard-none);
-          numbers = rw heard-none;
-          given = given ∙ ap (λ (l : List Frame). overlay (encodeFrames l) delivery) (sym attended-none);
-        }
+        idle-with passed (sound-none s v least buffer no-frames) heard-none attended-none (rw heard-none) (kept ∙ ap (λ (n : ℕ). encodeHoldback n []) size) given
 
 -- the delivery gets the count of no frames
 pub none-given : (delivery : List ℕ) {delivery′ : List ℕ} → delivery′ ≡ pasted delivery 0 (twoBytes 0) → delivery′ ≡ overlay (encodeFrames []) delivery

@@ -2,7 +2,7 @@
 use Prim.Native.Nat.{ℕ, _+_, _*_, _-_, _≤_, _<_}
 use native.Mathlib.Omega.{arith}
 use mathlib.Core.Path.{_≡_, refl, sym, ap, ap₂, _∙_}
-use mathlib.Core.Bool.{Bool, not}
+use mathlib.Core.Bool.{Bool, not, cond}
 use mathlib.Core.List.{List, _++_, List·Memᴰ}
 use lib.ListN.{length, length-append}
 use Rattle.laws.specs.Lists.{every, select, joined, overlay}
@@ -21,13 +21,32 @@ use Rattle.lemmas.proofs.Queue.{opening-queue, overdue-few, both-few, depth-sma
 use Rattle.holdback.specs.Queue.{frameStart, Spans}
 use Rattle.holdback.specs.Sound.{Recent}
 use Rattle.holdback.proofs.Placed.{Wide, written-whole}
-use Rattle.node.specs.States.{Timed, overdueOnes, OverdueGiven, QueueOpened, heardWith, heardAll, HeardQueue, HeardStamp, absorbedFor, Closing, Delivered, attendedAll, AttendedQueue, AttendedStamp}
+use Rattle.node.specs.States.{Timed, overdueOnes, OverdueGiven, QueueOpened, heardWith, heardAll, HeardQueue, HeardStamp, absorbedFor, Closing, Delivered, attendedAll, AttendedWith, AttendedQueue, AttendedStamp}
 use Rattle.node.proofs.Places.{size-two, frames-long}
 
 -- more frames are no shorter
 more-longer : (q r : List Frame) → length (encodeFrames q) ≤ length (encodeFrames (q ++ r))
 unfolding encodeFrames twoBytes
 more-longer q r = omega (arith, ap length (joined-append encode q r), length-append (joined encode q) (joined encode r))
+
+-- ---- from its parts, whatever the frames' widths (02, 2.10): what is overdue stands in the delivery, and what is due at v goes behind it
+
+pub attended-from : (overdue due : List Frame) {sound : Bool} {all : Heard} {stays : List Frame} {size index repair took delivered : ℕ} {verdicts delivery delivery₁ buffer₃ verdicts₃ delivery₃ : List ℕ}
+    → repair ≡ cond sound 0 2 → index ≡ length overdue → delivery₁ ≡ overlay (encodeFrames overdue) delivery
+    → took ≡ takenCount (all .verdicts) → verdicts₃ ≡ overlay (all .verdicts) verdicts
+    → delivered ≡ index + length due → buffer₃ ≡ encodeHoldback size stays → delivery₃ ≡ overlay (encodeFrames (overdue ++ due)) delivery₁
+    → AttendedWith sound all (overdue ++ due) stays size verdicts delivery repair took delivered buffer₃ verdicts₃ delivery₃
+attended-from overdue due {delivery = delivery} e-repair number before e-taken e-numbers count kept given =
+    record {
+      repaired = e-repair;
+      taken-is = e-taken;
+      count-is = count ∙ ap (λ (n : ℕ). n + length due) number ∙ sym (length-append overdue due);
+      kept = kept;
+      numbers = e-numbers;
+      given =
+          given ∙ ap (overlay (encodeFrames (overdue ++ due))) before
+          ∙ overlay-hides (encodeFrames (overdue ++ due)) (encodeFrames overdue) delivery (more-longer overdue due);
+    }
 
 -- ---- what is overdue: sound frames, few, and they stand in the delivery
 
@@ -79,12 +98,6 @@ module _ {s : Setup} {v least : ℕ} {buffer delivery : List ℕ} {index at : �
         starts = ends;
       }
 
-  -- and what is due at v behind them
-  delivery-whole : (q : List Frame) {l : List ℕ} → l ≡ overlay (encodeFrames (held (s .epsilon) delivery₁ ++ q)) delivery₁ → l ≡ overlay (encodeFrames (overdue ++ q)) delivery
-  delivery-whole q e =
-      e ∙ ap₂ (λ (g : List Frame) (d : List ℕ). overlay (encodeFrames (g ++ q)) d) overdue-held (h .given)
-      ∙ overlay-hides (encodeFrames (overdue ++ q)) (encodeFrames overdue) delivery (more-longer overdue q)
-
   -- ---- the batch heard with what is left, and what is due at v delivered
 
   module _ {emptied count₁ stop₁ : ℕ} {buffer₁ table₁ starts₁ : List ℕ} (q : QueueOpened s v least buffer emptied count₁ stop₁ buffer₁ table₁ starts₁) where
@@ -112,22 +125,14 @@ module _ {s : Setup} {v least : ℕ} {buffer delivery : List ℕ} {index at : �
           }
 
       queue-is : held (s .epsilon) buffer₂ ≡ attendedAll listens s v least batch buffer .queue
-      queue-is = g .queue ∙ ap (λ (x : Heard). x .queue) (all listens batch)
+      queue-is = g .buffers .queue ∙ ap (λ (x : Heard). x .queue) (all listens batch)
 
       pub attended-queue : {delivered : ℕ} {buffer₃ delivery₃ : List ℕ} → Delivered s v index buffer₂ delivery₁ delivered buffer₃ delivery₃
           → AttendedQueue listens s v least batch buffer verdicts delivery emptied took delivered buffer₃ verdicts₂ delivery₃
       attended-queue d =
-          let due : List Frame = select (dueNow s v) (attendedAll listens s v least batch buffer .queue) in
-          record {
-            repaired = q .repaired;
-            taken-is = g .taken-is ∙ ap (λ (x : Heard). takenCount (x .verdicts)) (all listens batch);
-            count-is =
-                d .count-is
-                ∙ ap₂ (λ (n : ℕ) (l : List Frame). n + length (select (dueNow s v) l)) (h .number) queue-is
-                ∙ sym (length-append overdue due);
-            kept = d .kept ∙ ap (λ (l : List Frame). encodeHoldback (holdbackSize s) (select (λ f. not (dueNow s v f)) l)) queue-is;
-            numbers = g .numbers ∙ ap (λ (x : Heard). overlay (x .verdicts) verdicts) (all listens batch);
-            given =
-                delivery-whole due
-                (d .given ∙ ap (λ (l : List Frame). overlay (encodeFrames (held (s .epsilon) delivery₁ ++ select (dueNow s v) l)) delivery₁) queue-is);
-          }
+          attended-from overdue (select (dueNow s v) (attendedAll listens s v least batch buffer .queue)) (q .repaired) (h .number) (h .given)
+          (g .buffers .taken-is ∙ ap (λ (x : Heard). takenCount (x .verdicts)) (all listens batch))
+          (g .buffers .numbers ∙ ap (λ (x : Heard). overlay (x .verdicts) verdicts) (all listens batch))
+          (d .count-is ∙ ap (λ (l : List Frame). index + length (select (dueNow s v) l)) queue-is)
+          (d .kept ∙ ap (λ (l : List Frame). encodeHoldback (holdbackSize s) (select (λ f. not (dueNow s v f)) l)) queue-is)
+          (d .given ∙ ap₂ (λ (q : List Frame) (l : List Frame). overlay (encodeFrames (q ++ select (dueNow s v) l)) delivery₁) overdue-held queue-is)

@@ -86,37 +86,71 @@ stamp-end {one} {epsilon} {t₀} {batch} {numbers} {t} {at} {i} u h =
     u .narrow
     ∙ ap widened (sym (u .whole ∙ absorbed-rest one (trimmed epsilon t) batch (drop i numbers) at (countOf batch - i) none))
 
--- ---- at a node; one that only listens absorbs none
+-- ---- one that only listens absorbs none
+
+abbrev pub listening : Bool → Share → Share
+listening listens one x bytes t = cond listens t (one x bytes t)
+
+listening-each : (listens : Bool) (one : Share) (t : Timestamp) (entries : List (List ℕ)) (numbers : List ℕ) → absorbEach (listening listens one) t entries numbers ≡ cond listens t (absorbEach one t entries numbers)
+unfolding absorbEach
+listening-each false one t entries numbers = refl
+listening-each true one t [] numbers = refl
+listening-each true one t (bytes ∷ rest) [] = refl
+listening-each true one t (bytes ∷ rest) (x ∷ numbers) = listening-each true one t rest numbers
+
+module _ (listens : Bool) (one : Share) where
+  pub listening-refused : (x : ℕ) (bytes : List ℕ) (t : Timestamp) → ((k : ℕ) → one (suc k) bytes t ≡ t) → (x ≡ 0 → ⊥) → listening listens one x bytes t ≡ t
+  listening-refused zero bytes t skips h = absurd (h refl)
+  listening-refused (suc k) bytes t skips h = go listens
+    where
+      go : (b : Bool) → cond b t (one (suc k) bytes t) ≡ t
+      go true = refl
+      go false = skips k
+
+  module _ (epsilon : ℕ) (bytes : List ℕ) (t : Timestamp) where
+    pub listening-wide : length (one 0 bytes (trimmed epsilon t) .kn) ≡ width epsilon → length (listening listens one 0 bytes (trimmed epsilon t) .kn) ≡ width epsilon
+    listening-wide h = go listens
+      where
+        go : (b : Bool) → length (cond b (trimmed epsilon t) (one 0 bytes (trimmed epsilon t)) .kn) ≡ width epsilon
+        go true = trimmed-wide epsilon t
+        go false = h
+
+    pub listening-taken : {t′ : Timestamp} → t ≡ widened (trimmed epsilon t) → t′ ≡ cond listens t (widened (one 0 bytes (trimmed epsilon t))) → t′ ≡ widened (listening listens one 0 bytes (trimmed epsilon t))
+    listening-taken narrow e = e ∙ go listens
+      where
+        go : (b : Bool) → cond b t (widened (one 0 bytes (trimmed epsilon t))) ≡ widened (cond b (trimmed epsilon t) (one 0 bytes (trimmed epsilon t)))
+        go true = narrow
+        go false = refl
+
+  pub listening-end : {epsilon : ℕ} {t₀ : Timestamp} {batch numbers : List ℕ} {t : Timestamp} {at i : ℕ} → StampTurning (listening listens one) epsilon t₀ batch numbers t at i → countOf batch ≤ i
+      → t ≡ widened (cond listens (trimmed epsilon t₀) (absorbEach one (trimmed epsilon t₀) (batchEntries batch) numbers))
+  listening-end {epsilon} {t₀} {batch} {numbers} u h =
+      stamp-end u h ∙ ap widened (listening-each listens one (trimmed epsilon t₀) (batchEntries batch) numbers)
+
+-- ---- at a node
+
+-- a frame's share
+abbrev frameShare : Setup → ℕ → Share
+frameShare s v x bytes t = absorbBy x s v (decode (s .epsilon) bytes) t
 
 abbrev pub absorbedOne : Bool → Setup → ℕ → Share
-absorbedOne listens s v x bytes t = cond listens t (absorbBy x s v (decode (s .epsilon) bytes) t)
-
-absorbed-each : (listens : Bool) (s : Setup) (v : ℕ) (t : Timestamp) (entries : List (List ℕ)) (numbers : List ℕ) → absorbEach (absorbedOne listens s v) t entries numbers ≡ absorbedFor listens s v t entries numbers
-unfolding absorbedFor absorbAll absorbEach
-absorbed-each false s v t entries numbers = refl
-absorbed-each true s v t [] numbers = refl
-absorbed-each true s v t (bytes ∷ rest) [] = refl
-absorbed-each true s v t (bytes ∷ rest) (x ∷ numbers) = absorbed-each true s v t rest numbers
+absorbedOne listens s v = listening listens (frameShare s v)
 
 pub node-refused : (listens : Bool) (s : Setup) (v x : ℕ) (bytes : List ℕ) (t : Timestamp) → (x ≡ 0 → ⊥) → absorbedOne listens s v x bytes t ≡ t
-node-refused true s v x bytes t h = refl
-node-refused false s v zero bytes t h = absurd (h refl)
-node-refused false s v (suc k) bytes t h = refl
+node-refused listens s v x bytes t h = listening-refused listens (frameShare s v) x bytes t (λ k. refl) h
 
 pub node-wide : (listens : Bool) (s : Setup) (v : ℕ) (bytes : List ℕ) (t : Timestamp) → length (absorbedOne listens s v 0 bytes (trimmed (s .epsilon) t) .kn) ≡ width (s .epsilon)
-node-wide true s v bytes t = trimmed-wide (s .epsilon) t
-node-wide false s v bytes t =
+node-wide listens s v bytes t =
     let f : Frame = decode (s .epsilon) bytes in
-    absorb-wide (s .epsilon) (s .modulus) (readingOf s v f) (trimmed (s .epsilon) t) (f .stamp)
+    listening-wide listens (frameShare s v) (s .epsilon) bytes t (absorb-wide (s .epsilon) (s .modulus) (readingOf s v f) (trimmed (s .epsilon) t) (f .stamp))
 
 pub node-taken :
     (listens : Bool) (s : Setup) (v : ℕ) (bytes : List ℕ) (t t′ : Timestamp) → t ≡ widened (trimmed (s .epsilon) t)
     → t′ ≡ cond listens t (widened (absorbBy 0 s v (decode (s .epsilon) bytes) (trimmed (s .epsilon) t)))
     → t′ ≡ widened (absorbedOne listens s v 0 bytes (trimmed (s .epsilon) t))
-node-taken true s v bytes t t′ narrow e = e ∙ narrow
-node-taken false s v bytes t t′ narrow e = e
+node-taken listens s v bytes t t′ narrow e = listening-taken listens (frameShare s v) (s .epsilon) bytes t narrow e
 
 pub node-end : (listens : Bool) (s : Setup) (v : ℕ) {t₀ : Timestamp} {batch numbers : List ℕ} {t : Timestamp} {at i : ℕ} → StampTurning (absorbedOne listens s v) (s .epsilon) t₀ batch numbers t at i → countOf batch ≤ i
     → t ≡ widened (absorbedFor listens s v (trimmed (s .epsilon) t₀) (batchEntries batch) numbers)
-node-end listens s v {t₀} {batch} {numbers} u h =
-    stamp-end u h ∙ ap widened (absorbed-each listens s v (trimmed (s .epsilon) t₀) (batchEntries batch) numbers)
+unfolding absorbedFor absorbAll
+node-end listens s v u h = listening-end listens (frameShare s v) u h

@@ -4,10 +4,8 @@ use mathlib.Core.Path.{_≡_, sym, ap, _∙_}
 use mathlib.Core.Bool.{Bool, true}
 use mathlib.Core.List.{List, [], _∷_, _++_}
 use lib.ListN.{length, take, drop, set}
-use Rattle.laws.specs.Lists.{overlay, insertAt}
-use Rattle.laws.proofs.Lists.{overlay-hides}
 use Rattle.model.specs.Setup.{Setup}
-use Rattle.model.specs.Frame.{Frame, decode}
+use Rattle.model.specs.Frame.{decode}
 use Rattle.model.specs.Batch.{exactBatch}
 use Rattle.model.specs.Question.{firstNo}
 use Rattle.model.specs.Holdback.{held, encodeFrames}
@@ -19,7 +17,7 @@ use Rattle.node.specs.Views.{questionsFor}
 use Rattle.node.specs.States.{Queued, Extent, Enqueued, heardAll, HeardQueue}
 use Rattle.node.proofs.Verdicts.{refused-number}
 use Rattle.node.proofs.Places.{size-two, queue-own, frames-longer}
-use Rattle.node.proofs.HearTurns.{Hearer, sofar, HearTurning, hear-start, hear-refused, hear-taken, Adding, written-last, heard-queue, heard-numbers, heard-taken}
+use Rattle.node.proofs.HearTurns.{Hearer, sofar, hear-start, Adding, written-last, LaidTurning, laid-refused, laid-taken, laid-end}
 
 -- hearing one entry, by what is asked
 abbrev pub hearer : Bool → Setup → ℕ → Hearer
@@ -27,19 +25,17 @@ hearer listens s v = hearOne s v (questionsFor listens s v)
 
 -- this half of the loop's invariant, at entry i, whose length stands at `at`
 pub record QueueTurning (listens : Bool) (s : Setup) (v : ℕ) (batch buffer₀ verdicts₀ : List ℕ) (took count stop at i : ℕ) (buffer table starts verdicts : List ℕ) : Type 0 where
-  pub heard : HearTurning (hearer listens s v) (held (s .epsilon) buffer₀) batch verdicts₀ (held (s .epsilon) buffer) took at i verdicts
+  pub turn : LaidTurning (hearer listens s v) (held (s .epsilon)) encodeFrames batch buffer₀ verdicts₀ took at i buffer verdicts
   pub queued : Queued s v buffer table starts
   pub extent : Extent (s .epsilon) buffer count stop
-  pub laid : buffer ≡ overlay (encodeFrames (held (s .epsilon) buffer)) buffer₀
 
 pub queue-start : {listens : Bool} {s : Setup} {v count stop : ℕ} {batch buffer table starts verdicts : List ℕ} → Bytes buffer → exactBatch batch ≡ true → Queued s v buffer table starts → Extent (s .epsilon) buffer count stop
     → QueueTurning listens s v batch buffer verdicts 0 count stop 1 0 buffer table starts verdicts
 queue-start {listens} {s} {v} {batch} {buffer} clean exact q extent =
     record {
-      heard = hear-start exact;
+      turn = record { heard = hear-start exact; laid = queue-own s v (s .modulus) buffer clean (size-two s (length buffer) (q .size)) (q .sound) };
       queued = q;
       extent = extent;
-      laid = queue-own s v (s .modulus) buffer clean (size-two s (length buffer) (q .size)) (q .sound);
     }
 
 -- one entry heard, by its verdict
@@ -58,32 +54,24 @@ module _ {listens : Bool} {s : Setup} {v : ℕ} {batch buffer₀ verdicts₀ : L
   pub queue-refused : {number x : ℕ} → judge s v (questionsFor listens s v) (held (s .epsilon) buffer) bytes ≡ refused number → x ≡ number
       → QueueTurning listens s v batch buffer₀ verdicts₀ took count stop at′ (i + 1) buffer table starts (set verdicts i x)
   queue-refused {number} {x} e same =
-      let no-zero : x ≡ 0 → ⊥ = λ z. refused-number s v (questionsFor listens s v) (held (s .epsilon) buffer) bytes number e (sym same ∙ z) in
       record {
-        heard =
-            hear-refused (u .heard) more few entry step no-zero
+        turn =
+            laid-refused (u .turn) more few entry step (λ z. refused-number s v (questionsFor listens s v) (held (s .epsilon) buffer) bytes number e (sym same ∙ z))
             (heard-by listens s v now bytes (refused number) e ∙ ap (λ (k : ℕ). sofar (held (s .epsilon) buffer) (take i verdicts ++ (k ∷ []))) (sym same));
         queued = u .queued;
         extent = u .extent;
-        laid = u .laid;
       }
 
   pub queue-taken : {place : ℕ} {buffer′ table′ starts′ : List ℕ} → judge s v (questionsFor listens s v) (held (s .epsilon) buffer) bytes ≡ taken place
       → Enqueued s v place bytes buffer count stop buffer′ table′ starts′
       → QueueTurning listens s v batch buffer₀ verdicts₀ (took + 1) (count + 1) (stop + length bytes) at′ (i + 1) buffer′ table′ starts′ (set verdicts i 0)
-  queue-taken {place} {buffer′} e k =
-      let f : Frame = decode (s .epsilon) bytes in
-      let queue : List Frame = held (s .epsilon) buffer in
-      let longer : List ℕ = encodeFrames (insertAt place f queue) in
-      let hidden : overlay longer buffer ≡ overlay longer buffer₀ =
-      ap (overlay longer) (u .laid) ∙ overlay-hides longer (encodeFrames queue) buffer₀ (frames-longer place f queue) in
+  queue-taken {place} e k =
       record {
-        heard =
-            hear-taken (u .heard) more few entry step
-            (heard-by listens s v now bytes (taken place) e ∙ ap (λ (q : List Frame). sofar q (take i verdicts ++ (0 ∷ []))) (sym (k .queue)));
+        turn =
+            laid-taken (u .turn) more few entry step (heard-by listens s v now bytes (taken place) e) (k .queue) (k .buffer-is)
+            (frames-longer place (decode (s .epsilon) bytes) (held (s .epsilon) buffer));
         queued = k .queued;
         extent = k .extent;
-        laid = k .buffer-is ∙ hidden ∙ ap (λ (q : List Frame). overlay (encodeFrames q) buffer₀) (sym (k .queue));
       }
 
 -- the verdicts of all entries have the one that was written last at its place
@@ -95,18 +83,10 @@ pub queue-written : {listens : Bool} {s : Setup} {v : ℕ} {batch buffer₀ verd
     → QueueTurning listens s v batch buffer₀ verdicts₀ took count stop at (i + 1) buffer table starts (set verdicts i x) → i < length verdicts
     → drop i (heardAll listens s v batch buffer₀ .verdicts) ≡ x ∷ drop (i + 1) (heardAll listens s v batch buffer₀ .verdicts)
 unfolding hear
-queue-written {listens} {s} {v} verdicts i x u inside = written-last (hearer-adds listens s v) verdicts i x (u .heard) inside
+queue-written {listens} {s} {v} verdicts i x u inside = written-last (hearer-adds listens s v) verdicts i x (u .turn .heard) inside
 
 pub queue-end : {listens : Bool} {s : Setup} {v : ℕ} {batch buffer₀ verdicts₀ : List ℕ} {took count stop at i : ℕ} {buffer table starts verdicts : List ℕ}
     → QueueTurning listens s v batch buffer₀ verdicts₀ took count stop at i buffer table starts verdicts → countOf batch ≤ i → countOf batch ≤ length verdicts₀
     → HeardQueue listens s v batch buffer₀ verdicts₀ took count stop buffer table starts verdicts
 unfolding hear
-queue-end {listens} {s} {v} {batch} {buffer₀} {verdicts₀} {took} {count} {stop} {at} {i} {buffer} {table} {starts} {verdicts} u h few =
-    record {
-      queued = u .queued;
-      extent = u .extent;
-      buffer-is = u .laid ∙ ap (λ (q : List Frame). overlay (encodeFrames q) buffer₀) (heard-queue (u .heard) h few);
-      queue = heard-queue (u .heard) h few;
-      numbers = heard-numbers (u .heard) h few;
-      taken-is = heard-taken (u .heard) h few;
-    }
+queue-end u h few = record { queued = u .queued; extent = u .extent; buffers = laid-end (u .turn) h few }

@@ -2,7 +2,7 @@
 use Prim.Native.Nat.{ℕ, zero, suc, _+_, _≤_}
 use native.Mathlib.Omega.{arith}
 use mathlib.Core.Path.{_≡_, refl, sym, ap, _∙_}
-use mathlib.Core.Bool.{Bool, true, false}
+use mathlib.Core.Bool.{Bool, true, false, not}
 use mathlib.Core.List.{List, [], _∷_, _++_}
 use lib.Dec.{leb, ltb}
 use borrow.Author.Tests.{leb-true, eq-eqb}
@@ -11,20 +11,19 @@ use Rattle.laws.proofs.Numbers.{and-intro}
 use Rattle.model.specs.Setup.{Setup}
 use Rattle.model.specs.Frame.{Frame, decode}
 use Rattle.model.specs.Order.{readingOf}
-use Rattle.model.specs.Question.{Question, firstNo, frameQuestions, askForm, askRange, askStamp}
+use Rattle.model.specs.Question.{Question, ask, firstNo, frameQuestions, askForm, askRange, askStamp}
 use Rattle.model.specs.Holdback.{held, passes, sameOrigin, notEarly}
 use Rattle.model.specs.Judge.{Asking, Verdict, taken, refused, verdictNumber, verdictPlace, verdictBy, judge, judgeQuestions, placeQuestions, observerQuestions, observerPlaceQuestions, askLate, askEarly, askCounts, askRepeat, placeFor}
 use Rattle.lemmas.proofs.Bounds.{Limits, FrameOk, QueueOk}
 use Rattle.lemmas.proofs.Questions.{limits-from, first-yes, other-yes, no-append, yes-append, front-append}
 use Rattle.lemmas.proofs.Queue.{InWindow, Passed, judged-passed, observed-passed, sound-queue, queue-window, expired-to}
-use Rattle.holdback.specs.Queue.{frameStart}
 use Rattle.holdback.specs.Seen.{Placeable, isMarked}
 use Rattle.holdback.specs.Sound.{fits}
 use Rattle.holdback.proofs.Seen.{seen-at}
 use Rattle.node.specs.declared.verdict.Placed.{Placed}
 use Rattle.node.specs.declared.verdict.Verdict as codes
 use Rattle.node.specs.declared.verdict.Verdict.the-variants.{Taken, Refused}
-use Rattle.node.specs.Views.{verdictOf, Located, questionsFor, timeQuestions, timeQuestionsAt}
+use Rattle.node.specs.Views.{verdictOf, LocatedBy, questionsFor, timeQuestions, timeQuestionsAt}
 use Rattle.node.specs.States.{Timed, Readable, Queued}
 
 -- ---- the questions, as the code asks them: 10 to 12, 13 to 15, and 16
@@ -46,54 +45,85 @@ unfolding every timeQuestions timeQuestionsAt
 time-numbered true s v f = refl
 time-numbered false s v f = refl
 
--- ---- the verdict
+-- ---- the verdict by three lists of questions, whatever the place is: 10 to 12, 13 to 15, and 16
+
+module _ (form time : List Question) (shelved : Bool) (place : ℕ) where
+  -- 16
+  abbrev last : List Question
+  last = ask (not shelved) 16 ∷ []
+
+  -- all of them
+  abbrev inTurn : List Question
+  inTurn = form ++ (time ++ last)
+
+  by-number : (k : ℕ) → firstNo inTurn ≡ k → verdictBy (firstNo inTurn) place ≡ verdictBy k place
+  by-number k e = ap (λ (n : ℕ). verdictBy n place) e
+
+  refused-by : (k : ℕ) → (k ≡ 0 → ⊥) → k ≡ firstNo inTurn → refused k ≡ verdictBy (firstNo inTurn) place
+  refused-by zero h e = absurd (h refl)
+  refused-by (suc k) h e = sym (by-number (suc k) (sym e))
+
+  pub by-form : (k : ℕ) → k ≡ firstNo form → (k ≡ 0 → ⊥) → refused k ≡ verdictBy (firstNo inTurn) place
+  by-form k e h = refused-by k h (no-append form (time ++ last) k e h)
+
+  -- no question has the number 0
+  module _ (form-numbered : every (λ q. ltb 0 (q .number)) form ≡ true) (formed : firstNo form ≡ 0) where
+    from-time : firstNo inTurn ≡ firstNo (time ++ last)
+    from-time = yes-append form (time ++ last) form-numbered formed
+
+    pub by-time : (k : ℕ) → k ≡ firstNo time → (k ≡ 0 → ⊥) → refused k ≡ verdictBy (firstNo inTurn) place
+    by-time k e h = refused-by k h (no-append time last k e h ∙ sym from-time)
+
+    module _ (time-numbered : every (λ q. ltb 0 (q .number)) time ≡ true) (timed : firstNo time ≡ 0) where
+      from-repeat : firstNo inTurn ≡ firstNo last
+      from-repeat = from-time ∙ yes-append time last time-numbered timed
+
+      pub by-repeat : shelved ≡ true → refused 16 ≡ verdictBy (firstNo inTurn) place
+      unfolding firstNo
+      by-repeat h = refused-by 16 (λ e. let z : _≡_ {A = ℕ} 16 0 = e in omega arith) (sym (from-repeat ∙ rw h))
+
+      pub by-none : shelved ≡ false → taken place ≡ verdictBy (firstNo inTurn) place
+      unfolding firstNo
+      by-none new = sym (by-number 0 (from-repeat ∙ rw new))
+
+-- ---- at a node
 
 module _ (listens : Bool) (s : Setup) (v : ℕ) (queue : List Frame) (bytes : List ℕ) where
   abbrev f : Frame
   f = decode (s .epsilon) bytes
 
-  -- 16
-  abbrev last : List Question
-  last = askRepeat queue f ∷ []
+  abbrev repeated : Bool
+  repeated = any (sameOrigin f) queue
 
-  judge-by : (k : ℕ) → firstNo (questionsFor listens s v queue bytes) ≡ k → judge s v (questionsFor listens s v) queue bytes ≡ verdictBy k (placeFor s v queue f)
-  unfolding judge
-  judge-by k e = rw e
-
-  refused-by : (k : ℕ) → (k ≡ 0 → ⊥) → k ≡ firstNo (questionsFor listens s v queue bytes) → refused k ≡ judge s v (questionsFor listens s v) queue bytes
-  refused-by zero h e = absurd (h refl)
-  refused-by (suc k) h e = sym (judge-by (suc k) (sym e))
+  judge-is :
+      verdictBy (firstNo (frameQuestions s bytes ++ (timeQuestions listens s v f ++ (ask (not repeated) 16 ∷ [])))) (placeFor s v queue f)
+      ≡ judge s v (questionsFor listens s v) queue bytes
+  unfolding judge askRepeat
+  judge-is = ap (λ (qs : List Question). verdictBy (firstNo qs) (placeFor s v queue f)) (sym (asked-is listens s v queue bytes))
 
   pub form-no : (k : ℕ) → k ≡ firstNo (frameQuestions s bytes) → (k ≡ 0 → ⊥) → refused k ≡ judge s v (questionsFor listens s v) queue bytes
-  form-no k e h = refused-by k h (no-append (frameQuestions s bytes) (timeQuestions listens s v f ++ last) k e h ∙ ap firstNo (sym (asked-is listens s v queue bytes)))
+  form-no k e h = by-form (frameQuestions s bytes) (timeQuestions listens s v f) repeated (placeFor s v queue f) k e h ∙ judge-is
 
   module _ (form : firstNo (frameQuestions s bytes) ≡ 0) where
-    from-time : firstNo (questionsFor listens s v queue bytes) ≡ firstNo (timeQuestions listens s v f ++ last)
-    from-time =
-        ap firstNo (asked-is listens s v queue bytes)
-        ∙ yes-append (frameQuestions s bytes) (timeQuestions listens s v f ++ last) (frame-numbered s bytes) form
-
     pub time-no : (k : ℕ) → k ≡ firstNo (timeQuestions listens s v f) → (k ≡ 0 → ⊥) → refused k ≡ judge s v (questionsFor listens s v) queue bytes
-    time-no k e h = refused-by k h (no-append (timeQuestions listens s v f) last k e h ∙ sym from-time)
+    time-no k e h =
+        by-time (frameQuestions s bytes) (timeQuestions listens s v f) repeated (placeFor s v queue f) (frame-numbered s bytes) form k e h ∙ judge-is
 
     module _ (time : firstNo (timeQuestions listens s v f) ≡ 0) where
-      from-repeat : firstNo (questionsFor listens s v queue bytes) ≡ firstNo last
-      from-repeat = from-time ∙ yes-append (timeQuestions listens s v f) last (time-numbered listens s v f) time
-
       pub repeat-no : any (sameOrigin f) queue ≡ true → refused 16 ≡ judge s v (questionsFor listens s v) queue bytes
-      unfolding askRepeat firstNo
-      repeat-no h = refused-by 16 (λ e. let z : _≡_ {A = ℕ} 16 0 = e in omega arith) (sym (from-repeat ∙ rw h))
+      repeat-no h =
+          by-repeat (frameQuestions s bytes) (timeQuestions listens s v f) repeated (placeFor s v queue f) (frame-numbered s bytes) form (time-numbered listens s v f) time h ∙ judge-is
 
       pub all-yes : any (sameOrigin f) queue ≡ false → taken (placeFor s v queue f) ≡ judge s v (questionsFor listens s v) queue bytes
-      unfolding askRepeat firstNo
-      all-yes new = sym (judge-by 0 (from-repeat ∙ rw new))
+      all-yes new =
+          by-none (frameQuestions s bytes) (timeQuestions listens s v f) repeated (placeFor s v queue f) (frame-numbered s bytes) form (time-numbered listens s v f) time new ∙ judge-is
 
 -- and the other way round
-verdict-taken : (k place place′ : ℕ) → verdictBy k place ≡ taken place′ → (k ≡ 0) × (place ≡ place′)
+pub verdict-taken : (k place place′ : ℕ) → verdictBy k place ≡ taken place′ → (k ≡ 0) × (place ≡ place′)
 verdict-taken zero place place′ e = (refl, ap verdictPlace e)
 verdict-taken (suc k) place place′ e = absurd (let z : suc k ≡ 0 = ap verdictNumber e in omega arith)
 
-verdict-refused : (k place number : ℕ) → verdictBy k place ≡ refused number → number ≡ 0 → ⊥
+pub verdict-refused : (k place number : ℕ) → verdictBy k place ≡ refused number → number ≡ 0 → ⊥
 verdict-refused zero place number e z = let y : _≡_ {A = ℕ} 0 1 = cc in omega arith
 verdict-refused (suc k) place number e z = let y : suc k ≡ number = ap verdictNumber e in omega arith
 
@@ -116,16 +146,14 @@ pub is-refused : (tags : Tags) (r : codes.Verdict) → tags .tag r ≡ 1 → ver
 is-refused tags (Taken placed) e = absurd (omega (arith, tags .at-taken placed))
 is-refused tags (Refused number) e = refl
 
-pub refused-located : {s : Setup} {v : ℕ} {buffer bytes : List ℕ} {number : ℕ} → Located s v buffer bytes (Refused number)
+pub refused-located : {start : ℕ → ℕ} {reading number : ℕ} → LocatedBy start reading (Refused number)
 refused-located =
     record {
       stands = λ placed e. absurd (let z : _≡_ {A = ℕ} 0 1 = cc in omega arith);
       reads = λ placed e. absurd (let z : _≡_ {A = ℕ} 0 1 = cc in omega arith);
     }
 
-pub taken-located :
-    {s : Setup} {v : ℕ} {buffer bytes : List ℕ} {placed : Placed} → placed .place .at ≡ frameStart (s .epsilon) buffer (placed .place .index)
-    → placed .reading ≡ readingOf s v (decode (s .epsilon) bytes) → Located s v buffer bytes (Taken placed)
+pub taken-located : {start : ℕ → ℕ} {reading : ℕ} {placed : Placed} → placed .place .at ≡ start (placed .place .index) → placed .reading ≡ reading → LocatedBy start reading (Taken placed)
 taken-located {placed} h r =
     record {
       stands = λ placed′ e. let same : placed ≡ placed′ = cc in rw (← same) h;

@@ -96,13 +96,17 @@ heardWith listens s v queue batch = hear s v (questionsFor listens s v) (record 
 abbrev pub heardAll : Bool → Setup → ℕ → List ℕ → List ℕ → Heard
 heardAll listens s v batch buffer = heardWith listens s v (held (s .epsilon) buffer) batch
 
+-- what hearing leaves in the buffers, whatever hears, by what is heard: `held` says which frames stand in a buffer, and `bytes` what frames come to
+pub record HeardBuffers (held : List ℕ → List Frame) (bytes : List Frame → List ℕ) (heard : Heard) (buffer verdicts : List ℕ) (took : ℕ) (buffer′ verdicts′ : List ℕ) : Type 0 where
+  pub buffer-is : buffer′ ≡ overlay (bytes (heard .queue)) buffer
+  pub queue : held buffer′ ≡ heard .queue
+  pub numbers : verdicts′ ≡ overlay (heard .verdicts) verdicts
+  pub taken-is : took ≡ takenCount (heard .verdicts)
+
 pub record HeardQueue (listens : Bool) (s : Setup) (v : ℕ) (batch buffer verdicts : List ℕ) (took count stop : ℕ) (buffer′ table′ starts′ verdicts′ : List ℕ) : Type 0 where
   pub queued : Queued s v buffer′ table′ starts′
   pub extent : Extent (s .epsilon) buffer′ count stop
-  pub buffer-is : buffer′ ≡ overlay (encodeFrames (heardAll listens s v batch buffer .queue)) buffer
-  pub queue : held (s .epsilon) buffer′ ≡ heardAll listens s v batch buffer .queue
-  pub numbers : verdicts′ ≡ overlay (heardAll listens s v batch buffer .verdicts) verdicts
-  pub taken-is : took ≡ takenCount (heardAll listens s v batch buffer .verdicts)
+  pub buffers : HeardBuffers (held (s .epsilon)) encodeFrames (heardAll listens s v batch buffer) buffer verdicts took buffer′ verdicts′
 
 -- what goes into the stamp, by the verdicts. 02, 2.6: one that only listens keeps "no counts"
 unfoldable pub absorbedFor : Bool → Setup → ℕ → Timestamp → List (List ℕ) → List ℕ → Timestamp
@@ -123,12 +127,16 @@ pub record ClockOpened (s : Setup) (v : ℕ) (sound : Bool) (last least repair :
   pub recent : Recent s least
   pub repaired : repair ≡ cond sound 0 1
 
--- 01, tick 1 and 2: the tables judged, the stamp with which hearing starts, and the least due clock that the queue may have after them
-pub record StampOpened (s : Setup) (v : ℕ) (t t′ : Timestamp) (least repair : ℕ) : Type 0 where
-  pub stamp : t′ ≡ widened (openingStamp s v t)
-  pub least-is : least ≡ leastDue s v t
+-- a stamp with which hearing starts, whether the tables were sound, and the least due clock that the queue may have after them, as the code has them
+pub record OpenedAs (stamp₀ : Timestamp) (sound : Bool) (due : ℕ) (s : Setup) (t′ : Timestamp) (least repair : ℕ) : Type 0 where
+  pub stamp : t′ ≡ widened stamp₀
+  pub least-is : least ≡ due
   pub recent : Recent s least
-  pub repaired : repair ≡ cond (tablesSound s v t) 0 1
+  pub repaired : repair ≡ cond sound 0 1
+
+-- 01, tick 1 and 2: the tables judged, the stamp with which hearing starts, and the least due clock that the queue may have after them
+abbrev pub StampOpened : Setup → ℕ → Timestamp → Timestamp → ℕ → ℕ → Type 0
+StampOpened s v t t′ least repair = OpenedAs (openingStamp s v t) (tablesSound s v t) (leastDue s v t) s t′ least repair
 
 -- 01, tick 1: the queue judged by the least due clock allowed, and emptied if it is unsound
 unfoldable pub keptBuffer : Setup → ℕ → ℕ → List ℕ → List ℕ
@@ -214,13 +222,19 @@ attendedAll listens s v least batch buffer = heardWith listens s v (otherOnes s 
 abbrev pub attendedFrames : Bool → Setup → ℕ → ℕ → List ℕ → List ℕ → List Frame
 attendedFrames listens s v least batch buffer = deliveredIn s v (overdueOnes s v least buffer) (attendedAll listens s v least batch buffer .queue)
 
-pub record AttendedQueue (listens : Bool) (s : Setup) (v least : ℕ) (batch buffer verdicts delivery : List ℕ) (repair took delivered : ℕ) (buffer′ verdicts′ delivery′ : List ℕ) : Type 0 where
-  pub repaired : repair ≡ cond (soundHoldback s v least buffer) 0 2
-  pub taken-is : took ≡ takenCount (attendedAll listens s v least batch buffer .verdicts)
-  pub count-is : delivered ≡ length (attendedFrames listens s v least batch buffer)
-  pub kept : buffer′ ≡ encodeHoldback (holdbackSize s) (keptIn s v (attendedAll listens s v least batch buffer .queue))
-  pub numbers : verdicts′ ≡ overlay (attendedAll listens s v least batch buffer .verdicts) verdicts
-  pub given : delivery′ ≡ overlay (encodeFrames (attendedFrames listens s v least batch buffer)) delivery
+-- what a call leaves, whatever the frames' widths: by whether the queue was sound, what was heard, what is handed out and what stays
+pub record AttendedWith (sound : Bool) (heard : Heard) (handed stays : List Frame) (size : ℕ) (verdicts delivery : List ℕ) (repair took delivered : ℕ) (buffer′ verdicts′ delivery′ : List ℕ) : Type 0 where
+  pub repaired : repair ≡ cond sound 0 2
+  pub taken-is : took ≡ takenCount (heard .verdicts)
+  pub count-is : delivered ≡ length handed
+  pub kept : buffer′ ≡ encodeHoldback size stays
+  pub numbers : verdicts′ ≡ overlay (heard .verdicts) verdicts
+  pub given : delivery′ ≡ overlay (encodeFrames handed) delivery
+
+abbrev pub AttendedQueue : Bool → Setup → ℕ → ℕ → List ℕ → List ℕ → List ℕ → List ℕ → ℕ → ℕ → ℕ → List ℕ → List ℕ → List ℕ → Type 0
+AttendedQueue listens s v least batch buffer verdicts delivery repair took delivered buffer′ verdicts′ delivery′ =
+    AttendedWith (soundHoldback s v least buffer) (attendedAll listens s v least batch buffer) (attendedFrames listens s v least batch buffer)
+    (keptIn s v (attendedAll listens s v least batch buffer .queue)) (holdbackSize s) verdicts delivery repair took delivered buffer′ verdicts′ delivery′
 
 -- and the stamp
 pub record AttendedStamp (listens : Bool) (s : Setup) (v least : ℕ) (t : Timestamp) (batch buffer : List ℕ) (t′ : Timestamp) : Type 0 where

@@ -56,10 +56,13 @@ abbrev pub verdictOf : Verdict → judging.Verdict
 verdictOf (Taken placed) = taken (placed .place .index)
 verdictOf (Refused number) = refused number
 
--- where the place of a taken frame stands, and the reading of its r near v
-pub record Located (s : setups.Setup) (v : ℕ) (buffer bytes : List ℕ) (r : Verdict) : Type 0 where
-  pub stands : (placed : Placed) → r ≡ Taken placed → placed .place .at ≡ frameStart (s .epsilon) buffer (placed .place .index)
-  pub reads : (placed : Placed) → r ≡ Taken placed → placed .reading ≡ readingOf s v (decode (s .epsilon) bytes)
+-- where the place of a taken frame stands, by where each place does, and the reading of its r near v
+pub record LocatedBy (start : ℕ → ℕ) (reading : ℕ) (r : Verdict) : Type 0 where
+  pub stands : (placed : Placed) → r ≡ Taken placed → placed .place .at ≡ start (placed .place .index)
+  pub reads : (placed : Placed) → r ≡ Taken placed → placed .reading ≡ reading
+
+abbrev pub Located : setups.Setup → ℕ → List ℕ → List ℕ → Verdict → Type 0
+Located s v buffer bytes r = LocatedBy (frameStart (s .epsilon) buffer) (readingOf s v (decode (s .epsilon) bytes)) r
 
 -- what is asked of a frame: 10 to 16. 02, 2.6: "not 15" of one that only listens
 unfoldable pub questionsFor : Bool → setups.Setup → ℕ → Asking

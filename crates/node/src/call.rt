@@ -10,10 +10,15 @@ use setup::delivery_roomy;
 use setup::longest_frame;
 use setup::valid_for;
 ghost use mathlib.Core.Path.{_≡_};
-ghost use mathlib.Core.Bool.{Bool};
+ghost use mathlib.Core.Bool.{Bool, true};
+ghost use Prim.Native.Nat.{ℕ};
 ghost use lib.ListN.{length};
+ghost use Rattle.model.specs.Setup.{inLimits};
 ghost use Rattle.model.specs.Question.{firstNo};
 ghost use Rattle.model.specs.Tick.{callQuestions};
+ghost use Rattle.model.specs.Wider.{sizedQuestions};
+ghost use Rattle.setup.specs.Views.{setupOf};
+ghost use Rattle.setup.specs.declared.limits.Setup as setups;
 ghost use Rattle.timestamp.specs.declared.stamp.Timestamp as stamps;
 ghost use Rattle.node.specs.Views.{callInput, bufferQuestions};
 
@@ -46,6 +51,38 @@ pub fn check_buffers(
     0
 }
 
+// 2 to 6, with the sizes by that setup: the number of the first no, or 0. Nothing else of the call is asked about.
+pub fn check_sized(
+    setup: Setup,
+    clock: usize,
+    holdback: &[u8],
+    batch: &[u8],
+    payload: &[u8],
+    outgoing: &[u8],
+    verdicts: &[u8],
+    delivery: &[u8],
+) -> u8
+    requires { ⌜ inLimits (setupOf setup) ≡ true ⌝ }
+    ensures { λ r. ⌜ ((given : setups.Setup) (own : ℕ) (tables : stamps.Timestamp) (send : Bool) → r ≡ firstNo (sizedQuestions (setupOf setup)
+        (callInput given own clock tables (now (holdback .entry)) (now (batch .entry)) send (now (payload .entry)) (now (outgoing .entry))
+        (now (verdicts .entry)) (now (delivery .entry))))) ⌝ }
+{
+    let number = check_holdback(setup, clock, holdback);
+    if number != 0 {
+        return number;
+    }
+    let longest = longest_frame(setup.epsilon as usize);
+    check_buffers(
+        longest,
+        holdback,
+        batch,
+        payload,
+        outgoing,
+        verdicts,
+        delivery,
+    )
+}
+
 // The number of the first no, or 0. Neither the tables nor whether to send is asked about.
 pub fn check_call(
     setup: Setup,
@@ -65,13 +102,9 @@ pub fn check_call(
     if !valid_for(setup, own) {
         return BAD_SETUP;
     }
-    let number = check_holdback(setup, clock, holdback);
-    if number != 0 {
-        return number;
-    }
-    let longest = longest_frame(setup.epsilon as usize);
-    check_buffers(
-        longest,
+    check_sized(
+        setup,
+        clock,
         holdback,
         batch,
         payload,

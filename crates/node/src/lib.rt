@@ -13,6 +13,7 @@ mod verdict;
 pub use attending::Attended;
 pub use attending::attend;
 pub use call::check_buffers;
+pub use call::check_sized;
 pub use clock::OpenedClock;
 pub use clock::open_clock;
 pub use hearing::Heard;

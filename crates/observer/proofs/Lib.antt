@@ -1,4 +1,4 @@
 -- `Calls` has the questions of a call, one by one.
-mod Calls
+pub mod Calls
 -- `Finish` has the call from its parts.
 pub mod Finish

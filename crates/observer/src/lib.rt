@@ -2,5 +2,6 @@
 mod call;
 mod listening;
 
+pub use call::check_sized;
 pub use listening::Listened;
 pub use listening::listen;

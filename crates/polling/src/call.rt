@@ -44,7 +44,7 @@ fn check_poll(setup: Setup, own: u32, clock: usize, holdback: &[u8]) -> u8
 }
 
 // A refused call answers the number alone; an empty shelf, and an unsound one, with 0.
-fn nothing(number: u8) -> Polled
+pub fn nothing(number: u8) -> Polled
     ensures { λ r. ⌜ pollAnswer r ≡ record { number = number; next = none; within = 0 } ⌝ }
 {
     Polled {

@@ -3,5 +3,6 @@ mod call;
 mod front;
 
 pub use call::Polled;
+pub use call::nothing;
 pub use call::poll;
 pub use front::Next;

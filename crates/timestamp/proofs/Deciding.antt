@@ -83,25 +83,33 @@ or-nothing reason Ordering·lt = refl
 or-nothing reason Ordering·eq = refl
 or-nothing reason Ordering·gt = refl
 
--- 01's order of two stamps, "first difference decides": the sum, the counts, the station number and r, in turn
+-- "first difference decides": the sum, so many counts, the station number and r, in turn
+pub rows-in-turn : (most total total′ : ℕ) (m m′ : List ℕ) (station station′ x y : ℕ) → length m ≡ most → length m′ ≡ most
+    → compareKeys most (total ∷ (m ++ (station ∷ x ∷ []))) (total′ ∷ (m′ ++ (station′ ∷ y ∷ [])))
+    ≡ orDecide (decideBy bySum (compare total total′))
+    (orDecide (compareCounts 0 m m′) (orDecide (decideBy byStation (compare station station′)) (decideBy byR (compare x y))))
+unfolding reasonAt
+rows-in-turn most total total′ m m′ station station′ x y e e′ =
+    let all : 0 + length m ≡ most = omega arith in
+    rw (
+      at-front,
+      at-cons,
+      at-counts most 0 m m′ (station ∷ x ∷ []) (station′ ∷ y ∷ []) (e ∙ sym e′) all,
+      at-cons most (suc most) station station′ (x ∷ []) (y ∷ []),
+      at-cons most (suc (suc most)) x y [] [],
+      at-none most (suc (suc (suc most))) (at-end most (suc (suc (suc most))) (omega arith)),
+      at-station most,
+      at-r most,
+      or-nothing byR (compare x y),
+    )
+
+-- 01's order of two stamps
 pub keys-in-turn : (epsilon x y : ℕ) (f g : Frame)
     → compareKeys epsilon (keyBy epsilon x f) (keyBy epsilon y g)
     ≡ orDecide (decideBy bySum (compare (x + f .stamp .c) (y + g .stamp .c)))
     (orDecide (compareCounts 0 (countsDown epsilon (f .stamp)) (countsDown epsilon (g .stamp)))
     (orDecide (decideBy byStation (compare (f .station) (g .station))) (decideBy byR (compare x y))))
-unfolding keyBy sum reasonAt
+unfolding keyBy sum
 keys-in-turn epsilon x y f g =
-    let even : length (countsDown epsilon (f .stamp)) ≡ length (countsDown epsilon (g .stamp)) =
-    length-down epsilon (f .stamp) ∙ sym (length-down epsilon (g .stamp)) in
-    let all : 0 + length (countsDown epsilon (f .stamp)) ≡ epsilon = omega (arith, length-down epsilon (f .stamp)) in
-    rw (
-      at-front,
-      at-cons,
-      at-counts epsilon 0 (countsDown epsilon (f .stamp)) (countsDown epsilon (g .stamp)) (f .station ∷ x ∷ []) (g .station ∷ y ∷ []) even all,
-      at-cons epsilon (suc epsilon) (f .station) (g .station) (x ∷ []) (y ∷ []),
-      at-cons epsilon (suc (suc epsilon)) x y [] [],
-      at-none epsilon (suc (suc (suc epsilon))) (at-end epsilon (suc (suc (suc epsilon))) (omega arith)),
-      at-station epsilon,
-      at-r epsilon,
-      or-nothing byR (compare x y),
-    )
+    rows-in-turn epsilon (x + f .stamp .c) (y + g .stamp .c) (countsDown epsilon (f .stamp)) (countsDown epsilon (g .stamp)) (f .station) (g .station) x y
+    (length-down epsilon (f .stamp)) (length-down epsilon (g .stamp))

@@ -3,8 +3,8 @@
 use Prim.Native.Nat.{ℕ, _+_, _-_, _*_, _≤_, _<_, compare}
 use native.Mathlib.Numerals.{add-one}
 use native.Mathlib.Omega.{arith}
-use mathlib.Core.Path.{_≡_, refl, sym}
-use mathlib.Core.List.{List, [], _∷_}
+use mathlib.Core.Path.{_≡_, refl, sym, _∙_}
+use mathlib.Core.List.{List, _∷_}
 use mathlib.Core.Logic.{_⊎_, inl, inr}
 use lib.ListN.{length, take, drop, getD, drop-of-length-le}
 use lib.Seq.{drop-cons, getD-take}
@@ -15,7 +15,7 @@ use Rattle.model.specs.Timestamp.{Timestamp, trimmed}
 use Rattle.model.specs.Order.{keyBy}
 use Rattle.model.specs.Comparison.{compareKeys}
 use Rattle.model.specs.Comparison as model
-use Rattle.lemmas.proofs.Counts.{length-down, down-places}
+use Rattle.lemmas.proofs.Counts.{down-places}
 use Rattle.timestamp.proofs.Steps.{trimmed-all}
 use Rattle.timestamp.proofs.Deciding.{keys-in-turn}
 use Rattle.timestamp.specs.declared.ordering.Reason.{Reason}
@@ -26,47 +26,61 @@ use Rattle.timestamp.specs.declared.ordering.Rank.{Rank}
 use Rattle.timestamp.specs.Views.{ofCounts}
 use Rattle.timestamp.specs.Ranks.{comparisonOf, decideBy, orDecide, compareCounts, newestCounts, stampedFrame, rankedFrame}
 
--- the counts from place k of the order on: the first of them, then the others
-down-cons : (epsilon c k : ℕ) (kn : List ℕ) → k < epsilon
-    → drop k (newestCounts epsilon c kn) ≡ getD kn (epsilon + c - k) 0 ∷ drop (k + 1) (newestCounts epsilon c kn)
-down-cons epsilon c k kn h =
-    let inside : k < length (tab epsilon (λ j. getD kn (epsilon + c - j) 0)) =
-    omega (arith, length-tab epsilon (λ j. getD kn (epsilon + c - j) 0)) in
-    rw (
-      down-places epsilon (ofCounts c kn),
-      drop-cons (tab epsilon (λ j. getD kn (epsilon + c - j) 0)) k 0 inside,
-      getD-tab epsilon (λ j. getD kn (epsilon + c - j) 0) k 0 h,
-      add-one k,
-    )
+-- ---- two rows of counts, from place k on
 
-down-none : (epsilon c k : ℕ) (kn : List ℕ) → epsilon ≤ k → drop k (newestCounts epsilon c kn) ≡ []
-down-none epsilon c k kn h =
-    let short : length (newestCounts epsilon c kn) ≤ k = omega (arith, length-down epsilon (record { r = 0; c = c; kn = kn })) in
-    drop-of-length-le (newestCounts epsilon c kn) short
+row-cons : (most k : ℕ) (f : ℕ → ℕ) → k < most → drop k (tab most f) ≡ f k ∷ drop (k + 1) (tab most f)
+row-cons most k f h =
+    let inside : k < length (tab most f) = omega (arith, length-tab most f) in
+    rw (drop-cons (tab most f) k 0 inside, getD-tab most f k 0 h, add-one k)
 
--- the comparison of the counts from place k on
+module _ (most : ℕ) (f g : ℕ → ℕ) where
+  abbrev rowsFrom : ℕ → model.Comparison
+  rowsFrom k = compareCounts k (drop k (tab most f)) (drop k (tab most g))
+
+  pub rows-none : (k : ℕ) → most ≤ k → rowsFrom k ≡ comparisonOf Alike
+  unfolding compareCounts
+  rows-none k h = let short : length (tab most f) ≤ k = omega (arith, length-tab most f) in rw (drop-of-length-le (tab most f) short)
+
+  pub rows-first : (k : ℕ) → k < most → f k < g k → rowsFrom k ≡ comparisonOf (First (Count k))
+  unfolding compareCounts
+  rows-first k h less = rw (row-cons most k f h, row-cons most k g h, compare-lt less)
+
+  pub rows-second : (k : ℕ) → k < most → g k < f k → rowsFrom k ≡ comparisonOf (Second (Count k))
+  unfolding compareCounts
+  rows-second k h less = rw (row-cons most k f h, row-cons most k g h, compare-gt less)
+
+  pub rows-next : (k : ℕ) → k < most → g k ≤ f k → f k ≤ g k → rowsFrom k ≡ rowsFrom (k + 1)
+  unfolding compareCounts
+  rows-next k h le ge =
+      let same : f k ≡ g k = omega arith in
+      rw (row-cons most k f h, row-cons most k g h, compare-eq same, add-one k)
+
+-- the ε newest counts of two
 module _ (epsilon ca cb : ℕ) (a b : List ℕ) where
   abbrev rest : ℕ → model.Comparison
   rest k = compareCounts k (drop k (newestCounts epsilon ca a)) (drop k (newestCounts epsilon cb b))
 
+  abbrev rowA : ℕ → ℕ
+  rowA j = getD a (epsilon + ca - j) 0
+
+  abbrev rowB : ℕ → ℕ
+  rowB j = getD b (epsilon + cb - j) 0
+
+  rest-rows : (k : ℕ) → rest k ≡ compareCounts k (drop k (tab epsilon rowA)) (drop k (tab epsilon rowB))
+  rest-rows k = rw (down-places epsilon (ofCounts ca a), down-places epsilon (ofCounts cb b))
+
   pub counts-none : (k : ℕ) → epsilon ≤ k → rest k ≡ comparisonOf Alike
-  unfolding compareCounts
-  counts-none k h = rw (down-none epsilon ca k a h)
+  counts-none k h = rest-rows k ∙ rows-none epsilon rowA rowB k h
 
   pub counts-first : (k : ℕ) → k < epsilon → getD a (epsilon + ca - k) 0 < getD b (epsilon + cb - k) 0 → rest k ≡ comparisonOf (First (Count k))
-  unfolding compareCounts
-  counts-first k h less = rw (down-cons epsilon ca k a h, down-cons epsilon cb k b h, compare-lt less)
+  counts-first k h less = rest-rows k ∙ rows-first epsilon rowA rowB k h less
 
   pub counts-second : (k : ℕ) → k < epsilon → getD b (epsilon + cb - k) 0 < getD a (epsilon + ca - k) 0 → rest k ≡ comparisonOf (Second (Count k))
-  unfolding compareCounts
-  counts-second k h less = rw (down-cons epsilon ca k a h, down-cons epsilon cb k b h, compare-gt less)
+  counts-second k h less = rest-rows k ∙ rows-second epsilon rowA rowB k h less
 
   pub counts-next : (k : ℕ) → k < epsilon → getD b (epsilon + cb - k) 0 ≤ getD a (epsilon + ca - k) 0
       → getD a (epsilon + ca - k) 0 ≤ getD b (epsilon + cb - k) 0 → rest k ≡ rest (k + 1)
-  unfolding compareCounts
-  counts-next k h le ge =
-      let same : getD a (epsilon + ca - k) 0 ≡ getD b (epsilon + cb - k) 0 = omega arith in
-      rw (down-cons epsilon ca k a h, down-cons epsilon cb k b h, compare-eq same, add-one k)
+  counts-next k h le ge = rest-rows k ∙ rows-next epsilon rowA rowB k h le ge ∙ sym (rest-rows (k + 1))
 
 -- the tags of the answers, by which a match tells them apart
 pub record Tags : Type 0 where
@@ -74,6 +88,15 @@ pub record Tags : Type 0 where
   pub at-first : (reason : Reason) → tag (First reason) ≡ 0
   pub at-second : (reason : Reason) → tag (Second reason) ≡ 1
   pub at-alike : tag Alike ≡ 2
+
+-- a comparison in four turns: of sums, counts, stations and readings
+pub record Turns : Type 0 where
+  pub whole : model.Comparison
+  pub sums : model.Comparison
+  pub counts : model.Comparison
+  pub stations : model.Comparison
+  pub readings : model.Comparison
+  pub in-turn : whole ≡ orDecide sums (orDecide counts (orDecide stations readings))
 
 module _ (tags : Tags) where
   -- an answer that is not `Alike` decides
@@ -89,45 +112,38 @@ module _ (tags : Tags) where
   undecided d (Second reason) k = absurd (omega (arith, tags .at-second reason))
   undecided d Alike k = refl
 
-  -- the comparison of two frames, from the answers about their sums, counts, stations and readings
-  module _ (epsilon : ℕ) (f g : Rank) (a b : List ℕ) where
-    abbrev sums : model.Comparison
-    sums = decideBy model.bySum (compare (f .reading + f .c) (g .reading + g .c))
+  module _ (turns : Turns) where
+    pub by-sums : (s : Comparison) → comparisonOf s ≡ turns .sums → (tags .tag s ≡ 0) ⊎ (tags .tag s ≡ 1) → comparisonOf s ≡ turns .whole
+    by-sums s es h = rw (turns .in-turn, ← es) (decided (orDecide (turns .counts) (orDecide (turns .stations) (turns .readings))) s h)
 
-    abbrev counts : model.Comparison
-    counts = compareCounts 0 (newestCounts epsilon (f .c) a) (newestCounts epsilon (g .c) b)
+    module _ (s : Comparison) (es : comparisonOf s ≡ turns .sums) (hs : tags .tag s ≡ 2) where
+      past-sums : orDecide (turns .counts) (orDecide (turns .stations) (turns .readings)) ≡ turns .whole
+      past-sums = rw (turns .in-turn, ← es) (undecided (orDecide (turns .counts) (orDecide (turns .stations) (turns .readings))) s hs)
 
-    abbrev stations : model.Comparison
-    stations = decideBy model.byStation (compare (f .station) (g .station))
+      pub by-counts : (k : Comparison) → comparisonOf k ≡ turns .counts → (tags .tag k ≡ 0) ⊎ (tags .tag k ≡ 1) → comparisonOf k ≡ turns .whole
+      by-counts k ek h = rw (← past-sums, ← ek) (decided (orDecide (turns .stations) (turns .readings)) k h)
 
-    abbrev readings : model.Comparison
-    readings = decideBy model.byR (compare (f .reading) (g .reading))
+      module _ (k : Comparison) (ek : comparisonOf k ≡ turns .counts) (hk : tags .tag k ≡ 2) where
+        past-counts : orDecide (turns .stations) (turns .readings) ≡ turns .whole
+        past-counts = rw (← past-sums, ← ek) (undecided (orDecide (turns .stations) (turns .readings)) k hk)
 
-    abbrev whole : model.Comparison
-    whole = compareKeys epsilon (keyBy epsilon (f .reading) (rankedFrame f a)) (keyBy epsilon (g .reading) (rankedFrame g b))
+        pub by-stations : (t : Comparison) → comparisonOf t ≡ turns .stations → (tags .tag t ≡ 0) ⊎ (tags .tag t ≡ 1) → comparisonOf t ≡ turns .whole
+        by-stations t et h = rw (← past-counts, ← et) (decided (turns .readings) t h)
 
-    in-turn : whole ≡ orDecide sums (orDecide counts (orDecide stations readings))
-    in-turn = keys-in-turn epsilon (f .reading) (g .reading) (rankedFrame f a) (rankedFrame g b)
+        pub by-readings : (t r : Comparison) → comparisonOf t ≡ turns .stations → tags .tag t ≡ 2 → comparisonOf r ≡ turns .readings → comparisonOf r ≡ turns .whole
+        by-readings t r et ht er = rw (← past-counts, ← et, er) (undecided (turns .readings) t ht)
 
-    pub by-sums : (s : Comparison) → comparisonOf s ≡ sums → (tags .tag s ≡ 0) ⊎ (tags .tag s ≡ 1) → comparisonOf s ≡ whole
-    by-sums s es h = rw (in-turn, ← es) (decided (orDecide counts (orDecide stations readings)) s h)
-
-    module _ (s : Comparison) (es : comparisonOf s ≡ sums) (hs : tags .tag s ≡ 2) where
-      past-sums : orDecide counts (orDecide stations readings) ≡ whole
-      past-sums = rw (in-turn, ← es) (undecided (orDecide counts (orDecide stations readings)) s hs)
-
-      pub by-counts : (k : Comparison) → comparisonOf k ≡ counts → (tags .tag k ≡ 0) ⊎ (tags .tag k ≡ 1) → comparisonOf k ≡ whole
-      by-counts k ek h = rw (← past-sums, ← ek) (decided (orDecide stations readings) k h)
-
-      module _ (k : Comparison) (ek : comparisonOf k ≡ counts) (hk : tags .tag k ≡ 2) where
-        past-counts : orDecide stations readings ≡ whole
-        past-counts = rw (← past-sums, ← ek) (undecided (orDecide stations readings) k hk)
-
-        pub by-stations : (t : Comparison) → comparisonOf t ≡ stations → (tags .tag t ≡ 0) ⊎ (tags .tag t ≡ 1) → comparisonOf t ≡ whole
-        by-stations t et h = rw (← past-counts, ← et) (decided readings t h)
-
-        pub by-readings : (t r : Comparison) → comparisonOf t ≡ stations → tags .tag t ≡ 2 → comparisonOf r ≡ readings → comparisonOf r ≡ whole
-        by-readings t r et ht er = rw (← past-counts, ← et, er) (undecided readings t ht)
+-- of two ranks with their ε newest counts
+abbrev pub rankedTurns : ℕ → Rank → Rank → List ℕ → List ℕ → Turns
+rankedTurns epsilon f g a b =
+    record {
+      whole = compareKeys epsilon (keyBy epsilon (f .reading) (rankedFrame f a)) (keyBy epsilon (g .reading) (rankedFrame g b));
+      sums = decideBy model.bySum (compare (f .reading + f .c) (g .reading + g .c));
+      counts = compareCounts 0 (newestCounts epsilon (f .c) a) (newestCounts epsilon (g .c) b);
+      stations = decideBy model.byStation (compare (f .station) (g .station));
+      readings = decideBy model.byR (compare (f .reading) (g .reading));
+      in-turn = keys-in-turn epsilon (f .reading) (g .reading) (rankedFrame f a) (rankedFrame g b);
+    }
 
 -- the order looks at no place past the 2ε counts
 pub key-trimmed : (epsilon x station : ℕ) (t : Timestamp) → epsilon ≤ 16 → length (t .kn) ≡ 32 → t .c < epsilon

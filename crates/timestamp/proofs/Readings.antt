@@ -1,6 +1,6 @@
 -- A clock read near v, and a count found by the clock that it is for.
 -- Assumes nothing.
-use Prim.Native.Nat.{ℕ, _+_, _*_, _-_, _%_, _≤_, _<_, max}
+use Prim.Native.Nat.{ℕ, _+_, _*_, _-_, _%_, _≤_, _<_, max, min}
 use native.Mathlib.Nat.{mod-eq-of-lt, add-mod-right}
 use native.Mathlib.Omega.{arith}
 use mathlib.Core.Path.{_≡_, sym, ap, _∙_}
@@ -156,29 +156,30 @@ module _ (w to i x : ℕ) (own l kn : List ℕ) (h : to + i < w) (e : kn ≡ tab
       go j (inl p) = rw (eq-eqb j (to + i) p) (raised-here ∙ ap (raisedAt to own (take (i + 1) l)) (sym p))
       go j (inr n) = rw (ne-eqb j (to + i) n, same-count to i j l n)
 
--- the frame's counts, placed by how far its reading lies ahead or behind
-module _ (width modulus reading up down count : ℕ) (other : List ℕ) (eu : up ≡ reading - modulus) (ed : down ≡ modulus - reading)
-    (ec : count ≡ width - (up + down)) where
-  placed-within : (i : ℕ) → i < width → placedAt up (take count (drop down other)) i ≡ placedAt reading (take width other) (modulus + i)
+-- the frame's counts, so many as its width, among own ones, so many as another: placed by how far its reading lies ahead or behind
+module _ (width wide modulus reading up down count : ℕ) (other : List ℕ) (eu : up ≡ reading - modulus) (ed : down ≡ modulus - reading)
+    (less : count ≤ width - up) (few : count ≤ wide - down) (all : (x : ℕ) → count ≤ x → x < width - up → wide - down ≤ x) where
+  placed-within : (i : ℕ) → i < width → placedAt up (take count (drop down other)) i ≡ placedAt reading (take wide other) (modulus + i)
   placed-within i k = go (lt-or-ge i up) (lt-or-ge (i - up) count)
     where
       go : (i < up) ⊎ (up ≤ i) → (i - up < count) ⊎ (count ≤ i - up)
-          → placedAt up (take count (drop down other)) i ≡ placedAt reading (take width other) (modulus + i)
+          → placedAt up (take count (drop down other)) i ≡ placedAt reading (take wide other) (modulus + i)
       go (inl h) m =
           let a : modulus + i < reading = omega arith in
-          sym (count-before up i (take count (drop down other)) h) ∙ count-before reading (modulus + i) (take width other) a
+          sym (count-before up i (take count (drop down other)) h) ∙ count-before reading (modulus + i) (take wide other) a
       go (inr h) (inl m) =
           let a : reading ≤ modulus + i = omega arith in
-          let b : modulus + i - reading < width = omega arith in
+          let b : modulus + i - reading < wide = omega arith in
           let z : down + (i - up) ≡ modulus + i - reading = omega arith in
           sym (count-inside up i count (drop down other) h m)
           ∙ getD-drop down other (i - up) 0
           ∙ ap (λ (n : ℕ). getD other n 0) z
-          ∙ count-inside reading (modulus + i) width other a b
+          ∙ count-inside reading (modulus + i) wide other a b
       go (inr h) (inr m) =
           let a : reading ≤ modulus + i = omega arith in
-          let b : width ≤ modulus + i - reading = omega arith in
-          sym (count-past up i count (drop down other) h m) ∙ count-past reading (modulus + i) width other a b
+          let rest : wide - down ≤ i - up = all (i - up) m (omega arith) in
+          let b : wide ≤ modulus + i - reading = omega arith in
+          sym (count-past up i count (drop down other) h m) ∙ count-past reading (modulus + i) wide other a b
 
   placed-without : (i : ℕ) → width ≤ i → 0 ≡ placedAt up (take count (drop down other)) i
   placed-without i k =
@@ -190,22 +191,43 @@ module _ (width modulus reading up down count : ℕ) (other : List ℕ) (eu : up
   -- so that the counts that they raise are the larger ones
   module _ (w : ℕ) (own : List ℕ) (fits : width ≤ w) where
     abbrev larger : List ℕ
-    larger = tab width (largerAt modulus reading (take width own) (take width other))
+    larger = tab width (largerAt modulus reading (take width own) (take wide other))
 
     larger-at : (i : ℕ) → raisedAt up (padded w (take width own)) (take count (drop down other)) i ≡ getD larger i 0
     larger-at i = rw (getD-padded w (take width own) i) (go (lt-or-ge i width))
       where
         go : (i < width) ⊎ (width ≤ i) → raisedAt up (take width own) (take count (drop down other)) i ≡ getD larger i 0
-        go (inl h) = rw (getD-tab width (largerAt modulus reading (take width own) (take width other)) i 0 h, placed-within i h)
+        go (inl h) = rw (getD-tab width (largerAt modulus reading (take width own) (take wide other)) i 0 h, placed-within i h)
         go (inr h) =
             let short : length (take width own) ≤ i = omega (arith, length-take width own) in
-            rw (getD-tab-out width (largerAt modulus reading (take width own) (take width other)) i 0 h, List·getD-eq-default (take width own) 0 short)
+            rw (getD-tab-out width (largerAt modulus reading (take width own) (take wide other)) i 0 h, List·getD-eq-default (take width own) 0 short)
             (omega (arith, placed-without i h))
 
-    pub larger-raised : tab w (raisedAt up (padded w (take width own)) (take count (drop down other))) ≡ padded w larger
-    larger-raised =
+    larger-by : tab w (raisedAt up (padded w (take width own)) (take count (drop down other))) ≡ padded w larger
+    larger-by =
         let long : length (padded w larger) ≡ w =
-        length-padded w larger (omega (arith, length-tab width (largerAt modulus reading (take width own) (take width other)))) in
+        length-padded w larger (omega (arith, length-tab width (largerAt modulus reading (take width own) (take wide other)))) in
         tab-ext w (raisedAt up (padded w (take width own)) (take count (drop down other))) (λ i. getD (padded w larger) i 0)
         (λ i h. larger-at i ∙ sym (getD-padded w larger i))
         ∙ tab-getD w (padded w larger) 0 long
+
+least-all : (a b c : ℕ) → c ≡ min a b → (x : ℕ) → c ≤ x → x < a → b ≤ x
+least-all a b c e x h k = omega arith
+
+pub larger-beside :
+    (width wide modulus reading up down count : ℕ) (other : List ℕ) → up ≡ reading - modulus → down ≡ modulus - reading
+    → count ≡ min (width - up) (wide - down) → (w : ℕ) (own : List ℕ) → width ≤ w
+    → tab w (raisedAt up (padded w (take width own)) (take count (drop down other)))
+    ≡ padded w (tab width (largerAt modulus reading (take width own) (take wide other)))
+larger-beside width wide modulus reading up down count other eu ed ec =
+    let less : count ≤ width - up = omega arith in
+    let few : count ≤ wide - down = omega arith in
+    larger-by width wide modulus reading up down count other eu ed less few (least-all (width - up) (wide - down) count ec)
+
+-- of one width
+pub larger-raised :
+    (width modulus reading up down count : ℕ) (other : List ℕ) → up ≡ reading - modulus → down ≡ modulus - reading → count ≡ width - (up + down)
+    → (w : ℕ) (own : List ℕ) → width ≤ w
+    → tab w (raisedAt up (padded w (take width own)) (take count (drop down other)))
+    ≡ padded w (tab width (largerAt modulus reading (take width own) (take width other)))
+larger-raised width modulus reading up down count other eu ed ec = larger-beside width width modulus reading up down count other eu ed (omega arith)

@@ -2,7 +2,7 @@
 -- Assumes nothing.
 use Prim.Native.Nat.{ℕ, _+_, _-_, _*_, _≤_, _<_, max}
 use native.Mathlib.Omega.{arith}
-use mathlib.Core.Path.{_≡_, sym, ap, _∙_}
+use mathlib.Core.Path.{_≡_, ap, _∙_}
 use mathlib.Core.List.{List}
 use lib.ListN.{length, take, drop, getD, set, replicate, length-replicate, length-take}
 use lib.Seq.{take-all}
@@ -44,7 +44,7 @@ module _ (epsilon : ℕ) (t : Timestamp) (small : epsilon ≤ 16) (long : length
       rw (trimmed-all, moved, padded-more 32 (take (2 * epsilon - k) (drop k (t .kn))) k fits, ec, e)
 
   -- places past the 2ε counts are 0
-  narrow-counts : t ≡ widened (trimmed epsilon t) → t .kn ≡ padded 32 (take (2 * epsilon) (t .kn))
+  pub narrow-counts : t ≡ widened (trimmed epsilon t) → t .kn ≡ padded 32 (take (2 * epsilon) (t .kn))
   unfolding widened
   narrow-counts narrow = ap (λ (u : Timestamp). u .kn) (narrow ∙ ap widened trimmed-all)
 

@@ -149,17 +149,20 @@ pub struct Act {
 }
 
 impl Act {
-    /// Has the call both pairs?
-    pub fn has_both(&self) -> bool {
-        self.phase == Phase::Both
+    /// The plain setup of the call; none where it has both pairs.
+    pub fn plain(&self) -> Option<Setup> {
+        match self.phase {
+            Older => Some(self.case.setup.old),
+            Phase::Both => None,
+            Newer => Some(self.case.setup.wider()),
+        }
     }
 
     /// Calls the oracle.
     pub fn run(&mut self) -> Answer {
-        match self.phase {
-            Older => self.run_with(self.case.setup.old),
-            Phase::Both => self.run_with(self.case.setup),
-            Newer => self.run_with(self.case.setup.wider()),
+        match self.plain() {
+            Some(setup) => self.run_with(setup),
+            None => self.run_with(self.case.setup),
         }
     }
 
@@ -183,11 +186,7 @@ impl Act {
 
     /// The frames that the call handed out, each with its r, read near v, as a true clock.
     pub fn handed_out(&self) -> Vec<(Frame<'_>, i64)> {
-        let own = match self.phase {
-            Older => self.case.setup.old,
-            Phase::Both => self.case.setup.side(),
-            Newer => self.case.setup.wider(),
-        };
+        let own = self.plain().unwrap_or(self.case.setup.side());
         let mut rest = &self.case.delivery[2..];
         let mut frames = Vec::new();
         for _ in 0..holdback::count(&self.case.delivery) {

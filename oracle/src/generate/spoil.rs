@@ -23,14 +23,14 @@ impl Spoil for Both {
         let (epsilon, delta) = (self.old.epsilon, self.old.delta);
         match rng.below(8) {
             0 | 1 => spoil_setup(rng, &mut self.old),
-            2 => self.wider_epsilon = rng.pick(&[0, epsilon - 1, 17, huge]),
+            2 => self.wider_epsilon = rng.pick(&[0, (epsilon - 1).max(0), 17, huge]),
             3 => self.wider_delta = rng.pick(&[(delta - 1).max(0), 65, 256, huge]),
             4 => {
                 let b = self.old.modulus.min(65_535);
                 self.change = rng.pick(&[b, b + 1, 65_536 + self.change.min(b), huge]);
             }
             5 => self.marked = rng.pick(&[2, 3, 256, 257, huge]),
-            6 => self.old.modulus = self.wider().least_modulus() - 1,
+            6 => self.old.modulus = (self.wider().least_modulus() - 1).clamp(0, huge),
             _ => {
                 std::mem::swap(&mut self.old.epsilon, &mut self.wider_epsilon);
                 if rng.one_in(2) {

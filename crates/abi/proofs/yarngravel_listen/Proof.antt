@@ -7,7 +7,7 @@ use borrow.Author.Needs.{needs}
 use Rattle.model.specs.Frame.{twoAt, twoBytes}
 use Rattle.model.specs.Observer.{Listening, listen}
 use Rattle.abi.specs.Packing.{setupBy, packedListened}
-use Rattle.abi.proofs.Words.{listened-small, last-written, refused-listening, accepted-listening}
+use Rattle.abi.proofs.Words.{listened-small, last-written, refused-listening, accepted-listening, refused-listen}
 use Rattle.abi.proofs.yarngravel_listen.Statement.{statement}
 use Rattle.abi.proofs.yarngravel_listen.Tie as tie
 
@@ -45,7 +45,8 @@ returns : tie.Need-returns
 returns c =
     let start = c .before .before .before .before .before .before .before .before .before .before .before .before .before .before .before .before .before .before .before .before in
     let given = c .before .before .before .before .before .before .before .before .before .before .before .before .before .last-of .ensures in
-    refused-listening (input start (twoAt (start .args .last .now) 0)) (start .args .last .now) _ (c .before .before .before .before .before .before .before .before .before .listen .ensures ∙ ap (λ (l : ℕ). listen (input start l)) (given .0)) (ap twoBytes (sym (given .0)) ∙ given .1) (c .before .if1 .taken)
+    let i = input start (twoAt (start .args .last .now) 0) in
+    refused-listening i _ (listen i) (c .before .before .before .before .before .before .before .before .before .listen .ensures ∙ ap (λ (l : ℕ). listen (input start l)) (given .0)) (start .args .last .now) (ap twoBytes (sym (given .0)) ∙ given .1) (refused-listen i) (c .before .if1 .taken)
 
 -- the last clock has two bytes
 two : (c : tie.After-last-of) → length (c .before .before .before .before .before .before .before .args .last .now) ≡ 2
@@ -78,7 +79,8 @@ returns-2 : tie.Need-returns-2
 unfolding packedListened
 returns-2 c =
     let start = c .before .before .before .before .before .before .before .before .before .before .before .before .before .before .before .before .before .before .before .before .before .before in
-    accepted-listening (input start (twoAt (start .args .last .now) 0)) _ (c .pack-listened .result) _ (c .before .before .before .before .before .before .before .before .before .before .before .listen .ensures ∙ ap (λ (l : ℕ). listen (input start l)) (c .before .before .before .before .before .before .before .before .before .before .before .before .before .before .before .last-of .ensures .0)) (c .pack-listened .ensures)
+    let i = input start (twoAt (start .args .last .now) 0) in
+    accepted-listening i _ (listen i) (c .before .before .before .before .before .before .before .before .before .before .before .listen .ensures ∙ ap (λ (l : ℕ). listen (input start l)) (c .before .before .before .before .before .before .before .before .before .before .before .before .before .before .before .last-of .ensures .0)) (c .pack-listened .result) _ (c .pack-listened .ensures)
     (last-written (start .args .last .now) _ (c .before .before .before .before .before .before .before .before .before .before .before .listen .result .last) (two (c .before .before .before .before .before .before .before .before .before .before .before .before .before .before .before)) (c .before .put-u16 .ensures))
 
 pub yarngravel-listen-spec : {M : Type 1} → statement M

@@ -7,6 +7,8 @@ use oracle::generate::{ledgers, ChargeCase, Prng, TotalCase};
 use oracle::ledger::{count, CAPACITY, LENGTH};
 
 impl Case for ChargeCase {
+    const NAME: &str = "charge";
+
     fn call(&mut self, subject: &mut dyn Subject) -> u64 {
         subject.charge(self)
     }
@@ -21,6 +23,8 @@ impl Case for ChargeCase {
 }
 
 impl Case for TotalCase {
+    const NAME: &str = "total";
+
     fn call(&mut self, subject: &mut dyn Subject) -> u64 {
         subject.total(self)
     }

@@ -12,6 +12,8 @@ use std::collections::VecDeque;
 const RUN: usize = 1_000;
 
 impl Case for FiguresCase {
+    const NAME: &str = "figures";
+
     fn call(&mut self, subject: &mut dyn Subject) -> u64 {
         subject.figures(self)
     }

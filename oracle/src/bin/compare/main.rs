@@ -10,8 +10,7 @@
 //! library: it compares the oracle with itself, and then with itself and each fault in turn; for
 //! those of `yard` it makes no calls, for those of engines only calls of engines, for those of
 //! charges only charges and totals, for those of the figures only their calls, and for those of calls
-//! with both pairs only such. The library has none of the latter yet: once it has, the feature
-//! `wider` lets the first form make them.
+//! with both pairs only such.
 
 mod charges;
 mod coverage;
@@ -150,15 +149,20 @@ fn compare_alike(
     println!("{}", done.coverage);
     let (seconds, seed) = (start.elapsed().as_secs_f64(), options.seed);
     let Comparison { calls, engine_calls, wider_calls, charge_calls, figures_calls, .. } = done;
-    let Comparison { pairs, traces, rehearsals, .. } = done;
+    let Comparison { plain_beside, pairs, traces, rehearsals, .. } = done;
     println!(
         "{calls} calls, {traces} traces and {rehearsals} rehearsals alike, seed {seed}, {seconds:.1} s"
     );
     let engines = engine_calls - pairs;
     println!("{engines} of the calls are of engines, {pairs} of a node beside one");
-    println!("{wider_calls} of the calls have both pairs, {charge_calls} are charges and totals");
+    println!(
+        "{wider_calls} of the calls have both pairs, {plain_beside} are plain ones beside them"
+    );
+    println!("{charge_calls} of the calls are charges and totals");
     println!("{figures_calls} of the calls are of the figures");
-    let plain = calls - engine_calls - wider_calls - charge_calls - figures_calls;
+    let made = done.made.iter().map(|(name, count)| format!("{name} {count}"));
+    println!("calls of each function: {}", made.collect::<Vec<_>>().join(", "));
+    let plain = calls - engine_calls - wider_calls - plain_beside - charge_calls - figures_calls;
     let lengths =
         [plain, engine_calls, wider_calls, charge_calls, figures_calls, traces, rehearsals];
     match done.coverage.gaps(lengths) {
@@ -186,9 +190,6 @@ fn compare_with_library(options: &Options) -> Result<(), String> {
         }
     }
     let mut oracle = Oracle { fault: options.fault };
-    // The library has no calls with both pairs without the feature.
-    let wider = if cfg!(feature = "wider") { options.wider } else { 0 };
-    let options = &Options { wider, ..options.clone() };
     compare_alike(options, &mut oracle, &mut subject::Proved { replay, yard })
 }
 
@@ -208,7 +209,9 @@ fn for_fault(options: &Options, fault: u8) -> Options {
     match fault {
         _ if fault::OF_YARD.contains(&fault) => Options { traces, ..none },
         _ if fault::OF_ENGINES.contains(&fault) => Options { engines, ..none },
-        _ if fault::OF_WIDER.contains(&fault) => Options { wider, ..none },
+        _ if fault::OF_WIDER.iter().any(|faults| faults.contains(&fault)) => {
+            Options { wider, ..none }
+        }
         _ if fault::OF_CHARGES.contains(&fault) => Options { charges, ..none },
         _ if fault::OF_FIGURES.contains(&fault) => Options { figures, ..none },
         _ => options.clone(),

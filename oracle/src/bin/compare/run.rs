@@ -10,12 +10,16 @@ use oracle::generate::{LongCase, LongFreshCase, LongReadCase, LongWriteCase};
 use oracle::generate::{TickCase, WordsCase, WriteCase};
 use oracle::playing::hex;
 use oracle::{Answer, Timestamp};
+use std::collections::BTreeMap;
 
 /// How many bytes of a buffer a report shows; zeros at its end are never shown.
 const SHOWN: usize = 1_000;
 
 /// A call that any subject can make.
 pub trait Case: Clone {
+    /// The library's name of it.
+    const NAME: &str;
+
     fn call(&mut self, subject: &mut dyn Subject) -> u64;
     /// The arguments that are not buffers.
     fn numbers(&self) -> String;
@@ -24,6 +28,8 @@ pub trait Case: Clone {
 }
 
 impl Case for TickCase {
+    const NAME: &str = "tick";
+
     fn call(&mut self, subject: &mut dyn Subject) -> u64 {
         subject.tick(self)
     }
@@ -46,6 +52,8 @@ impl Case for TickCase {
 }
 
 impl Case for FreshCase {
+    const NAME: &str = "fresh";
+
     fn call(&mut self, subject: &mut dyn Subject) -> u64 {
         subject.fresh(self)
     }
@@ -60,6 +68,8 @@ impl Case for FreshCase {
 }
 
 impl Case for FreshLastCase {
+    const NAME: &str = "fresh_last";
+
     fn call(&mut self, subject: &mut dyn Subject) -> u64 {
         subject.fresh_last(self)
     }
@@ -74,6 +84,8 @@ impl Case for FreshLastCase {
 }
 
 impl Case for ReadCase {
+    const NAME: &str = "read";
+
     fn call(&mut self, subject: &mut dyn Subject) -> u64 {
         subject.read(self)
     }
@@ -88,6 +100,8 @@ impl Case for ReadCase {
 }
 
 impl Case for WriteCase {
+    const NAME: &str = "write";
+
     fn call(&mut self, subject: &mut dyn Subject) -> u64 {
         subject.write(self)
     }
@@ -102,6 +116,8 @@ impl Case for WriteCase {
 }
 
 impl Case for WordsCase {
+    const NAME: &str = "words";
+
     fn call(&mut self, subject: &mut dyn Subject) -> u64 {
         subject.words(self)
     }
@@ -116,6 +132,8 @@ impl Case for WordsCase {
 }
 
 impl Case for CompareCase {
+    const NAME: &str = "compare";
+
     fn call(&mut self, subject: &mut dyn Subject) -> u64 {
         subject.compare(self)
     }
@@ -130,6 +148,8 @@ impl Case for CompareCase {
 }
 
 impl Case for PollCase {
+    const NAME: &str = "poll";
+
     fn call(&mut self, subject: &mut dyn Subject) -> u64 {
         subject.poll(self)
     }
@@ -144,6 +164,8 @@ impl Case for PollCase {
 }
 
 impl Case for ListenCase {
+    const NAME: &str = "listen";
+
     fn call(&mut self, subject: &mut dyn Subject) -> u64 {
         subject.listen(self)
     }
@@ -164,6 +186,8 @@ impl Case for ListenCase {
 }
 
 impl Case for LongFreshCase {
+    const NAME: &str = "long_fresh";
+
     fn call(&mut self, subject: &mut dyn Subject) -> u64 {
         subject.long_fresh(self)
     }
@@ -178,6 +202,8 @@ impl Case for LongFreshCase {
 }
 
 impl Case for LongCase {
+    const NAME: &str = "long_tick";
+
     fn call(&mut self, subject: &mut dyn Subject) -> u64 {
         subject.long_tick(self)
     }
@@ -200,6 +226,8 @@ impl Case for LongCase {
 }
 
 impl Case for LongReadCase {
+    const NAME: &str = "long_read";
+
     fn call(&mut self, subject: &mut dyn Subject) -> u64 {
         subject.long_read(self)
     }
@@ -214,6 +242,8 @@ impl Case for LongReadCase {
 }
 
 impl Case for LongWriteCase {
+    const NAME: &str = "long_write";
+
     fn call(&mut self, subject: &mut dyn Subject) -> u64 {
         subject.long_write(self)
     }
@@ -234,10 +264,14 @@ pub struct Comparison<'s> {
     pub coverage: Coverage,
     /// All calls.
     pub calls: u64,
+    /// How many of these each function got.
+    pub made: BTreeMap<&'static str, u64>,
     /// Those that were made for engines, the nodes beside them included.
     pub engine_calls: u64,
-    /// Those with both pairs (02, 2.10).
+    /// Those with both pairs (02, 2.10), and the plain ones beside them: of groups before and after, and
+    /// where the pairs are equal.
     pub wider_calls: u64,
+    pub plain_beside: u64,
     /// Those of charges and totals (02, 2.11).
     pub charge_calls: u64,
     /// Those of the figures (02, 2.13).
@@ -252,14 +286,16 @@ impl<'s> Comparison<'s> {
     pub fn new(left: &'s mut dyn Subject, right: &'s mut dyn Subject) -> Self {
         let coverage = Coverage::default();
         let [calls, engine_calls, wider_calls, charge_calls, figures_calls] = [0; 5];
-        let [pairs, traces, rehearsals] = [0; 3];
+        let [plain_beside, pairs, traces, rehearsals] = [0; 4];
         Comparison {
             left,
             right,
             coverage,
             calls,
+            made: BTreeMap::new(),
             engine_calls,
             wider_calls,
+            plain_beside,
             charge_calls,
             figures_calls,
             pairs,
@@ -354,7 +390,7 @@ impl<'s> Comparison<'s> {
         })
     }
 
-    fn tick(&mut self, case: TickCase) -> Result<(TickCase, Answer), String> {
+    pub fn tick(&mut self, case: TickCase) -> Result<(TickCase, Answer), String> {
         let given = case.clone();
         let (case, word) = self.case(case)?;
         let answer = abi::unpack_tick(word);
@@ -385,7 +421,7 @@ impl<'s> Comparison<'s> {
         }
     }
 
-    fn listen(&mut self, given: ListenCase) -> Result<(ListenCase, Answer), String> {
+    pub fn listen(&mut self, given: ListenCase) -> Result<(ListenCase, Answer), String> {
         let (left, word) = self.case(given.clone())?;
         let answer = abi::unpack_tick(word);
         for (what, kind) in observers::kinds_of(&given, &left, &answer) {
@@ -430,6 +466,7 @@ impl<'s> Comparison<'s> {
         let (mut left, mut right) = (case.clone(), case.clone());
         let answers = [left.call(self.left), right.call(self.right)];
         self.calls += 1;
+        *self.made.entry(C::NAME).or_default() += 1;
         if answers[0] == answers[1] && left.buffers() == right.buffers() {
             return Ok((left, answers[0]));
         }

@@ -175,11 +175,12 @@ impl Subject for Oracle {
     fn read_in(&mut self, case: &mut ReadCase<Both>) -> u64 {
         let read = self.faulty(|| {
             let frame = oracle::read(&case.setup, &case.frame)?;
-            Ok((frame, case.setup.is_wide(frame.timestamp.kn.len())))
+            let state = oracle::read_state(&case.setup, &frame);
+            Ok((frame, state, case.setup.is_wide(frame.timestamp.kn.len())))
         });
         match read {
-            Ok((frame, is_wide)) => {
-                case.state = frame.timestamp.to_state();
+            Ok((frame, state, is_wide)) => {
+                case.state = state;
                 pack_frame(&frame) | abi::pack_wide(is_wide)
             }
             Err(number) => abi::pack_refusal(number),

@@ -6,13 +6,15 @@ use crate::subject::Subject;
 use oracle::generate::pairs::clock;
 use oracle::generate::wider::{aimed, Walk};
 use oracle::generate::{spoil, CompareCase, FreshCase, ListenCase, PollCase, Prng, ReadCase};
-use oracle::generate::{Bounds, Season, TickCase, WordsCase, WriteInCase};
+use oracle::generate::{Act, Bounds, Season, TickCase, WordsCase, WriteCase, WriteInCase};
 use oracle::holdback::Entry;
-use oracle::{abi, batch, node, Answer, Both, Frame, Limits, Reason, Settings};
+use oracle::{abi, batch, node, Answer, Both, Frame, Limits, Reason, Settings, Setup};
 
 type Kinds = Vec<(&'static str, u8)>;
 
 impl Case for TickCase<Both> {
+    const NAME: &str = "tick_in";
+
     fn call(&mut self, subject: &mut dyn Subject) -> u64 {
         subject.tick_in(self)
     }
@@ -35,6 +37,8 @@ impl Case for TickCase<Both> {
 }
 
 impl Case for ListenCase<Both> {
+    const NAME: &str = "listen_in";
+
     fn call(&mut self, subject: &mut dyn Subject) -> u64 {
         subject.listen_in(self)
     }
@@ -55,6 +59,8 @@ impl Case for ListenCase<Both> {
 }
 
 impl Case for FreshCase<Both> {
+    const NAME: &str = "fresh_in";
+
     fn call(&mut self, subject: &mut dyn Subject) -> u64 {
         subject.fresh_in(self)
     }
@@ -69,6 +75,8 @@ impl Case for FreshCase<Both> {
 }
 
 impl Case for ReadCase<Both> {
+    const NAME: &str = "read_in";
+
     fn call(&mut self, subject: &mut dyn Subject) -> u64 {
         subject.read_in(self)
     }
@@ -83,6 +91,8 @@ impl Case for ReadCase<Both> {
 }
 
 impl Case for WriteInCase {
+    const NAME: &str = "write_in";
+
     fn call(&mut self, subject: &mut dyn Subject) -> u64 {
         subject.write_in(self)
     }
@@ -98,6 +108,8 @@ impl Case for WriteInCase {
 }
 
 impl Case for WordsCase<Both> {
+    const NAME: &str = "words_in";
+
     fn call(&mut self, subject: &mut dyn Subject) -> u64 {
         subject.words_in(self)
     }
@@ -112,6 +124,8 @@ impl Case for WordsCase<Both> {
 }
 
 impl Case for CompareCase<Both> {
+    const NAME: &str = "compare_in";
+
     fn call(&mut self, subject: &mut dyn Subject) -> u64 {
         subject.compare_in(self)
     }
@@ -126,6 +140,8 @@ impl Case for CompareCase<Both> {
 }
 
 impl Case for PollCase<Both> {
+    const NAME: &str = "poll_in";
+
     fn call(&mut self, subject: &mut dyn Subject) -> u64 {
         subject.poll_in(self)
     }
@@ -140,18 +156,67 @@ impl Case for PollCase<Both> {
     }
 }
 
+/// A call with both pairs, and the plain one that it is where they are equal.
+trait CaseIn: Case {
+    type Plain: Case;
+
+    fn setup(&self) -> &Both;
+
+    /// The same call with a plain setup.
+    fn with_plain(self, setup: Setup) -> Self::Plain;
+}
+
+/// Says so of a case that has a setup and other parts, which are the same in the plain call.
+macro_rules! case_in {
+    ($case:ident { $($part:ident),* }) => {
+        impl CaseIn for $case<Both> {
+            type Plain = $case;
+
+            fn setup(&self) -> &Both {
+                &self.setup
+            }
+
+            fn with_plain(self, setup: Setup) -> $case {
+                let $case { $($part,)* .. } = self;
+                $case { setup, $($part),* }
+            }
+        }
+    };
+}
+
+case_in!(TickCase { clock, state, holdback, batch, send, payload, outgoing, verdicts, delivery });
+case_in!(ListenCase { clock, last, holdback, batch, verdicts, delivery });
+case_in!(FreshCase { clock, state });
+case_in!(ReadCase { frame, state });
+case_in!(WordsCase { batch, verdicts, text });
+case_in!(CompareCase { clock, first, second });
+case_in!(PollCase { clock, within, holdback });
+
+impl CaseIn for WriteInCase {
+    type Plain = WriteCase;
+
+    fn setup(&self) -> &Both {
+        &self.setup
+    }
+
+    fn with_plain(self, setup: Setup) -> WriteCase {
+        let WriteInCase { node, state, payload, out, .. } = self;
+        WriteCase { setup, node, state, payload, out }
+    }
+}
+
 impl Comparison<'_> {
     /// Lets nodes walk through V from any memory, and plays groups that go through it, until at least
-    /// this many calls more are made.
+    /// this many calls with both pairs are made.
     pub fn run_wider(&mut self, rng: &mut Prng, count: u64) -> Result<(), String> {
         let before = self.calls;
-        while self.calls - before < count {
+        while self.wider_calls < count {
             if rng.one_in(2) {
                 self.walk(rng)?;
             } else {
                 self.season(rng)?;
             }
-            self.wider_calls = self.calls - before;
+            self.plain_beside = self.calls - before - self.wider_calls;
         }
         Ok(())
     }
@@ -171,23 +236,49 @@ impl Comparison<'_> {
         Ok(())
     }
 
-    /// A group's calls with both pairs; those with a plain setup are the oracle's alone.
+    /// A group's calls, those with a plain setup before and after too.
     fn season(&mut self, rng: &mut Prng) -> Result<(), String> {
         let is_fresh = rng.one_in(3);
         let mut season = Season::start(rng, Bounds::default(), is_fresh);
         for _ in 0..rng.range(1, 80) {
             let payload = rng.payload();
             let Some(mut act) = season.next_act(rng, &payload) else { break };
-            if act.has_both() {
-                match act.is_node {
-                    true => drop(self.tick_in(act.case.clone())?),
-                    false => drop(self.listen_in(ListenCase::of(act.case.clone()))?),
-                }
-            }
+            self.act(&act)?;
+            self.meet_all(act_kinds(&season, &act));
             let answer = act.run();
             season.settle(&act, &answer);
         }
         Ok(())
+    }
+
+    /// A call of a group, node's or observer's, with the setup of its phase.
+    fn act(&mut self, act: &Act) -> Result<(), String> {
+        let case = act.case.clone();
+        match (act.plain(), act.is_node) {
+            (Some(setup), true) => drop(self.case(case.with(setup))?),
+            (Some(setup), false) => drop(self.case(ListenCase::of(case.with(setup)))?),
+            (None, true) => drop(self.tick_in(case)?),
+            (None, false) => drop(self.listen_in(ListenCase::of(case))?),
+        }
+        Ok(())
+    }
+
+    /// Makes a call with both pairs. Where these are equal the plain call has to leave the same.
+    fn case_in<C: CaseIn>(&mut self, given: C) -> Result<(C, u64), String> {
+        let (left, word) = self.case(given.clone())?;
+        self.wider_calls += 1;
+        let Some(setup) = given.setup().plain() else { return Ok((left, word)) };
+        let marked = given.setup().marked as u8;
+        let numbers = given.numbers();
+        let (plain, plain_word) = self.case(given.with_plain(setup))?;
+        if word != plain_word || left.buffers() != plain.buffers() {
+            return Err(format!(
+                "call {}: {numbers}\n  equal pairs do not what the plain call does",
+                self.calls
+            ));
+        }
+        self.coverage.meet("in equal", marked);
+        Ok((left, word))
     }
 
     /// Other calls before a tick: with wrong arguments, with another memory, with V elsewhere, with a
@@ -213,16 +304,16 @@ impl Comparison<'_> {
         let at = clock(rng, &case.setup.old);
         let setup = aimed(rng, case.setup, at);
         if rng.one_in(8) {
-            let (_, word) = self.case(FreshCase::random(rng, setup))?;
+            let (_, word) = self.case_in(FreshCase::random(rng, setup))?;
             self.coverage.meet("in fresh", abi::number(word));
         }
         if rng.one_in(2) {
-            let (_, word) = self.case(ReadCase::random(rng, setup, at))?;
+            let (_, word) = self.case_in(ReadCase::random(rng, setup, at))?;
             self.coverage.meet("in reader", abi::number(word));
             if abi::number(word) == 0 {
                 self.coverage.meet("in reader wide", abi::unpack_wide(word).into());
             }
-            let (case, word) = self.case(WriteInCase::random(rng, setup, at))?;
+            let (case, word) = self.case_in(WriteInCase::random(rng, setup, at))?;
             self.coverage.meet("in writer", abi::number(word));
             if abi::number(word) == 0 {
                 self.coverage.meet("in writer wide", case.wide.into());
@@ -236,7 +327,7 @@ impl Comparison<'_> {
         if rng.one_in(3) {
             let judged = WordsCase::judged(rng, left);
             for case in [judged.clone().spoil(rng), judged] {
-                let (_, word) = self.case(case)?;
+                let (_, word) = self.case_in(case)?;
                 self.coverage.meet("in words", abi::number(word));
             }
         }
@@ -245,7 +336,7 @@ impl Comparison<'_> {
             true => PollCase::after(rng, left),
             false => PollCase::random(rng, &other),
         };
-        let (_, word) = self.case(case)?;
+        let (_, word) = self.case_in(case)?;
         self.coverage.meet("in poll", abi::number(word));
         if abi::number(word) == 0 {
             self.coverage.meet("in poll next", abi::unpack_poll(word).next.is_some().into());
@@ -254,7 +345,7 @@ impl Comparison<'_> {
     }
 
     fn tick_in(&mut self, given: TickCase<Both>) -> Result<(TickCase<Both>, Answer), String> {
-        let (left, word) = self.case(given.clone())?;
+        let (left, word) = self.case_in(given.clone())?;
         let answer = abi::unpack_tick(word);
         self.coverage.meet("in call", answer.number);
         if answer.number == 0 {
@@ -266,7 +357,7 @@ impl Comparison<'_> {
     }
 
     fn listen_in(&mut self, given: ListenCase<Both>) -> Result<ListenCase<Both>, String> {
-        let (left, word) = self.case(given)?;
+        let (left, word) = self.case_in(given)?;
         let answer = abi::unpack_tick(word);
         self.coverage.meet("in listen", answer.number);
         if answer.number == 0 {
@@ -277,7 +368,7 @@ impl Comparison<'_> {
     }
 
     fn compare_in(&mut self, case: CompareCase<Both>) -> Result<(), String> {
-        let (case, word) = self.case(case)?;
+        let (case, word) = self.case_in(case)?;
         self.coverage.meet("in compare", abi::number(word));
         if abi::number(word) == 0 {
             self.meet_all(compare_kinds(&case));
@@ -288,6 +379,17 @@ impl Comparison<'_> {
     fn meet_all(&mut self, kinds: Kinds) {
         kinds.into_iter().for_each(|(what, kind)| self.coverage.meet(what, kind));
     }
+}
+
+/// Of a call of a group: its phase; and what it does for the first time: 0 takes up both pairs, 1 has
+/// the mark, 2 takes the plain new setup.
+fn act_kinds(season: &Season, act: &Act) -> Kinds {
+    let before = season.members[act.member].phase;
+    let passes = act.last < season.schedule.change && season.schedule.change <= act.v;
+    let mut kinds = vec![("in phase", act.phase as u8)];
+    kinds.extend((before < act.phase).then_some(("in turn", 2 * before as u8)));
+    kinds.extend((passes && act.plain().is_none()).then_some(("in turn", 1)));
+    kinds
 }
 
 /// Of an accepted tick: the mend; the side (1 is marked); and where the tables are sound, their width

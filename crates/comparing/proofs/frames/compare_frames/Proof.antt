@@ -1,6 +1,6 @@
 -- `comparing::frames::compare_frames` meets its contract: the ranks are read, and the counts are lent. Assumes nothing.
-use Prim.Native.Nat.{_+_, _≤_, _^_}
-use mathlib.Core.Path.{_≡_, ap, _∙_}
+use Prim.Native.Nat.{_+_}
+use mathlib.Core.Path.{ap, _∙_}
 use native.Mathlib.Omega.{arith}
 use borrow.Author.Needs.{needs}
 use Rattle.setup.specs.Views.{setupOf}

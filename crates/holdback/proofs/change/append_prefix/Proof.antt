@@ -1,61 +1,37 @@
--- `holdback::change::append_prefix` meets its contract: the number of all frames, and the bytes of these behind the others. Assumes nothing.
-use Prim.Native.Nat.{ℕ, _-_, _≤_}
+-- `holdback::change::append_prefix` meets its contract: `append_frames` of frames that are as wide as ε says. Assumes nothing.
 use native.Mathlib.Omega.{arith}
-use lib.ListN.{length, take, drop, length-take, length-drop}
-use Rattle.holdback.proofs.Changes.{located, prefix-appended}
+use Rattle.model.specs.Holdback.{held}
+use Rattle.holdback.specs.Queue.{Written}
+use Rattle.holdback.proofs.Changes.{spans-written, written-in}
 use borrow.Author.Needs.{needs}
 use Rattle.holdback.proofs.change.append_prefix.Statement.{statement}
 use Rattle.holdback.proofs.change.append_prefix.Tie as tie
 
--- where the prefix ends, and where the frames that are handed out already do
-place : (c : tie.After-slice-known) → (2 ≤ c .before .before .args .prefix .at) × ((c .before .before .args .prefix .at ≤ c .before .before .args .end) × (c .before .before .args .end ≤ length (c .before .before .args .buf .now)))
-place c = located (c .before .before .pre .0) (λ i. omega (arith, c .before .shared-slice-known .given i))
+-- the queue as it is written, and the delivery
+module _ (c : tie.After-slice-known) where
+  abbrev start : tie.Start
+  start = c .before .before
 
-add-put-u16 : tie.Need-add-put-u16
-add-put-u16 c = omega (arith, c .before .before .before .before .before .pre .1 .1 .1)
+  written : Written (held (start .args .epsilon) (start .args .buf .now)) (start .args .buf .now) (start .args .count) (start .args .end) (start .args .prefix .index) (start .args .prefix .at)
+  written = spans-written (start .pre .0) (λ i. omega (arith, c .before .shared-slice-known .given i))
 
-put-u16-requires : tie.Need-put-u16-requires
-put-u16-requires c κs = (omega (arith, c .before .before .before .before .before .pre .1 .0 .two), c .before .before .before .before .before .pre .1 .1 .1)
+  given : Written (held (start .args .epsilon) (start .args .delivery .now)) (start .args .delivery .now) (start .args .given .index) (start .args .given .at) (start .args .given .index) (start .args .given .at)
+  given = spans-written (start .pre .1 .0) (λ i. omega (arith, c .slice-known .given i))
 
-sub-copy-into : tie.Need-sub-copy-into
-sub-copy-into c = omega (arith, place (c .before .before .before .before .before .before .before))
-
-part-copy-into-start : tie.Need-part-copy-into-start
-part-copy-into-start c = omega (arith, place (c .before .before .before .before .before .before .before))
-
-part-copy-into-end : tie.Need-part-copy-into-end
-part-copy-into-end c = omega (arith, place (c .before .before .before .before .before .before .before))
-
-copy-into-requires : tie.Need-copy-into-requires
-copy-into-requires c κs =
-    let start = c .before .before .before .before .before .before .before .before .before .before in
-    omega (
-      arith,
-      place (c .before .before .before .before .before .before .before .before),
-      start .pre .1 .1 .0,
-      length-take (start .args .prefix .at - 2) (drop 2 (start .args .buf .now)),
-      length-drop 2 (start .args .buf .now),
-      c .before .before .before .before .put-u16 .kept .0,
-    )
+append-frames-requires : tie.Need-append-frames-requires
+append-frames-requires c κs =
+    let place = written-in (written (c .before)) in
+    let handed = written-in (given (c .before)) in
+    ((omega arith, (omega arith, omega arith)), start (c .before) .pre .1 .1)
 
 same-length : tie.Need-same-length
 same-length c = search needs
 
 returns : tie.Need-returns
 returns c =
-    let start = c .before .before .before .before .before .before .before .before .before .before .before .before .before in
-    prefix-appended (start .pre .0) (λ i. omega (arith, c .before .before .before .before .before .before .before .before .before .before .before .before .shared-slice-known .given i)) (start .args .delivery .now) _ _ (start .pre .1 .0)
-    (λ i. omega (arith, c .before .before .before .before .before .before .before .before .before .before .before .slice-known .given i)) (c .before .before .before .before .before .before .before .put-u16 .ensures) (c .before .before .copy-into .ensures)
+    let entry = c .before .before .before .before in
+    let first = start entry in
+    c .before .before .append-frames .ensures (held (first .args .epsilon) (first .args .buf .now)) (held (first .args .epsilon) (first .args .delivery .now)) (first .args .count) (first .args .end) (written entry) (given entry)
 
 pub append-prefix-spec : {M : Type 1} → statement M
-append-prefix-spec =
-    tie.close
-    (tie.spec
-    add-put-u16
-    put-u16-requires
-    sub-copy-into
-    part-copy-into-start
-    part-copy-into-end
-    copy-into-requires
-    same-length
-    returns)
+append-prefix-spec = tie.close (tie.spec append-frames-requires same-length returns)

@@ -1,31 +1,29 @@
--- `holdback::change::cut_front` meets its contract: the others move to the front, and the count falls. Assumes nothing.
+-- `holdback::change::cut_front` meets its contract: `drop_frames` of frames that are as wide as ε says. Assumes nothing.
 use native.Mathlib.Omega.{arith}
-use Rattle.holdback.proofs.Changes.{located, front-cut}
+use Rattle.model.specs.Holdback.{held}
+use Rattle.holdback.specs.Queue.{Written}
+use Rattle.holdback.proofs.Changes.{spans-written, written-in}
 use borrow.Author.Needs.{needs}
 use Rattle.holdback.proofs.change.cut_front.Statement.{statement}
 use Rattle.holdback.proofs.change.cut_front.Tie as tie
 
-sub-move-left : tie.Need-sub-move-left
-sub-move-left c = omega (arith, located (c .before .before .pre .0) (λ i. omega (arith, c .before .slice-known .given i)))
+-- the queue as it is written
+written : (c : tie.After-slice-known) → Written (held (c .before .args .epsilon) (c .before .args .buf .now)) (c .before .args .buf .now) (c .before .args .count) (c .before .args .end) (c .before .args .prefix .index) (c .before .args .prefix .at)
+written c = spans-written (c .before .pre .0) (λ i. omega (arith, c .slice-known .given i))
 
-move-left-requires : tie.Need-move-left-requires
-move-left-requires c κs = let place = located (c .before .before .pre .0) (λ i. omega (arith, c .before .slice-known .given i)) in (omega arith, omega arith)
-
-sub-put-u16 : tie.Need-sub-put-u16
-sub-put-u16 c = search needs
-
-put-u16-requires : tie.Need-put-u16-requires
-put-u16-requires c κs = search needs
+drop-frames-requires : tie.Need-drop-frames-requires
+drop-frames-requires c κs =
+    let place = written-in (written (c .before)) in
+    let start = c .before .before in
+    ((omega arith, (omega arith, omega arith)), (start .pre .0 .inside, start .pre .1))
 
 same-length : tie.Need-same-length
 same-length c = search needs
 
 returns : tie.Need-returns
-returns c = let count-is = c .before .before in
-    let moved = count-is .before .before .before .before .before in
-    let entry = moved .before .before in
-    let start = entry .before in
-    front-cut (start .pre .0) (λ i. omega (arith, entry .slice-known .given i)) _ _ (moved .move-left .ensures) (count-is .put-u16 .ensures)
+returns c =
+    let entry = c .before .before .before .before in
+    c .before .before .drop-frames .ensures (held (entry .before .args .epsilon) (entry .before .args .buf .now)) (written entry)
 
 pub cut-front-spec : {M : Type 1} → statement M
-cut-front-spec = tie.close (tie.spec sub-move-left move-left-requires sub-put-u16 put-u16-requires same-length returns)
+cut-front-spec = tie.close (tie.spec drop-frames-requires same-length returns)

@@ -1,31 +1,29 @@
--- `holdback::change::cut_prefix` meets its contract: the prefix is cut off, and zeros follow the others to the end. Assumes nothing.
+-- `holdback::change::cut_prefix` meets its contract: `cut_frames` of frames that are as wide as ε says. Assumes nothing.
 use native.Mathlib.Omega.{arith}
-use Rattle.holdback.proofs.Changes.{located, prefix-cut}
+use Rattle.model.specs.Holdback.{held}
+use Rattle.holdback.specs.Queue.{Written}
+use Rattle.holdback.proofs.Changes.{spans-written, written-in}
 use borrow.Author.Needs.{needs}
 use Rattle.holdback.proofs.change.cut_prefix.Statement.{statement}
 use Rattle.holdback.proofs.change.cut_prefix.Tie as tie
 
-cut-front-requires : tie.Need-cut-front-requires
-cut-front-requires c κs = search needs
+-- the queue as it is written
+written : (c : tie.After-slice-known) → Written (held (c .before .args .epsilon) (c .before .args .buf .now)) (c .before .args .buf .now) (c .before .args .count) (c .before .args .end) (c .before .args .prefix .index) (c .before .args .prefix .at)
+written c = spans-written (c .before .pre .0) (λ i. omega (arith, c .slice-known .given i))
 
-sub-clear : tie.Need-sub-clear
-sub-clear c = omega (arith, located (c .before .before .before .before .before .before .pre .0) (λ i. omega (arith, c .before .before .before .before .before .slice-known .given i)))
-
-sub-clear-2 : tie.Need-sub-clear-2
-sub-clear-2 c = let place = located (c .before .before .before .before .before .before .pre .0) (λ i. omega (arith, c .before .before .before .before .before .slice-known .given i)) in omega arith
-
-clear-requires : tie.Need-clear-requires
-clear-requires c κs = let place = located (c .before .before .before .before .before .before .pre .0) (λ i. omega (arith, c .before .before .before .before .before .slice-known .given i)) in omega arith
+cut-frames-requires : tie.Need-cut-frames-requires
+cut-frames-requires c κs =
+    let place = written-in (written (c .before)) in
+    let start = c .before .before in
+    ((omega arith, (omega arith, omega arith)), (start .pre .0 .inside, start .pre .1))
 
 same-length : tie.Need-same-length
 same-length c = search needs
 
 returns : tie.Need-returns
-returns c = let emptied = c .before .before in
-    let out = emptied .before .before .before .before in
-    let entry = out .before .before in
-    let start = entry .before in
-    prefix-cut (start .pre .0) (λ i. omega (arith, entry .slice-known .given i)) _ _ (out .cut-front .ensures) (emptied .clear .ensures)
+returns c =
+    let entry = c .before .before .before .before in
+    c .before .before .cut-frames .ensures (held (entry .before .args .epsilon) (entry .before .args .buf .now)) (written entry)
 
 pub cut-prefix-spec : {M : Type 1} → statement M
-cut-prefix-spec = tie.close (tie.spec cut-front-requires sub-clear sub-clear-2 clear-requires same-length returns)
+cut-prefix-spec = tie.close (tie.spec cut-frames-requires same-length returns)

@@ -1,30 +1,33 @@
--- `holdback::change::put` meets its contract: `splice::insert` at the place, and the count one higher. Assumes nothing.
+-- `holdback::change::put` meets its contract: `insert_frame` of frames that are as wide as ε says. Assumes nothing.
 use native.Mathlib.Omega.{arith}
-use Rattle.holdback.proofs.Changes.{located, put-placed}
+use Rattle.model.specs.Frame.{decode}
+use Rattle.model.specs.Holdback.{held}
+use Rattle.holdback.specs.Queue.{Written}
+use Rattle.holdback.proofs.RoundTrip.{encode-decode}
+use Rattle.holdback.proofs.Changes.{spans-written, written-in}
 use borrow.Author.Needs.{needs}
 use Rattle.holdback.proofs.change.put.Statement.{statement}
 use Rattle.holdback.proofs.change.put.Tie as tie
 
-insert-requires : tie.Need-insert-requires
-insert-requires c κs = let known = c .before .before .before .pre .0 in
-    let place = located known (λ i. omega (arith, c .before .before .slice-known .given i)) in
-    omega (arith, c .before .before .before .pre .1 .1 .0)
+-- the queue as it is written
+written : (c : tie.After-shared-slice-known) → Written (held (c .before .before .args .epsilon) (c .before .before .args .buf .now)) (c .before .before .args .buf .now) (c .before .before .args .count) (c .before .before .args .end) (c .before .before .args .place .index) (c .before .before .args .place .at)
+written c = spans-written (c .before .before .pre .0) (λ i. omega (arith, c .before .slice-known .given i))
 
-add-put-u16 : tie.Need-add-put-u16
-add-put-u16 c = search needs
-
-put-u16-requires : tie.Need-put-u16-requires
-put-u16-requires c κs = search needs
+insert-frame-requires : tie.Need-insert-frame-requires
+insert-frame-requires c κs =
+    let place = written-in (written (c .before)) in
+    let start = c .before .before .before in
+    (omega arith, (omega arith, start .pre .1 .1))
 
 same-length : tie.Need-same-length
 same-length c = search needs
 
 returns : tie.Need-returns
-returns c = let written = c .before .before in
-    let moved = written .before .before .before .before in
-    let entry = moved .before .before in
+returns c =
+    let entry = c .before .before .before .before in
     let start = entry .before .before in
-    put-placed (start .pre .0) (λ i. omega (arith, entry .before .slice-known .given i)) (start .args .frame .now) _ _ (λ i. omega (arith, entry .shared-slice-known .given i)) (start .pre .1 .0) (moved .insert .ensures) (written .put-u16 .ensures)
+    c .before .before .insert-frame .ensures (held (start .args .epsilon) (start .args .buf .now)) (decode (start .args .epsilon) (start .args .frame .now)) (written entry)
+    (encode-decode (start .args .epsilon) (start .args .frame .now) (λ i. omega (arith, entry .shared-slice-known .given i)) (start .pre .1 .0))
 
 pub put-spec : {M : Type 1} → statement M
-put-spec = tie.close (tie.spec insert-requires add-put-u16 put-u16-requires same-length returns)
+put-spec = tie.close (tie.spec insert-frame-requires same-length returns)

@@ -58,7 +58,7 @@ more : (c : tie.In-loop Inv-loop μ-loop) → c .before .loop .i < countOf (c .b
 more c = omega (arith, c .before .before .count-of .ensures)
 
 inside : (c : tie.In-loop Inv-loop μ-loop) → c .before .loop .i < length (c .before .loop .verdicts)
-inside c = omega (arith, few (c .before .before), more c, c .before .loop .inv .0 .heard .long)
+inside c = omega (arith, few (c .before .before), more c, c .before .loop .inv .0 .turn .heard .long)
 
 walk-entry-requires : tie.Need-walk-entry-requires Inv-loop μ-loop
 walk-entry-requires c κs = search needs
@@ -153,7 +153,7 @@ add-stop : tie.Need-add-stop Inv-loop μ-loop
 add-stop c = omega (arith, stop-small (c .before .before .before .before .before .before .before .before .before .before .before .before .before .before .before .before .pre .0) (c .before .before .before .append .ensures .1 .1))
 
 add-taken : tie.Need-add-taken Inv-loop μ-loop
-add-taken c = omega (arith, few (c .before .before .before .before .before .before .before .before .before .before .before .before), more (c .before .before .before .before .before .before .before .before .before .before), c .before .before .before .before .before .before .before .before .before .before .before .loop .inv .0 .heard .few)
+add-taken c = omega (arith, few (c .before .before .before .before .before .before .before .before .before .before .before .before), more (c .before .before .before .before .before .before .before .before .before .before), c .before .before .before .before .before .before .before .before .before .before .before .loop .inv .0 .turn .heard .few)
 
 loop-less-2 : tie.Need-loop-less-2 Inv-loop μ-loop
 loop-less-2 c = omega (arith, c .before .before .before .before .before .before .before .before .before .before .loop-test .taken)
@@ -174,7 +174,7 @@ same-length : tie.Need-same-length Inv-loop μ-loop
 same-length c = c .before .loop .inv .0 .holding .extent .sized ∙ sym (c .before .before .before .before .before .before .pre .1 .0 .extent .sized)
 
 same-length-2 : tie.Need-same-length-2 Inv-loop μ-loop
-same-length-2 c = c .before .loop .inv .0 .heard .long
+same-length-2 c = c .before .loop .inv .0 .turn .heard .long
 
 returns : tie.Need-returns Inv-loop μ-loop
 returns c =

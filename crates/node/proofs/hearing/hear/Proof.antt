@@ -62,7 +62,7 @@ more : (c : tie.In-loop Inv-loop μ-loop) → c .before .loop .i < countOf (c .b
 more c = omega (arith, c .before .before .count-of .ensures)
 
 inside : (c : tie.In-loop Inv-loop μ-loop) → c .before .loop .i < length (c .before .loop .verdicts)
-inside c = omega (arith, few (c .before .before), more c, c .before .loop .inv .0 .heard .long)
+inside c = omega (arith, few (c .before .before), more c, c .before .loop .inv .0 .turn .heard .long)
 
 walk-entry-requires : tie.Need-walk-entry-requires Inv-loop μ-loop
 walk-entry-requires c κs = search needs
@@ -181,7 +181,7 @@ slice-write-verdicts-2 : tie.Need-slice-write-verdicts-2 Inv-loop μ-loop
 slice-write-verdicts-2 c = inside (c .before .before .before .before .before .before .before .before .before .before .before .before .before .before .before .before .before .before .before .before)
 
 add-taken : tie.Need-add-taken Inv-loop μ-loop
-add-taken c = omega (arith, few (c .before .before .before .before .before .before .before .before .before .before .before .before .before .before .before .before .before .before .before .before .before .before), more (c .before .before .before .before .before .before .before .before .before .before .before .before .before .before .before .before .before .before .before .before), c .before .before .before .before .before .before .before .before .before .before .before .before .before .before .before .before .before .before .before .before .before .loop .inv .0 .heard .few)
+add-taken c = omega (arith, few (c .before .before .before .before .before .before .before .before .before .before .before .before .before .before .before .before .before .before .before .before .before .before), more (c .before .before .before .before .before .before .before .before .before .before .before .before .before .before .before .before .before .before .before .before), c .before .before .before .before .before .before .before .before .before .before .before .before .before .before .before .before .before .before .before .before .before .loop .inv .0 .turn .heard .few)
 
 add-i-2 : tie.Need-add-i-2 Inv-loop μ-loop
 add-i-2 c = omega (arith, few (c .before .before .before .before .before .before .before .before .before .before .before .before .before .before .before .before .before .before .before .before .before .before), more (c .before .before .before .before .before .before .before .before .before .before .before .before .before .before .before .before .before .before .before .before))
@@ -216,7 +216,7 @@ same-length-3 c =
     ∙ sym (starts-long s (start .args .clock) (start .args .holdback .now) (start .pre .1 .0 .starts-is))
 
 same-length-4 : tie.Need-same-length-4 Inv-loop μ-loop
-same-length-4 c = c .before .loop .inv .0 .heard .long
+same-length-4 c = c .before .loop .inv .0 .turn .heard .long
 
 returns : tie.Need-returns Inv-loop μ-loop
 returns c =

@@ -1,7 +1,7 @@
 -- `timestamp::ordering::compare_counts` meets its contract: the loop's invariant: all the counts compare as those from place k on.
 -- Assumes nothing.
 use Prim.Native.Nat.{_-_, _≤_}
-use mathlib.Core.Path.{_≡_, refl, sym, ap, _∙_}
+use mathlib.Core.Path.{_≡_, refl, sym, _∙_}
 use native.Mathlib.Omega.{arith}
 use lib.ListN.{drop}
 use Rattle.timestamp.specs.Ranks.{compareCounts, newestCounts}

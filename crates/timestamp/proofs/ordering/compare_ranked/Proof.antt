@@ -2,7 +2,7 @@
 -- Assumes nothing.
 use mathlib.Core.Path.{refl}
 use denote.Enum.Declared
-use Rattle.timestamp.proofs.Ordered.{Tags, by-sums, by-counts, by-stations, by-readings}
+use Rattle.timestamp.proofs.Ordered.{Tags, by-sums, by-counts, by-stations, by-readings, rankedTurns}
 use borrow.Author.Needs.{needs}
 use Rattle.timestamp.proofs.ordering.compare_ranked.Statement.{statement}
 use Rattle.timestamp.proofs.ordering.compare_ranked.Tie as tie
@@ -31,7 +31,7 @@ enum-told c = search needs
 returns : tie.Need-returns
 returns c =
     let s = c .before .before .before .before .before .before .args in
-    by-sums tags (s .epsilon) (s .f) (s .g) (s .kf .now) (s .kg .now)
+    by-sums tags (rankedTurns (s .epsilon) (s .f) (s .g) (s .kf .now) (s .kg .now))
     (c .before .compare-numbers .result) (c .before .compare-numbers .ensures) (c .match .keys2)
 
 compare-counts-requires : tie.Need-compare-counts-requires
@@ -43,7 +43,7 @@ enum-told-2 c = search needs
 returns-2 : tie.Need-returns-2
 returns-2 c =
     let s = c .before .before .before .before .before .before .before .before .before .args in
-    by-counts tags (s .epsilon) (s .f) (s .g) (s .kf .now) (s .kg .now)
+    by-counts tags (rankedTurns (s .epsilon) (s .f) (s .g) (s .kf .now) (s .kg .now))
     (c .before .before .before .before .compare-numbers .result) (c .before .before .before .before .compare-numbers .ensures) (c .before .before .before .match .keys1)
     (c .before .compare-counts .result) (c .before .compare-counts .ensures) (c .match2 .keys2)
 
@@ -56,7 +56,7 @@ enum-told-3 c = search needs
 returns-3 : tie.Need-returns-3
 returns-3 c =
     let s = c .before .before .before .before .before .before .before .before .before .before .before .before .args in
-    by-stations tags (s .epsilon) (s .f) (s .g) (s .kf .now) (s .kg .now)
+    by-stations tags (rankedTurns (s .epsilon) (s .f) (s .g) (s .kf .now) (s .kg .now))
     (c .before .before .before .before .before .before .before .compare-numbers .result) (c .before .before .before .before .before .before .before .compare-numbers .ensures) (c .before .before .before .before .before .before .match .keys1)
     (c .before .before .before .before .compare-counts .result) (c .before .before .before .before .compare-counts .ensures) (c .before .before .before .match2 .keys1)
     (c .before .compare-numbers2 .result) (c .before .compare-numbers2 .ensures) (c .match3 .keys2)
@@ -67,7 +67,7 @@ compare-numbers-requires-3 c κs = search needs
 returns-4 : tie.Need-returns-4
 returns-4 c =
     let s = c .before .before .before .before .before .before .before .before .before .before .before .before .before .before .args in
-    by-readings tags (s .epsilon) (s .f) (s .g) (s .kf .now) (s .kg .now)
+    by-readings tags (rankedTurns (s .epsilon) (s .f) (s .g) (s .kf .now) (s .kg .now))
     (c .before .before .before .before .before .before .before .before .before .compare-numbers .result) (c .before .before .before .before .before .before .before .before .before .compare-numbers .ensures) (c .before .before .before .before .before .before .before .before .match .keys1)
     (c .before .before .before .before .before .before .compare-counts .result) (c .before .before .before .before .before .before .compare-counts .ensures) (c .before .before .before .before .before .match2 .keys1)
     (c .before .before .before .compare-numbers2 .result) (c .compare-numbers3 .result) (c .before .before .before .compare-numbers2 .ensures) (c .before .before .match3 .keys1) (c .compare-numbers3 .ensures)

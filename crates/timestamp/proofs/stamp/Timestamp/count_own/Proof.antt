@@ -1,7 +1,6 @@
 -- `timestamp::stamp::Timestamp::count_own` meets its contract: the own count lies within the 2ε counts.
 -- Assumes nothing.
 use mathlib.Core.Path.{_≡_}
-use native.Mathlib.Omega.{arith}
 use lib.ListN.{length}
 use Rattle.timestamp.proofs.Steps.{count-own-widened}
 use Rattle.timestamp.specs.Views.{stampOf}

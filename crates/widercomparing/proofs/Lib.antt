@@ -1,0 +1,3 @@
+-- For the proofs of this crate.
+mod Sums
+mod Asking

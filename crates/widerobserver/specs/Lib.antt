@@ -1,0 +1,2 @@
+-- `States` says what an accepted call has passed.
+pub mod States

@@ -1,0 +1,1 @@
+-- The contracts cite the model, the pairs and the poll's answers.
