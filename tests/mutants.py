@@ -8,7 +8,13 @@ has a violation, tests/violations/NAME.proof: a refutation of one of the demands
 calls. Under the edit, and without the proofs of theory, it must be proved. What the same lists come to without an edit is proved in
 crates/violations/proofs/Unedited.antt, and of 2.14 in crates/instances/proofs/Showing.antt. The harmless edits of
 crates/model/must-fail/controls are held to what is expected of them, and change nothing there.
+
+Where neither tests/ nor a crate that they stand on changed since the last merge, a quarter of them is tried, another one each day, and the
+controls always; `tests/mutants.py all` tries all.
+
+Usage: tests/mutants.py [all]
 """
+import datetime
 import re
 import shutil
 import sys
@@ -16,7 +22,7 @@ import tempfile
 from concurrent.futures import ThreadPoolExecutor, as_completed
 from pathlib import Path
 
-from edits import JOBS, ROOT, Checks, Edit, controls_of, first_fact, summary, unknown_message, wording
+from edits import JOBS, ROOT, TURNS, Checks, Edit, changed_files, controls_of, first_fact, git, is_changed, last_merge, summary, unknown_message, wording
 
 VIOLATIONS = ROOT / "tests" / "violations"
 # what a violation states; without an edit it has no proof, since the demands and the theorems of 2.9 (LongClocks), 2.11 (Charges) and 2.14 (Shows) are proved
@@ -104,6 +110,18 @@ def try_tests(copy, crate, edit, module):
     return [f"tests {edit.name}: {'' if right else 'NOT PROVED that '}{said}"], 0 if right else 1
 
 
+def in_turn(edits):
+    """The edits that are tried today, and what is said of the others."""
+    base = last_merge()
+    files = changed_files(base)
+    below = ("laws", "model", "lemmas", "theory", "violations")
+    if "all" in sys.argv[1:] or any(is_changed(crate, files) for crate in below) or git("diff", "--name-only", base, "--", "tests"):
+        return edits, "all"
+    day = datetime.datetime.now(datetime.timezone.utc).toordinal()
+    now = [edit for place, edit in enumerate(sorted(edits, key=lambda edit: edit.name)) if (place + day) % TURNS == 0 or edit.path in files]
+    return now, f"{len(now)} of {len(edits)}; nothing that they stand on changed since {base[:7]}, and the others wait for their day, one in {TURNS}"
+
+
 def main():
     model, theory = ROOT / "crates" / "model", ROOT / "crates" / "theory"
     violations = {path.stem: path for path in VIOLATIONS.glob("*.proof") if path.stem != "Head"}
@@ -115,6 +133,11 @@ def main():
     alone = set(violations) - {edit.name for edit in mutants + statements}
     if strange or alone:
         sys.exit(f"mutants: violations that refute no demand: {strange}; without an edit: {sorted(alone)}")
+    if [word for word in sys.argv[1:] if word != "all"]:
+        sys.exit("usage: tests/mutants.py [all]")
+    now, said = in_turn(mutants + statements)
+    print(f"mutants: {said}", flush=True)
+    mutants, statements = ([edit for edit in edits if edit in now] for edits in (mutants, statements))
     checks = Checks()
     wording(checks)
     with ThreadPoolExecutor(JOBS) as pool:
