@@ -1,16 +1,17 @@
 #!/usr/bin/env python3
-"""Tries the mutants, edits of the definitions, and the edits of the theorems' statements (crates/theory/must-fail); see tests/README.md.
+"""Tries the mutants, edits of the definitions, and the edits of the theorems' statements (crates/theory/edits); see tests/README.md.
 
 A mutant leaves the definitions well-formed but another protocol, so what is proved of them (lemmas, theory) must be refused. Mutants
-are the edits of tests/mutants, and those of crates/model/must-fail that have a violation: tests/edits.py holds these to model's own samples
+are the edits of tests/mutants, and those of crates/model that have a violation: tests/edits.py holds these to model's own samples
 too, and tries the edits of the statements. A refusal alone says little, since a proof fits a text. So each mutant and each edit of a statement
 has a violation, tests/violations/NAME.proof: a refutation of one of the demands, or of 2.9's, 2.11's or 2.14's theorem, by computation on a concrete list of
 calls. Under the edit, and without the proofs of theory, it must be proved. What the same lists come to without an edit is proved in
 crates/violations/proofs/Unedited.antt, and of 2.14 in crates/instances/proofs/Showing.antt. The harmless edits of
-crates/model/must-fail/controls are held to what is expected of them, and change nothing there.
+crates/model/edits/controls are held to what is expected of them, and change nothing there.
 
-Where neither tests/ nor a crate that they stand on changed since the last merge, a quarter of them is tried, another one each day, and the
-controls always; `tests/mutants.py all` tries all.
+Where a file that they stand on, one of theirs or the kit is not the one with which all were last tried (the file tests/tried), all are tried;
+else a quarter of them, another one each day, and the controls always. `tests/mutants.py all` tries all; where all are as expected then,
+tests/tried says so.
 
 Usage: tests/mutants.py [all]
 """
@@ -22,7 +23,7 @@ import tempfile
 from concurrent.futures import ThreadPoolExecutor, as_completed
 from pathlib import Path
 
-from edits import JOBS, ROOT, TURNS, Checks, Edit, changed_files, controls_of, first_fact, git, is_changed, last_merge, summary, unknown_message, wording
+from edits import JOBS, ROOT, TURNS, Checks, Edit, checksum, controls_of, first_fact, linked, listed, record, recorded, summary, unknown_message, wording
 
 VIOLATIONS = ROOT / "tests" / "violations"
 # what a violation states; without an edit it has no proof, since the demands and the theorems of 2.9 (LongClocks), 2.11 (Charges) and 2.14 (Shows) are proved
@@ -38,27 +39,37 @@ class Copy:
     def __init__(self, checks, crates, without):
         self.checks, self.work, self.last = checks, Path(tempfile.mkdtemp()), crates[-1]
         for crate in crates:
-            shutil.copytree(ROOT / "crates" / crate, self.work / "crates" / crate, ignore=shutil.ignore_patterns("must-fail"))
-        listed = [line.split() for line in (ROOT / "crates.txt").read_text(encoding="utf-8").splitlines()]
-        kept = [[words[0], *(w for w in words[1:] if w in crates)] for words in listed if words[0][:-1] in crates]
-        (self.work / "crates.txt").write_text("".join(" ".join(words) + "\n" for words in kept), encoding="utf-8")
+            shutil.copytree(ROOT / "crates" / crate, self.work / "crates" / crate, ignore=shutil.ignore_patterns("must-fail", "edits", "out"))
+            if (ROOT / "crates" / crate / "out" / "incremental").is_dir():
+                linked(ROOT / "crates" / crate / "out" / "incremental", self.work / "crates" / crate / "out" / "incremental")
+        kept = (f"{crate}: {' '.join(below for below in listed()[crate] if below in crates)}\n" for crate in crates)
+        (self.work / "crates.txt").write_text("".join(kept), encoding="utf-8")
         for path in (self.work / "crates" / name for name in without):
             leave_out(path)
-        if f"rt: {self.last} proved" not in self.check(self.work):
-            sys.exit(f"mutants: {self.last} is not proved without an edit")
+        log = self.check(self.work)
+        if not is_proved(self.last, log):
+            sys.exit(f"{log[-3000:]}\nmutants: {self.last} is not proved without an edit")
 
     def check(self, work):
-        return self.checks.run(["rt", "check", self.last], work)
+        """What a check of the last crate says, and of those below it that it builds first."""
+        return self.checks.run(["rt", "check", "--jobs", "1"], work / "crates" / self.last)
 
     def under(self, crate, edit, module=None):
         """What the check says under an edit of a crate, with a module of tests beside it."""
         with tempfile.TemporaryDirectory() as name:
             work = Path(name)
-            shutil.copytree(self.work, work, dirs_exist_ok=True)
+            linked(self.work, work / "copy")
+            work /= "copy"
             edit.apply(work / "crates" / crate)
             if module:
                 add(module, work / "crates" / "violations")
             return self.check(work)
+
+
+def is_proved(crate, log):
+    """Is a crate proved, by the check of it?"""
+    _, said, verdict = log.rpartition(f"\ncrate {crate}: ")
+    return bool(said) and "\nlogic=proved" in verdict
 
 
 def leave_out(path):
@@ -86,11 +97,11 @@ def against_theorems(copy, edit):
     """What the theorems say to an edit of the definitions, and whether that is proved, refused or neither."""
     log = copy.under("model", edit)
     strange, where = unknown_message(log), first_fact(log)
-    if "rt: model proved" not in log:
-        return "the definitions are not well-formed", None
+    if any(f"rt: the library {crate} did not build" in log for crate in ("laws", "model")):
+        return f"the definitions are not well-formed: {strange or where}", None
     if strange:
         return f"unknown message: {strange}", None
-    if "rt: theory proved" in log:
+    if is_proved("theory", log):
         return "proved", "proved"
     return (f"refused at {where}", "refused") if where else (f"neither proved nor refused: {log[-200:]}", None)
 
@@ -105,30 +116,33 @@ def try_definitions(copy, edit):
 
 def try_tests(copy, crate, edit, module):
     """The line to print for what the tests come to under an edit, and 1 if a module of them is not proved."""
-    right = f"rt: {copy.last} proved" in copy.under(crate, edit, module)
+    right = is_proved(copy.last, copy.under(crate, edit, module))
     said = "the lists come to the same" if edit.control else "a demand is violated"
     return [f"tests {edit.name}: {'' if right else 'NOT PROVED that '}{said}"], 0 if right else 1
 
 
+def stand():
+    """The checksum of what the verdicts hang on: the crates below, and the mutants and violations."""
+    below = [ROOT / "crates" / name for name in ("laws", "model", "lemmas", "theory", "violations")]
+    return checksum([*below, ROOT / "tests" / "mutants", VIOLATIONS])
+
+
 def in_turn(edits):
     """The edits that are tried today, and what is said of the others."""
-    base = last_merge()
-    files = changed_files(base)
-    below = ("laws", "model", "lemmas", "theory", "violations")
-    if "all" in sys.argv[1:] or any(is_changed(crate, files) for crate in below) or git("diff", "--name-only", base, "--", "tests"):
+    if "all" in sys.argv[1:] or recorded().get("mutants") != stand():
         return edits, "all"
     day = datetime.datetime.now(datetime.timezone.utc).toordinal()
-    now = [edit for place, edit in enumerate(sorted(edits, key=lambda edit: edit.name)) if (place + day) % TURNS == 0 or edit.path in files]
-    return now, f"{len(now)} of {len(edits)}; nothing that they stand on changed since {base[:7]}, and the others wait for their day, one in {TURNS}"
+    now = [edit for place, edit in enumerate(sorted(edits, key=lambda edit: edit.name)) if (place + day) % TURNS == 0]
+    return now, f"{len(now)} of {len(edits)}; nothing that they stand on changed since all were tried, and the others wait for their day, one in {TURNS}"
 
 
 def main():
     model, theory = ROOT / "crates" / "model", ROOT / "crates" / "theory"
     violations = {path.stem: path for path in VIOLATIONS.glob("*.proof") if path.stem != "Head"}
-    shared = [path for path in (model / "must-fail").rglob("*.edit") if path.stem in violations]
+    shared = [path for part in ("must-fail", "edits") for path in (model / part).rglob("*.edit") if path.stem in violations]
     mutants = [Edit(path, model) for path in sorted([*(ROOT / "tests" / "mutants").glob("*.edit"), *shared])]
     controls = controls_of(model)
-    statements = [Edit(path, theory) for path in sorted((theory / "must-fail").glob("*/*.edit"))]
+    statements = [Edit(path, theory) for path in sorted((theory / "edits").glob("*/*.edit"))]
     strange = [name for name, path in violations.items() if not STATED.search(path.read_text(encoding="utf-8"))]
     alone = set(violations) - {edit.name for edit in mutants + statements}
     if strange or alone:
@@ -138,18 +152,28 @@ def main():
     now, said = in_turn(mutants + statements)
     print(f"mutants: {said}", flush=True)
     mutants, statements = ([edit for edit in edits if edit in now] for edits in (mutants, statements))
+    stood, wrong = stand(), []
     checks = Checks()
     wording(checks)
+
+    def answers(made):
+        for done in as_completed(made):
+            lines, failed = done.result()
+            wrong.append(failed)
+            yield lines, failed
+        if "all" in sys.argv[1:] and not any(wrong) and stood == stand():
+            record({"mutants": stood})
+
     with ThreadPoolExecutor(JOBS) as pool:
         theorems, tests = pool.map(lambda parts: Copy(checks, *parts), (
             (("laws", "model", "lemmas", "theory"), SAMPLES),
             (("laws", "model", "theory", "violations"), (*SAMPLES, "theory/proofs", UNEDITED)),
         ))
-        answers = [pool.submit(try_definitions, theorems, edit) for edit in mutants + controls]
-        answers += [pool.submit(try_tests, tests, "model", edit, "Unedited") for edit in controls]
-        answers += [pool.submit(try_tests, tests, "model", edit, edit.name) for edit in mutants]
-        answers += [pool.submit(try_tests, tests, "theory", edit, edit.name) for edit in statements]
-        summary("mutants, controls and their tests", (answer.result() for answer in as_completed(answers)))
+        made = [pool.submit(try_definitions, theorems, edit) for edit in mutants + controls]
+        made += [pool.submit(try_tests, tests, "model", edit, "Unedited") for edit in controls]
+        made += [pool.submit(try_tests, tests, "model", edit, edit.name) for edit in mutants]
+        made += [pool.submit(try_tests, tests, "theory", edit, edit.name) for edit in statements]
+        summary("mutants, controls and their tests", answers(made))
 
 
 main()

@@ -1,11 +1,11 @@
 -- Answers of the calls with both pairs of limits in one number: bounds. Assumes nothing.
-use Prim.Native.Nat.{ℕ, zero, suc, ◌+◌, ◌*◌, ◌-◌, ◌≤◌, ◌<◌}
+use Prim.Native.Nat.{ℕ, zero, suc, ◌+◌, ◌-◌, ◌≤◌, ◌<◌}
 use native.Mathlib.Omega.{arith}
 use native.Mathlib.Nat.{mod-lt}
 use mathlib.Core.Path.{◌≡◌, refl, sym, ap, subst, ◌∙◌}
 use mathlib.Core.Bool.{Bool, true, false, ◌&&◌, cond}
 use mathlib.Core.List.{List, [], ◌∷◌, ◌++◌}
-use mathlib.Core.Logic.{◌⊎◌, inl, inr}
+use mathlib.Core.Logic.{inl, inr}
 use mathlib.Core.Option.{Option, none, some, map}
 use lib.Dec.{leb, ltb, eqb}
 use lib.ListN.{length, get_or}
@@ -28,7 +28,7 @@ use Rattle.model.specs.WiderCalls.{listen_in_questions, wider_observer_least, wi
 use Rattle.lemmas.proofs.Bounds.{Limits}
 use Rattle.lemmas.proofs.Questions.{first-yes, other-yes, yes-cons}
 use Rattle.lemmas.proofs.Queue.{depth_small}
-use Rattle.lemmas.proofs.Schedules.{Good, limits-good}
+use Rattle.lemmas.proofs.Schedules.{limits-good}
 use Rattle.lemmas.proofs.WideFrames.{length-wide-held}
 use Rattle.lemmas.proofs.WiderReceiving.{length-along, few-delivered}
 use Rattle.lemmas.proofs.WiderTick.{new-left-along, new-clock-along}

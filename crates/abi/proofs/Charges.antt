@@ -5,7 +5,7 @@ use mathlib.Core.Path.{◌≡◌, ap, ◌∙◌}
 use mathlib.Core.Bool.{Bool}
 use mathlib.Core.List.{List, []}
 use Rattle.model.specs.Ledger.{ChargeAnswer, charge_call}
-use Rattle.ledger.proofs.Charging.{any-charge}
+use Rattle.ledger.proofs.ChargingLaws.{any-charge}
 use Rattle.abi.specs.Charging.{charge_word, returned_charge, packed_charge}
 
 pub charge-small : (rate : ℕ) (payload ledger : List ℕ) (o : ChargeAnswer) → o ≡ charge_call rate payload ledger → o.charge ≤ 600000

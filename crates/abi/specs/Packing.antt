@@ -56,7 +56,7 @@ abbrev pub input_with : Setup → ℕ → ℕ → Timestamp → List ℕ → Lis
 input_with setup own clock tables holdback batch send payload outgoing verdicts delivery =
     record {
       setup = setup;
-      own_val = own;
+      own = own;
       clock = clock;
       tables = tables;
       holdback = holdback;

@@ -1,6 +1,9 @@
 // The boundary to C: the tick, the reader, the writer, the words, the comparison, the poll, an observer's call and what station and observer start
 // with, over numbers and byte slices. A slice is a pointer and a length; the tables are a pointer to 35 bytes (r low, r high, c, 32 counts); the answer
 // is one number. Any arguments get an answer.
+
+#![tactic(auto)]
+
 mod charging;
 mod counting;
 mod engine;

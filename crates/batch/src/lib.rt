@@ -1,5 +1,8 @@
 // The batch (01 calls it the bundle): a one-byte count, then for each entry a one-byte length and its bytes.
 // Any bytes and any position get an answer.
+
+#![tactic(auto)]
+
 ghost use Rattle.std.specs.Prelude.{◌≡◌};
 ghost use Rattle.model.specs.Batch.{exact_batch};
 ghost use Rattle.batch.specs.Walk.{count_of, entry_at, next_at, entry_span_at};

@@ -5,7 +5,7 @@ ghost use Rattle.batch.specs.Walk.{entry_span_at, moved_on};
 use crate::{EntrySpan, next_at, span_at};
 
 // 01: "A walk over a bundle remembers the bundle and its position".
-#[derive(Drop)]
+#[derive(Clone, Copy)]
 pub struct Walker<'a> {
     pub src: &'a [u8],
     pub at: usize,

@@ -30,7 +30,7 @@ abbrev tick_at : ℕ → Input
 tick_at clock =
     record {
       setup = setup 1;
-      own_val = 0;
+      own = 0;
       clock = clock;
       tables = record { r = 9; c = 0; kn = [] };
       holdback = replicate (holdback_size (setup 1)) 0;

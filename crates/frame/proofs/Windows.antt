@@ -1,5 +1,5 @@
 -- The frame at the front of a window, which is taken to end where its counts say: its places are those of the window. Assumes nothing.
-use mathlib.Core.Path.{◌≡◌, refl, sym, ap, ◌∙◌}
+use mathlib.Core.Path.{◌≡◌, sym, ap, ◌∙◌}
 use mathlib.Core.Bool.{Bool, true, false, ◌&&◌}
 use mathlib.Core.List.{List, [], ◌∷◌}
 use Prim.Native.Nat.{ℕ, ◌+◌, ◌*◌, ◌-◌, ◌≤◌, ◌<◌}
@@ -8,8 +8,7 @@ use lib.Dec.{eqb, ltb}
 use lib.ListN.{length, take, drop, get_or, length-drop}
 use lib.Seq.{get_or-take, length-take-le, take-take}
 use borrow.Author.Tests.{eq-eqb, ne_eqb, lt-leb, le-leb}
-use Rattle.laws.proofs.Numbers.{lt-or-ge, and-true, and-false}
-use mathlib.Core.Logic.{inl, inr}
+use Rattle.laws.proofs.Numbers.{and-true, and-false}
 use Rattle.laws.proofs.Lists.{drop-take, length-tab}
 use Rattle.model.specs.Setup.{Setup, width}
 use Rattle.model.specs.Timestamp.{sound_timestamp}

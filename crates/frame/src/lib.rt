@@ -1,4 +1,7 @@
 // The frame: its form, the reader and the writer.
+
+#![tactic(auto)]
+
 mod form;
 mod newest;
 mod reader;

@@ -1,16 +1,16 @@
 -- What placing a frame and cutting off a prefix do to the bytes of a queue.
 -- Assumes nothing.
-use Rattle.std.proofs.Common.{◌≡◌, ℕ, suc, ◌+◌, ◌-◌, ◌≤◌, true, List, [], ◌∷◌, ◌++◌, length, take, drop, replicate, sym, refl, ap, ◌∙◌, ap₂, append_assoc, append-nil, le_of_eq, zero-add, arith, length-append, length-drop, take-append-drop, drop_of_length-le, length-take-le, take_all, drop-drop, take_at, drop_at}
+use Rattle.std.proofs.Common.{◌≡◌, ℕ, suc, ◌+◌, ◌-◌, ◌≤◌, true, List, [], ◌∷◌, ◌++◌, length, take, drop, sym, refl, ap, ◌∙◌, ap₂, append_assoc, append-nil, zero-add, arith, length-append, length-drop, take-append-drop, drop_of_length-le, length-take-le, drop-drop, take_at, drop_at}
 use native.Mathlib.Nat.{sub-zero}
 use lib.ListN.{length-replicate}
 use Rattle.laws.specs.Lists.{tab, every, joined, overlay, padded, insert_at}
 use Rattle.laws.proofs.Lists.{length-tab, take-tab, joined-append, joined-halves, joined-insert_at, length-insert_at}
 use Rattle.splice.specs.Bytes.{pasted, part, cleared, inserted, zeros}
 use Rattle.splice.proofs.Laws.{pasted-pieces, inserted-pieces, pasted-right, pasted-left}
-use Rattle.model.specs.Frame.{Frame, two_bytes, two_at, encode, decode, well_formed}
+use Rattle.model.specs.Frame.{Frame, two_bytes, two_at, encode, well_formed}
 use Rattle.model.specs.Holdback.{held_bytes, held, frames_by, encode_frames, encode_holdback}
 use Rattle.holdback.specs.Queue.{frame_start, bytes_at, frame_at, Spans, Written}
-use Rattle.holdback.proofs.RoundTrip.{Bytes, encode-decode}
+use Rattle.holdback.proofs.RoundTrip.{Bytes}
 use Rattle.holdback.proofs.Frames.{held_bytes-tab, held-tab, FormedUpTo, take-start, start-within}
 use Rattle.holdback.proofs.Judging.{every-tab-at}
 

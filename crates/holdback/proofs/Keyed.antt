@@ -1,21 +1,19 @@
 -- Keys: their numbers decide as the comparison of the frames does.
 -- Assumes nothing.
-use Rattle.std.proofs.Common.{◌≡◌, ℕ, zero, suc, ◌+◌, ◌-◌, ◌*◌, ◌^◌, ◌<◌, ◌≤◌, Bool, true, false, cond, eqb, ltb, ◌⊎◌, List, [], ◌∷◌, ◌++◌, sym, refl, ap, ◌∙◌, ap₂, inl, inr, zero-le, add-zero, arith, le-ltb, lt-ltb}
-use Prim.Native.Nat.{Ordering}
-use Rattle.laws.specs.Lists.{tab, placed_at}
-use Rattle.laws.specs.Lex.{or_else, is_less, lex_compare, number_of}
-use Rattle.laws.proofs.Numbers.{lt-or-ge, eq-or-ne, true-or-false}
+use Rattle.std.proofs.Common.{◌≡◌, ℕ, ◌+◌, ◌<◌, ◌≤◌, Bool, true, false, cond, eqb, ltb, ◌⊎◌, List, [], ◌∷◌, sym, refl, ap, ◌∙◌, ap₂, inl, inr, zero-le, add-zero, arith, le-ltb, lt-ltb}
+use Rattle.laws.specs.Lex.{is_less, lex_compare}
+use Rattle.laws.proofs.Numbers.{lt-or-ge, eq-or-ne}
 use Rattle.laws.proofs.Lex.{lex-head-lt, lex-head-gt, lex-head-eq}
 use Rattle.model.specs.Setup.{Setup}
 use Rattle.timestamp.specs.declared.ordering.Rank.{Rank}
-use Rattle.frame.specs.Newest.{taken, newest_from}
+use Rattle.frame.specs.Newest.{newest_from}
 use Rattle.holdback.specs.declared.keys.Key.{Key}
 use Rattle.holdback.specs.Seen.{Within, rank_slot}
 use Rattle.lemmas.proofs.Bounds.{Limits}
 use Rattle.holdback.specs.Queue.{rank_before}
 use Rattle.holdback.proofs.RoundTrip.{Bytes}
 use Rattle.holdback.proofs.Newest.{sums-say, newest-say, older-say, alike-say}
-use Rattle.holdback.specs.Keys.{key_at, key_of, no_key, numbers_of, key_less, Roomy}
+use Rattle.holdback.specs.Keys.{key_at, numbers_of, key_less}
 
 -- ---- the tests of the code
 

@@ -1,6 +1,6 @@
 -- The tests of one frame, and of two, as the code makes them.
 -- Assumes nothing.
-use Rattle.std.proofs.Common.{◌≡◌, ℕ, ◌+◌, ◌-◌, ◌*◌, ◌%◌, ◌^◌, ◌<◌, ◌≤◌, Bool, true, false, eqb, leb, ◌⊎◌, List, length, refl, ap, ◌∙◌, ap₂, inl, inr, arith, le-leb, leb-true}
+use Rattle.std.proofs.Common.{◌≡◌, ℕ, ◌+◌, ◌-◌, ◌%◌, ◌^◌, ◌<◌, ◌≤◌, Bool, true, false, eqb, leb, ◌⊎◌, List, length, refl, ap, ◌∙◌, ap₂, inl, inr, arith, le-leb, leb-true}
 use borrow.Author.Tests.{lt-leb}
 use Rattle.laws.specs.Lex.{lex_compare, is_less}
 use Rattle.laws.proofs.Numbers.{lt-or-ge, and_left, and_right}

@@ -6,7 +6,7 @@ ghost use Rattle.model.specs.Holdback.{held, encode_frames, encode_holdback};
 ghost use Rattle.holdback.specs.Queue.{Spans, Written};
 
 // A place in a queue: the frames before it, and where it stands.
-#[derive(Drop)]
+#[derive(Clone, Copy)]
 pub struct Place {
     pub index: usize,
     pub at: usize,

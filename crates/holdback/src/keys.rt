@@ -12,7 +12,7 @@ use crate::origins::slot;
 use setup::Setup;
 use timestamp::Rank;
 
-#[derive(Drop)]
+#[derive(Clone, Copy)]
 pub struct Key {
     // 01: the sum, with r read near v
     pub sum: usize,

@@ -1,5 +1,8 @@
 // 01: the shelf, here the hold-back queue, in a lent buffer: a two-byte count, the frames in delivery order, each ending
 // where its counts say, and then bytes that are ignored until the tick's end writes zeros there.
+
+#![tactic(auto)]
+
 mod change;
 mod compare;
 mod due;

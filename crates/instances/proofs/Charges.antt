@@ -5,8 +5,8 @@ use Prim.Native.Nat.{ℕ}
 use mathlib.Core.Path.{◌≡◌, refl, sym, ◌∙◌}
 use mathlib.Core.Bool.{Bool, true, false}
 use mathlib.Core.List.{List, [], ◌∷◌, ◌++◌, map}
-use lib.ListN.{length, replicate}
-use Rattle.model.specs.Ledger.{press_of, is_press, charge_of, Charged, charged_bytes, charged_at, bales_in, charged_in, with_charge, sound_press, is_charged, press_questions, charge_questions, charged_by, charge_call, ledger_after, charges_of, told_of, Alike, total_of, TotalAnswer, total_call}
+use lib.ListN.{replicate}
+use Rattle.model.specs.Ledger.{press_of, is_press, charge_of, charged_bytes, charged_at, bales_in, charged_in, with_charge, sound_press, is_charged, press_questions, charge_questions, charged_by, charge_call, ledger_after, charges_of, told_of, Alike, total_of, total_call}
 use Rattle.model.specs.Run.{Done, at_start}
 use Rattle.theory.specs.Premises.{good_start, largest_clock, keeps}
 use Rattle.theory.specs.Charges.{payloads_on, ChargedAlike}

@@ -7,7 +7,7 @@ use mathlib.Core.List.{List, [], ◌∷◌, map}
 use mathlib.Core.Option.{some}
 use lib.ListN.{drop, get_elem?}
 use Rattle.laws.specs.Lists.{tab}
-use Rattle.model.specs.Run.{Call, Done, at_start, run_from, is_event}
+use Rattle.model.specs.Run.{Call, Done, at_start, is_event}
 use Rattle.theory.specs.Premises.{good_start, largest_clock, keeps, all_fresh, none_stale}
 use Rattle.theory.specs.LongClocks.{ends_below, holds_few, engines_after, LongMatched}
 use Rattle.theory.proofs.LongClocks.{long-clocks}

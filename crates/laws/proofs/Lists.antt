@@ -127,7 +127,7 @@ module _ {A : Type 0} where
   every-of-index p (x ∷ xs) d h =
       and_intro (h 0 (suc-le-suc zero-le)) (every-of-index p xs d (λ i k. h (suc i) (suc-le-suc k)))
 
-  pub every-mem : (p : A → Bool) {l : List A} {x : A} → every p l ≡ true → Memᴰ x l → p x ≡ true
+  pub every-mem : (p : A → Bool) {x : A} {l : List A} → every p l ≡ true → Memᴰ x l → p x ≡ true
   unfolding every
   every-mem p h (mathlib.Core.List.Memᴰ.head {x = y} {xs} e) = rw e (and_left (p y) (every p xs) h)
   every-mem p h (mathlib.Core.List.Memᴰ.tail {x = y} {xs} m) = every-mem p (and_right (p y) (every p xs) h) m
@@ -175,7 +175,7 @@ module _ {A : Type 0} where
       and_intro (h 0 (suc-le-suc zero-le)) (every-tab p n (λ i. f (suc i)) (λ i k. h (suc i) (suc-le-suc k)))
 
   -- a test that holds of some element
-  pub any-of-mem : (p : A → Bool) {l : List A} {x : A} → Memᴰ x l → p x ≡ true → any p l ≡ true
+  pub any-of-mem : (p : A → Bool) {x : A} {l : List A} → Memᴰ x l → p x ≡ true → any p l ≡ true
   unfolding any
   any-of-mem p (mathlib.Core.List.Memᴰ.head {x = y} {xs} e) h = or_left (any p xs) (rw e at h)
   any-of-mem p (mathlib.Core.List.Memᴰ.tail {x = y} {xs} m) h = or_right (p y) (any-of-mem p m h)
@@ -223,7 +223,7 @@ module _ {A : Type 0} where
   unfolding select
   select_no p x l e = rw e
 
-  pub mem-select : (p : A → Bool) {l : List A} {x : A} → Memᴰ x l → p x ≡ true → Memᴰ x (select p l)
+  pub mem-select : (p : A → Bool) {x : A} {l : List A} → Memᴰ x l → p x ≡ true → Memᴰ x (select p l)
   mem-select p (mathlib.Core.List.Memᴰ.head {x = y} {xs} e) h = rw (select_yes p y xs (rw e at h)) (mathlib.Core.List.Memᴰ.head e)
   mem-select p (mathlib.Core.List.Memᴰ.tail {x = y} {xs} m) h =
       let r = mem-select p m h in
@@ -474,7 +474,7 @@ module _ {A : Type 0} where
   pub get_elem?-mem : (l : List A) (i : ℕ) {x : A} → get_elem? l i ≡ some x → Memᴰ x l
   get_elem?-mem l i {x} e = rw (get_elem?-get_or l i x e) at (mem-get_or l i x (get_elem?-lt l i e))
 
-  pub mem-get_elem? : {l : List A} {x : A} → Memᴰ x l → (i : ℕ) × (get_elem? l i ≡ some x)
+  pub mem-get_elem? : {x : A} {l : List A} → Memᴰ x l → (i : ℕ) × (get_elem? l i ≡ some x)
   mem-get_elem? (mathlib.Core.List.Memᴰ.head e) = (0, ap some (sym e))
   mem-get_elem? (mathlib.Core.List.Memᴰ.tail m) = let r = mem-get_elem? m in (suc r.0, r.1)
 
@@ -575,7 +575,7 @@ module _ {A : Type 0} where
       go (inr k) (inl m) r = rw (count_of-no p x l k, count_of-yes q x l m) (omega arith)
       go (inr k) (inr m) r = rw (count_of-no p x l k, count_of-no q x l m) r
 
-  pub count_of-among : (p q : A → Bool) {l : List A} {x : A} → ((y : A) → p y ≡ true → q y ≡ true) → Memᴰ x l → p x ≡ false → q x ≡ true → count_of p l < count_of q l
+  pub count_of-among : (p q : A → Bool) {x : A} {l : List A} → ((y : A) → p y ≡ true → q y ≡ true) → Memᴰ x l → p x ≡ false → q x ≡ true → count_of p l < count_of q l
   count_of-among p q h (mathlib.Core.List.Memᴰ.head {x = y} {xs} e) bad good =
       rw (count_of-no p y xs (rw e at bad), count_of-yes q y xs (rw e at good)) (suc-le-suc (count_of-under p q xs h))
   count_of-among p q h (mathlib.Core.List.Memᴰ.tail {x = y} {xs} m) bad good = go (true-or-false (p y)) (true-or-false (q y)) (count_of-among p q h m bad good)
@@ -612,7 +612,7 @@ module _ {A : Type 0} where
 
 module _ {A B : Type 0} where
   -- maps
-  pub mem-map : (f : A → B) {l : List A} {x : A} → Memᴰ x l → Memᴰ (f x) (map f l)
+  pub mem-map : (f : A → B) {x : A} {l : List A} → Memᴰ x l → Memᴰ (f x) (map f l)
   mem-map f (mathlib.Core.List.Memᴰ.head e) = mathlib.Core.List.Memᴰ.head (ap f e)
   mem-map f (mathlib.Core.List.Memᴰ.tail m) = mathlib.Core.List.Memᴰ.tail (mem-map f m)
 
@@ -707,7 +707,7 @@ module _ {A B C : Type 0} where
   map-map g f (x ∷ l) = ap₂ ◌∷◌ refl (map-map g f l)
 
 -- the largest number
-pub largest-mem : {l : List ℕ} {x : ℕ} → Memᴰ x l → x ≤ largest l
+pub largest-mem : {x : ℕ} {l : List ℕ} → Memᴰ x l → x ≤ largest l
 unfolding largest
 largest-mem (mathlib.Core.List.Memᴰ.head {x = y} {xs} e) = omega arith
 largest-mem (mathlib.Core.List.Memᴰ.tail {x = y} {xs} m) = omega (arith, largest-mem m)

@@ -1,7 +1,7 @@
 -- Tools on lists and tests that every crate uses. Nothing here speaks of document 01.
 -- Assumes nothing.
 use Rattle.std.specs.Prelude.{ℕ, zero, suc, ◌-◌, max, min, Bool, true, false, ◌&&◌, ◌||◌, not, cond, List, [], ◌∷◌, ◌++◌, length, take, drop, get_or, replicate, leb, eqb}
-use Rattle.std.proofs.Math.Option.{Option, none, some, Option·elim}
+use Rattle.std.proofs.Math.Option.{Option, none, some, Option-elim}
 
 -- lo ≤ x ≤ hi
 unfoldable pub within : ℕ → ℕ → ℕ → Bool
@@ -83,7 +83,7 @@ largest (x ∷ xs) = max x (largest xs)
 -- the smallest of the numbers, if there are any
 unfoldable pub smallest : List ℕ → Option ℕ
 smallest [] = none
-smallest (x ∷ xs) = some (Option·elim (smallest xs) x (min x))
+smallest (x ∷ xs) = some (Option-elim (smallest xs) x (min x))
 
 -- the two lists are the same
 unfoldable pub same_list : List ℕ → List ℕ → Bool

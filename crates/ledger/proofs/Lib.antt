@@ -4,4 +4,4 @@ mod Reading
 mod Searching
 mod Laying
 mod Sums
-pub mod Charging
+pub mod ChargingLaws

@@ -23,7 +23,7 @@ use Rattle.model.specs.Wider.{frame_half, wider_reading, counts_down_by, wider_k
 use Rattle.lemmas.proofs.Bounds.{Sound}
 use Rattle.lemmas.proofs.Reading.{near-later}
 use Rattle.lemmas.proofs.Queue.{early-to}
-use Rattle.lemmas.proofs.Schedules.{Good, wide, old, new, limits-good, limits-modulus, limits-n, limits-grow, due-window, Aligned, limits-aligned, due-aligned, compared-aligned, half-aligned, modulus-aligned, widest-aligned, near-wider}
+use Rattle.lemmas.proofs.Schedules.{Good, limits-good, limits-modulus, limits-n, limits-grow, due-window, Aligned, limits-aligned, due-aligned, compared-aligned, half-aligned, modulus-aligned, widest-aligned, near-wider}
 use Rattle.lemmas.proofs.WiderQueue.{QueueAlong, LeftAlong, ordered-along, along-ordered, expired-along, length-down-by, depth-grows, left-room-along, bytes-along}
 use Rattle.lemmas.proofs.WideFrames.{FrameWithin}
 

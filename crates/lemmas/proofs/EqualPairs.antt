@@ -130,8 +130,8 @@ module _ (s : Setup) (change : ℕ) where
 
   -- ---- judging: with one pair what is not late is not due before v
 
-  not_late_lem : (reading c : ℕ) → (leb s.modulus (reading + (s.delta + s.epsilon)) && not (ltb (reading + c + s.delta + s.epsilon) s.modulus)) ≡ leb s.modulus (reading + (s.delta + s.epsilon))
-  not_late_lem reading c = go (leb s.modulus (reading + (s.delta + s.epsilon))) refl
+  not_late : (reading c : ℕ) → (leb s.modulus (reading + (s.delta + s.epsilon)) && not (ltb (reading + c + s.delta + s.epsilon) s.modulus)) ≡ leb s.modulus (reading + (s.delta + s.epsilon))
+  not_late reading c = go (leb s.modulus (reading + (s.delta + s.epsilon))) refl
     where
       go : (b : Bool) → leb s.modulus (reading + (s.delta + s.epsilon)) ≡ b → (b && not (ltb (reading + c + s.delta + s.epsilon) s.modulus)) ≡ b
       go true e =
@@ -145,7 +145,7 @@ module _ (s : Setup) (change : ℕ) where
       (λ j.
       ask (leb s.modulus (reading_of (own j) v f + ((own j).delta + (own j).epsilon))
       && not (ltb (due-along-same (reading_of (own j) v f + f.stamp.c) j) s.modulus)) 13)
-      ∙ ap (λ (b : Bool). ask b 13) (not_late_lem (reading_of s v f) f.stamp.c)
+      ∙ ap (λ (b : Bool). ask b 13) (not_late (reading_of s v f) f.stamp.c)
 
   counts_same : wider_ask_counts twice ≡ wider_ask_counts once
   unfolding wider_ask_counts

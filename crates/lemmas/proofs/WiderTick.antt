@@ -20,7 +20,7 @@ use Rattle.lemmas.proofs.Reading.{step-true}
 use Rattle.lemmas.proofs.Counts.{Left, clock-steps, clock-sound, beside-clock, beside-left, left-beside, opened-step, opened-into, opened-replaced, absorbed-opened, own-left, trimmed-wide, trimmed-widened}
 use Rattle.lemmas.proofs.Hearing.{numbers_by, fold-stamp, fold-verdicts}
 use Rattle.lemmas.proofs.Queue.{early_from}
-use Rattle.lemmas.proofs.Schedules.{Good, wide, limits-good, limits-modulus, limits-grow, Aligned, limits-aligned, modulus-aligned}
+use Rattle.lemmas.proofs.Schedules.{Good, limits-good, limits-modulus, limits-grow, Aligned, limits-aligned, modulus-aligned}
 use Rattle.lemmas.proofs.WiderQueue.{PassedAlong, judged-along}
 use Rattle.lemmas.proofs.WiderReceiving.{heard-verdict-along}
 use Rattle.lemmas.proofs.Carried.{Follows}

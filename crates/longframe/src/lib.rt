@@ -1,5 +1,8 @@
 // 02, 2.9: the frame of an engine with long clocks: its lengths, its form, the reader and the writer. From its second section on it
 // stands as a station's frame stands, six bytes on, so that crate frame's functions read it there.
+
+#![tactic(auto)]
+
 mod form;
 mod limits;
 mod reader;

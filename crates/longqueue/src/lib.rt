@@ -1,4 +1,7 @@
 // 02, 2.9: the hold-back queue of an engine with long clocks, "not judged for order".
+
+#![tactic(auto)]
+
 mod change;
 mod origins;
 mod soundness;

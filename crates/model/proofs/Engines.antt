@@ -7,7 +7,6 @@ use mathlib.Core.List.{List, [], ◌∷◌}
 use lib.ListN.{replicate}
 use Rattle.model.proofs.Computing.{computing}
 use Rattle.model.specs.Setup.{Setup}
-use Rattle.model.specs.Timestamp.{Timestamp}
 use Rattle.model.specs.Frame.{Frame}
 use Rattle.model.specs.Question.{first_no}
 use Rattle.model.specs.Tick.{Input}
@@ -51,7 +50,7 @@ abbrev call_at : ℕ → Input
 call_at clock =
     record {
       setup = bench;
-      own_val = 0;
+      own = 0;
       clock = clock;
       tables = record { r = 0; c = 0; kn = [] };
       holdback = replicate 3138 0;

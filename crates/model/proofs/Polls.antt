@@ -57,7 +57,7 @@ silent clock tables holdback =
     tick
     (record {
       setup = usual;
-      own_val = 0;
+      own = 0;
       clock = clock;
       tables = tables;
       holdback = holdback;

@@ -44,7 +44,7 @@ abbrev call : Setup → ℕ → Timestamp → List ℕ → Bool → List ℕ →
 call s clock tables holdback send payload batch =
     record {
       setup = s;
-      own_val = 0;
+      own = 0;
       clock = clock;
       tables = tables;
       holdback = holdback;

@@ -52,7 +52,7 @@ abbrev call : ℕ → Timestamp → List ℕ → Bool → List ℕ → Input
 call clock tables holdback send batch =
     record {
       setup = narrow;
-      own_val = 0;
+      own = 0;
       clock = clock;
       tables = tables;
       holdback = holdback;
@@ -237,7 +237,7 @@ asked s w own clock size outgoing delivery =
     (tick_in w
     (record {
       setup = s;
-      own_val = own;
+      own = own;
       clock = clock;
       tables = widened (fresh 2 8);
       holdback = replicate size 0;

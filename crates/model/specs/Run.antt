@@ -72,7 +72,7 @@ unfoldable pub input_of : Node → Call → Input
 input_of node call =
     record {
       setup = call.setup;
-      own_val = call.own;
+      own = call.own;
       clock = call.clock;
       tables = node.tables;
       holdback = node.holdback;

@@ -23,7 +23,7 @@ use Rattle.lemmas.proofs.Questions.{limits-from}
 use Rattle.lemmas.proofs.RoundTrip.{formed-from, form-passed, passes-formed, held-frames, held-holdback, frame-fits, length-holdback}
 use Rattle.lemmas.proofs.Queue.{Passed, sound-queue, queue-none, queue-take, queue-room, frames-sound, queue-sound, both-few, depth_small}
 use Rattle.setup.proofs.InLimits.{frames-most}
-use Rattle.holdback.specs.Overdue.{SoundBy, overdue_frames, released_buffer, Released}
+use Rattle.holdback.specs.Overdue.{overdue_frames, released_buffer, Released}
 use Rattle.holdback.specs.Queue.{frame_start, end_of, Spans}
 use Rattle.holdback.specs.Seen.{Placeable, seen_table, is_marked, marked}
 use Rattle.holdback.specs.Sound as sounds

@@ -13,7 +13,7 @@ use Rattle.model.specs.Frame.{Frame, decode}
 use Rattle.model.specs.Order.{reading_of}
 use Rattle.model.specs.Question.{Question, ask, first_no, frame_questions, ask_form, ask_range, ask_stamp}
 use Rattle.model.specs.Holdback.{held, passes, same_origin, not_early}
-use Rattle.model.specs.Judge.{Asking, Verdict, taken, refused, verdict_number, verdict_place, verdict_by, judge, judge_questions, place_questions, observer_questions, observer_place_questions, ask_late, ask_early, ask_counts, ask_repeat, place_for}
+use Rattle.model.specs.Judge.{Asking, taken, refused, verdict_number, verdict_place, verdict_by, judge, judge_questions, place_questions, observer_questions, observer_place_questions, ask_late, ask_early, ask_counts, ask_repeat, place_for}
 use Rattle.lemmas.proofs.Bounds.{Limits, FrameOk, QueueOk}
 use Rattle.lemmas.proofs.Questions.{limits-from, first-yes, other-yes, no-append, yes-append, front-append}
 use Rattle.lemmas.proofs.Queue.{InWindow, Passed, judged-passed, observed-passed, sound-queue, queue-window, expired-to}

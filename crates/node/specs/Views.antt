@@ -26,7 +26,7 @@ abbrev pub call_input : Setup → ℕ → ℕ → Timestamp → List ℕ → Lis
 call_input setup own clock tables holdback batch send payload outgoing verdicts delivery =
     record {
       setup = setup_of setup;
-      own_val = own;
+      own = own;
       clock = clock;
       tables = stamp_of tables;
       holdback = holdback;

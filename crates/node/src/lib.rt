@@ -1,4 +1,7 @@
 // One tick of a node: the call's questions, one frame judged, the hearing, sending and delivering; and what of it an observer shares.
+
+#![tactic(auto)]
+
 mod attending;
 mod call;
 mod clock;

@@ -6,7 +6,7 @@ ghost use Rattle.node.specs.Views.{verdict_of};
 use holdback::Place;
 
 // Where a taken frame goes.
-#[derive(Drop)]
+#[derive(Clone, Copy)]
 pub struct Placed {
     // its place in the queue (01: the shelf), and where that stands
     pub place: Place,

@@ -1,4 +1,7 @@
 // 02, 2.6: "A board that only listens", here an observer: what it shares with a node is the node's.
+
+#![tactic(auto)]
+
 mod call;
 mod listening;
 

@@ -8,7 +8,7 @@ ghost use Rattle.pairs.specs.Views.{wider_of};
 use setup::{BAD_SETUP, NOT_WIDER, Setup, in_limits};
 
 // 02: "The setup carries both pairs, V below B (else 1), and a mark": what stands beside the old setup.
-#[derive(Drop)]
+#[derive(Clone, Copy)]
 pub struct Wider {
     // 02: ε'
     pub epsilon: u32,

@@ -1,4 +1,7 @@
 // 02, 2.10, "Wider limits in mid season": both pairs of limits, the questions on them, and what goes by them.
+
+#![tactic(auto)]
+
 mod both;
 mod fresh;
 mod limits;

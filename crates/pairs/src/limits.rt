@@ -12,7 +12,7 @@ use setup::{Setup, sum_due};
 use timestamp::{ahead, past};
 
 // 02: "At an agreed clock V the yard goes from ε, δ to limits ε' ≥ ε, δ' ≥ δ".
-#[derive(Drop)]
+#[derive(Clone, Copy)]
 pub struct Pairs {
     pub before: Setup,
     pub after: Setup,

@@ -29,7 +29,7 @@ pub call-is : (s : NodeSetup) (tables : Timestamp) (holdback bytes : List ℕ) {
     → clock ≡ clock_of bytes → send ≡ send_of bytes → batch ≡ batch_of bytes → payload ≡ payload_of bytes
     → record {
       setup = s.setup;
-      own_val = s.own;
+      own = s.own;
       clock = clock;
       tables = tables;
       holdback = holdback;

@@ -1,4 +1,7 @@
 // One tick of a station, given by its bytes in a trace: called, and its lines rendered.
+
+#![tactic(auto)]
+
 ghost use Rattle.std.specs.Prelude.{◌≡◌, suc, ◌<◌, ◌^◌};
 ghost use Rattle.timestamp.specs.Views.{stamp_of};
 ghost use Rattle.trace.specs.Views.{node_setup_of};

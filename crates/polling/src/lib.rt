@@ -1,4 +1,7 @@
 // 02, 2.5: when something shows next, from the front of the shelf.
+
+#![tactic(auto)]
+
 mod call;
 mod front;
 

@@ -1,5 +1,8 @@
 // 02, 2.8, "Rehearse the whole yard": from the bytes of a trace of all stations to the ticks of each,
 // and the lines of text. Any bytes get an answer.
+
+#![tactic(auto)]
+
 mod closing;
 mod frames;
 mod labels;

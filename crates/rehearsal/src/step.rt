@@ -21,7 +21,7 @@ use timestamp::Timestamp;
 use trace::NodeSetup;
 
 // The group so far, beside the buffers.
-#[derive(Drop)]
+#[derive(Clone, Copy)]
 pub struct Rehearsal {
     // 02: "The yard's stations stand in one list"; those past the first n are not looked at
     pub stations: [Station; MOST],

@@ -1,5 +1,8 @@
 // 01, "The replay program": a node's ticks from a trace on standard input, and their lines on
 // standard output, those of each tick before the next is read.
+
+#![tactic(auto)]
+
 ghost use Rattle.std.specs.Prelude.{◌≡◌, true, ◌≤◌, length};
 ghost use Rattle.trace.specs.Views.{node_setup_of};
 ghost use Rattle.trace.specs.Trace.{tick_end, longest_tick};
@@ -8,10 +11,10 @@ ghost use Rattle.input.specs.Coming.{Came};
 ghost use Rattle.replay.specs.Running.{Begun, Ran};
 
 use input::read_next;
-use libc::STDOUT_FILENO;
 use playing::play_next;
 use setup::holdback_length;
 use stations::Station;
+use std::io::{Read, Write};
 use timestamp::Timestamp;
 use trace::{
     COUNT_LENGTH, NodeSetup, SETUP_LENGTH, count_number, end_number, put_stopped, read_setup,
@@ -20,14 +23,14 @@ use trace::{
 
 // Reads one tick into `bytes`, and answers how many came: fewer than the tick has where the trace
 // is cut. No byte past the tick is read.
-fn read_tick(bytes: &mut [u8]) -> usize
+fn read_tick<R: Read>(reader: &mut R, bytes: &mut [u8]) -> usize
     requires { longest_tick ≤ length bytes.old }
     ensures { Came tick_end bytes.old bytes.new result }
 {
     let mut used = 0;
     let mut end = tick_end(&bytes[..0]);
     while used < end {
-        used += read_next(&mut bytes[used..end]);
+        used += read_next(reader, &mut bytes[used..end]);
         if used < end {
             return used;
         }
@@ -47,7 +50,9 @@ struct Progress {
 // Plays `ticks` ticks as they come, the first fresh, and then looks whether there are more bytes. It
 // stops at a tick that is refused. Lines that cannot be written stop it too, with 0: nothing more is
 // read or called.
-fn play_ticks(
+fn play_ticks<R: Read, W: Write>(
+    reader: &mut R,
+    writer: &mut W,
     node: NodeSetup,
     ticks: usize,
     holdback: &mut [u8],
@@ -61,7 +66,7 @@ fn play_ticks(
     let tables = Timestamp::replaced(0);
     let mut station = Station { ticks: 0, tables };
     while station.ticks < ticks {
-        let used = read_tick(bytes);
+        let used = read_tick(reader, bytes);
         let played = play_next(node, station, holdback, &bytes[..used], text);
         station = played.station;
         if played.number != 0 {
@@ -70,24 +75,24 @@ fn play_ticks(
                 station,
             };
         }
-        if !io::write_all(STDOUT_FILENO, &text[..played.size]) {
+        if writer.write_all(&text[..played.size]).is_err() {
             return Progress { number: 0, station };
         }
     }
     let mut more = [0u8; 1];
     Progress {
-        number: end_number(read_next(&mut more)),
+        number: end_number(read_next(reader, &mut more)),
         station,
     }
 }
 
 // All that follows the setup. Answers 0, or the number of the refusal at which it stopped.
-fn run(node: NodeSetup) -> u8
+fn run<R: Read, W: Write>(reader: &mut R, writer: &mut W, node: NodeSetup) -> u8
     requires { Ready (node_setup_of node) }
     ensures { among run_numbers result ≡ true }
 {
     let mut head = [0u8; COUNT_LENGTH];
-    let got = read_next(&mut head);
+    let got = read_next(reader, &mut head);
     let cut = count_number(&head[..got]);
     if cut != 0 {
         return cut;
@@ -102,26 +107,36 @@ fn run(node: NodeSetup) -> u8
     let mut held = [0u8; 65536];
     let mut read = [0u8; 65540];
     let mut lines = [0u8; 131072];
-    let end = play_ticks(node, ticks, &mut held[..size], &mut read, &mut lines);
+    let end = play_ticks(
+        reader,
+        writer,
+        node,
+        ticks,
+        &mut held[..size],
+        &mut read,
+        &mut lines,
+    );
     end.number
 }
 
 // The whole trace, but for the line of a refusal.
-fn replay() -> u8
+fn replay<R: Read, W: Write>(reader: &mut R, writer: &mut W) -> u8
     ensures { among replay_numbers result ≡ true }
 {
     let mut head = [0u8; SETUP_LENGTH];
-    let got = read_next(&mut head);
+    let got = read_next(reader, &mut head);
     let number = setup_number(&head[..got], SETUP_LENGTH);
     if number != 0 {
         return number;
     }
-    run(read_setup(&head[..got]))
+    run(reader, writer, read_setup(&head[..got]))
 }
 
-fn main() {
+fn main(rt: HostRuntime) {
+    let mut reader = rt.stdin();
+    let mut writer = rt.stdout();
     let mut line = [0u8; 16];
-    let size = put_stopped(&mut line, replay());
+    let size = put_stopped(&mut line, replay(&mut reader, &mut writer));
     // written or not, nothing follows
-    io::write_all(STDOUT_FILENO, &line[..size]);
+    let _ = writer.write_all(&line[..size]);
 }

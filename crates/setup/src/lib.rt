@@ -1,4 +1,7 @@
 // 01: the setup and its limits, the lengths that follow from it, and the questions on a clock, a shelf and a board's buffers.
+
+#![tactic(auto)]
+
 mod limits;
 mod numbers;
 mod questions;

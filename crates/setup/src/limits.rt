@@ -12,7 +12,7 @@ pub const LONGEST_PAYLOAD: usize = 32;
 // 01: "the verdict buffer 255".
 pub const VERDICT_LENGTH: usize = 255;
 
-#[derive(Drop)]
+#[derive(Clone, Copy)]
 pub struct Setup {
     // 01: how many stations the yard has
     pub n: u32,

@@ -5,6 +5,9 @@
 // Each contract is one equation: the buffer at exit is a definition of `specs/Bytes.antt` at the
 // buffer at entry. Each `requires` keeps the indices within the buffer; the callers are inside this
 // library and meet it by tests of their own.
+
+#![tactic(auto)]
+
 ghost use Rattle.std.specs.Prelude.{◌≡◌, ◌+◌, ◌-◌, ◌^◌, ◌≤◌, ◌<◌, length, get_or};
 ghost use Rattle.laws.specs.Lex.{number_of};
 ghost use Rattle.model.specs.Frame.{two_at, two_bytes};

@@ -1,4 +1,7 @@
 // 02, 2.8: "The yard's stations stand in one list, and a step changes exactly one of them."
+
+#![tactic(auto)]
+
 ghost use Rattle.std.specs.Prelude.{◌≡◌, ◌<◌, length, set};
 
 use timestamp::Timestamp;
@@ -8,7 +11,7 @@ pub const MOST: usize = 16;
 
 // A station whose ticks a trace plays: how many it has had, and the tables that the latest left. Its
 // hold-back queue (01: shelf) is lent beside it.
-#[derive(Drop)]
+#[derive(Clone, Copy)]
 pub struct Station {
     pub ticks: usize,
     pub tables: Timestamp,

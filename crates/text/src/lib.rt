@@ -1,4 +1,7 @@
 // Numbers and words as text, written into a buffer where there is room for them.
+
+#![tactic(auto)]
+
 mod digits;
 mod parts;
 

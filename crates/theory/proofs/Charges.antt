@@ -1,6 +1,6 @@
 -- Two boards that heard the same covered messages charge them alike: what a board has shown is, after each call, the covered messages that it heard and
 -- that have come due there, in the order of two stamps. Assumes nothing.
-use Prim.Native.Nat.{ℕ, zero, suc, ◌+◌, ◌≤◌, ◌<◌}
+use Prim.Native.Nat.{ℕ, suc, ◌+◌, ◌≤◌, ◌<◌}
 use native.Mathlib.Omega.{arith}
 use native.Mathlib.Nat.{zero-add}
 use mathlib.Core.Path.{◌≡◌, refl, sym, ap, ap₂, subst, ◌∙◌}
@@ -9,13 +9,13 @@ use mathlib.Core.Bool.{Bool, true, false, ◌&&◌, ◌||◌, not, cond}
 use mathlib.Core.List.Memᴰ
 use mathlib.Core.List.{List, [], ◌∷◌, ◌++◌, map, map-append, append-nil, append_assoc, Memᴰ}
 use mathlib.Core.Option.{Option, none, some}
-use lib.Dec.{leb, ltb, eqb}
+use lib.Dec.{leb, eqb}
 use lib.ListN.{length, take, get_or, get_elem?, set, length-set, length-append}
 use lib.Seq.{take_at}
-use borrow.Author.Tests.{leb-true, le-leb, lt-leb, ltb-true, lt-ltb, le-ltb, eqb-true, eq-eqb, ne_eqb}
-use Rattle.laws.specs.Lists.{within, every, any, select, select_from, leading, insert_at, sort_by, joined, same_list}
-use Rattle.laws.specs.Lex.{lex_compare, is_less}
-use Rattle.laws.proofs.Numbers.{eq-or-ne, lt-or-ge, true-or-false, clash, and_intro, and_left, and_right, and-false, or_cases, within_low, false_of_not, false-of-no, or-false-intro, cond_same}
+use borrow.Author.Tests.{leb-true, le-leb, lt-leb, lt-ltb, le-ltb, eqb-true, eq-eqb, ne_eqb}
+use Rattle.laws.specs.Lists.{every, any, select, select_from, leading, insert_at, sort_by, joined, same_list}
+use Rattle.laws.specs.Lex.{is_less}
+use Rattle.laws.proofs.Numbers.{eq-or-ne, lt-or-ge, true-or-false, clash, and_left, and_right, and-false, or_cases, within_low, false_of_not, false-of-no, or-false-intro, cond_same}
 use Rattle.laws.proofs.Lists.{any_append, every-mem, joined-append, get_elem?-seam, get_elem?-lt, get_elem?-in, get_elem?-mem, get_elem?-set-same, get_elem?-set-other, get_elem?-snoc-cases}
 use Rattle.laws.proofs.InsertionSort.{mem-of-sort_by}
 use Rattle.laws.proofs.Lex.{lt-is_less, lex-head-lt, lex-head-gt}
@@ -27,9 +27,9 @@ use Rattle.model.specs.Batch.{batch_entries}
 use Rattle.model.specs.Holdback.{held_bytes}
 use Rattle.model.specs.Ledger.{ledger_after, charges_of, told_of, Alike, total_call}
 use Rattle.model.specs.Run.{Node, Source, sent_by, stale, Call, Done, World, is_accepted, moved_clock, node_after, output_of, done_of, act_on, act, at_start, run_from, sends, message_bytes, message_frame}
-use Rattle.theory.specs.Premises.{together, good_start, largest_clock, stale_until, clock_at, heard_in_time, entries_allowed, one_setup, plain_call, true_clock, step_allowed, hears_allowed, accepted_well, allowed_for, allowed, keeps, all_fresh, none_stale}
+use Rattle.theory.specs.Premises.{together, largest_clock, stale_until, clock_at, heard_in_time, entries_allowed, one_setup, plain_call, true_clock, step_allowed, hears_allowed, accepted_well, allowed_for, allowed, keeps}
 use Rattle.theory.specs.Demand3.{covered_from, covered, is_from, heard_in, due_clock, due_in, message_key, earlier, due_here, covered_frame, Promised}
-use Rattle.theory.specs.Charges.{shown_in, shown_on, payloads_on, heard_and_due, SameHeard, ChargedAlike, AllChargedAlike, Charges, ChargesFresh}
+use Rattle.theory.specs.Charges.{shown_in, shown_on, payloads_on, heard_and_due, AllChargedAlike, Charges, ChargesFresh}
 use Rattle.lemmas.proofs.Ledgers.{after-alike, answers-alike, totals-alike}
 use Rattle.theory.proofs.Demand3.{demand3, demand3-fresh}
 

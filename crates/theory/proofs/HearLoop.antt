@@ -50,7 +50,7 @@ pub record Arrival (g : Schedule) (floor : ℕ) (nodes : List Node) (past : List
   pub event : CallEvent g m
   pub bounded : Bounded (limits_at g m.clock).epsilon floor nodes m.clock (event_frame g m).stamp.kn
   pub not-ahead : m.clock < v + (limits_at g v).epsilon
-  pub not_late_lem : v ≤ m.clock + (limits_at g v).delta + (limits_at g v).epsilon
+  pub not_late : v ≤ m.clock + (limits_at g v).delta + (limits_at g v).epsilon
   pub undue : v ≤ event_due g m
 
 abbrev pub Entry : Schedule → ℕ → List Node → List Done → ℕ → List ℕ → Source → Type 0

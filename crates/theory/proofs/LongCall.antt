@@ -98,7 +98,7 @@ module _ (s : Setup) (w : World) (sent : List (Option Message)) (call : Call) (n
   here =
       record {
         setup = s;
-        own_val = p.number;
+        own = p.number;
         clock = v;
         tables = widened (plain_stamp p.last);
         holdback = long_encode_holdback (long_holdback_size s) (map plain_frame p.buffer);
@@ -127,7 +127,7 @@ module _ (s : Setup) (w : World) (sent : List (Option Message)) (call : Call) (n
       let payload : (done_of node call).call.payload ≡ call.payload = unfold done_of in refl in
       λ i. record {
         setup = setup-is i;
-        own_val = own i;
+        own = own i;
         clock = clock-is i;
         tables = widened (plain_stamp p.last);
         holdback = long_encode_holdback (long_holdback_size s) (map plain_frame p.buffer);

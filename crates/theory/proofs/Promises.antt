@@ -77,11 +77,11 @@ none_ahead g l floor from w call node found v good legal i a at =
 
 -- the delay limit, beside it: a message of the node i that is heard while that node's clock, after the call, is at most δ past the sending, by the limits
 -- of the sending, is not late for v, nor due before it
-not_late_lem :
+not_late :
     (g l : Schedule) (floor : ℕ) (w : World) (call : Call) (node found : Node) (v : ℕ) → GoodSchedule g → Legal g l floor w call node found v → (i R c : ℕ) (b : Node)
     → get_elem? (nodes_after w.nodes call node) i ≡ some b → R ≤ b.clock → b.clock ≤ R + (limits_at g R).delta
     → (v ≤ R + (limits_at g v).delta + (limits_at g v).epsilon) × (v ≤ due_along g (R + c))
-not_late_lem g l floor w call node found v limits legal i R c b at sent near_by =
+not_late g l floor w call node found v limits legal i R c b at sent near_by =
     heard-late g limits R b.clock v c sent near_by
     (omega (
       arith,
@@ -155,7 +155,7 @@ module _ (g l : Schedule) (floor from : ℕ) (settles : Settles g floor from) (w
           (b : Node) → get_elem? (nodes_after w.nodes call node) m.node ≡ some b → m.clock ≤ b.clock
           → (v ≤ m.clock + (limits_at g v).delta + (limits_at g v).epsilon) × (v ≤ event_due g m)
       late_by b b_at sent =
-          not_late_lem g l floor w call node found v limits-g legal m.node m.clock (event_frame g m).stamp.c b b_at sent
+          not_late g l floor w call node found v limits-g legal m.node m.clock (event_frame g m).stamp.c b b_at sent
           (subst (λ (o : Option Node). clock_at o ≤ m.clock + (limits_at g m.clock).delta) b_at near_by)
 
       late : (v ≤ m.clock + (limits_at g v).delta + (limits_at g v).epsilon) × (v ≤ event_due g m)
@@ -177,7 +177,7 @@ module _ (g l : Schedule) (floor from : ℕ) (settles : Settles g floor from) (w
             event = settled.event;
             bounded = settled.bounded;
             not-ahead = omega (arith, settled.maker.clock-is, none_ahead g l floor from w call node found v good legal m.node settled.maker.node settled.maker.at);
-            not_late_lem = late.0;
+            not_late = late.0;
             undue = late.1;
           }
 

@@ -48,7 +48,7 @@ pub record Incoming (s : Setup) (v : ℕ) (sent : List (Option Message)) (k : �
   pub bytes-are : bytes ≡ encode (reduced_frame s.modulus m)
   pub frame : FrameOk s (reduced_frame s.modulus m)
   pub not-ahead : m.event.r < v + s.epsilon
-  pub not_late_lem : v ≤ m.event.r + s.delta + s.epsilon
+  pub not_late : v ≤ m.event.r + s.delta + s.epsilon
 
 -- sender and clock tell which call sent a message
 abbrev pub Told : List (Option Message) → Type 0

@@ -161,7 +161,7 @@ accepted_through y x frozen phase w call d =
 
 -- 01: "A refused call may stand anywhere, given its station's tables and shelf and whatever else"
 abbrev pub allowed_in : Changeover → ℕ → ℕ → World → Call → Option Phase → Option Node → Bool
-allowed_in y x frozen w call none node = false
+allowed_in y x frozen w call none _ = false
 allowed_in y x frozen w call (some phase) none = false
 allowed_in y x frozen w call (some phase) (some node) =
     not (is_accepted (done_of node call).output) || accepted_through y x frozen phase w call (done_of node call)
@@ -172,7 +172,7 @@ allowed_through y x frozen phases w call =
 
 -- the setups of all after a call; a refused one changes none
 abbrev pub phases_by : List Phase → Call → Option Phase → Option Node → List Phase
-phases_by phases call none node = phases
+phases_by phases call none _ = phases
 phases_by phases call (some phase) none = phases
 phases_by phases call (some phase) (some node) =
     cond (is_accepted (done_of node call).output) (set phases call.node (phase_after phase call.wider)) phases

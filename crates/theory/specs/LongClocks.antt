@@ -41,7 +41,7 @@ unfoldable pub long_input : LongGroup → Engine → Done → Input
 long_input workbench engine d =
     record {
       setup = d.call.setup;
-      own_val = d.call.own;
+      own = d.call.own;
       clock = d.clock;
       tables = engine.tables;
       holdback = engine.holdback;

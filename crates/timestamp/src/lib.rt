@@ -1,4 +1,7 @@
 // 01: the stamp, what one tick does to it, and the order of two stamps.
+
+#![tactic(auto)]
+
 mod ordering;
 mod stamp;
 mod window;

@@ -10,7 +10,7 @@ ghost use Rattle.timestamp.specs.Ranks.{reason_of, comparison_of, decide_by, com
 use crate::stamp::Timestamp;
 
 // 02, 2.4: what decided.
-#[derive(Drop)]
+#[derive(Clone, Copy)]
 pub enum Reason {
     Sum,
     // the count at a clock. The comparisons of this file say how far that lies before the sum
@@ -28,7 +28,7 @@ pub enum Comparison {
 }
 
 // What the order looks at beside the counts.
-#[derive(Drop)]
+#[derive(Clone, Copy)]
 pub struct Rank {
     // 01: r, read near v
     pub reading: usize,

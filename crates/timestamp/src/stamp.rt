@@ -7,7 +7,7 @@ ghost use Rattle.model.specs.Timestamp as model;
 ghost use Rattle.timestamp.specs.Views.{stamp_of, of_counts, within_ceilings, raised_at};
 
 // 01: the stamp.
-#[derive(Drop)]
+#[derive(Clone, Copy)]
 pub struct Timestamp {
     // "the clock at the event"
     pub r: usize,

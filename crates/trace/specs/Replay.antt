@@ -29,7 +29,7 @@ unfoldable pub call_of : NodeSetup → Timestamp → List ℕ → List ℕ → I
 call_of s tables holdback bytes =
     record {
       setup = s.setup;
-      own_val = s.own;
+      own = s.own;
       clock = clock_of bytes;
       tables = tables;
       holdback = holdback;

@@ -1,5 +1,8 @@
 // 01, "The replay program": from the bytes of a trace to the arguments of a call, and from its
 // answer and delivery (01: hand-out) to the lines of text. Any bytes get an answer.
+
+#![tactic(auto)]
+
 mod lines;
 mod parse;
 mod parts;

@@ -19,7 +19,7 @@ use text::{digit_count, put_field, put_word};
 use timestamp::Comparison;
 
 // What a tick line says: 01's clock, mend, c, taken, outgoing length (0 if none), handed out.
-#[derive(Drop)]
+#[derive(Clone, Copy)]
 pub struct TickNumbers {
     pub clock: usize,
     pub repair: usize,

@@ -15,7 +15,7 @@ pub const COUNT_LENGTH: usize = 2;
 pub const BAD_TRACE: u8 = 5;
 
 // 01: the setup, as a trace has it: the group's numbers, and the own number.
-#[derive(Drop)]
+#[derive(Clone, Copy)]
 pub struct NodeSetup {
     pub setup: Setup,
     pub own: u32,

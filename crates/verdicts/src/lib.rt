@@ -1,4 +1,7 @@
 // The verdict buffer of a call beside its batch: what is asked of both before they are made into words (02, 2.1) or figures (02, 2.13).
+
+#![tactic(auto)]
+
 ghost use Rattle.std.specs.Prelude.{◌≡◌, ◌≤◌, length, take};
 ghost use Rattle.laws.specs.Lists.{every};
 ghost use Rattle.model.specs.Question.{first_no};

@@ -15,14 +15,14 @@ use borrow.Author.Tests.{leb-true, lt-ltb, eq-eqb}
 use Rattle.laws.specs.Lists.{any}
 use Rattle.laws.proofs.Numbers.{clash, and_intro, and_left, and_right, or_left, or_right}
 use Rattle.model.specs.Setup.{Setup}
-use Rattle.model.specs.Schedule.{Schedule, steady, widest_of}
+use Rattle.model.specs.Schedule.{Schedule, steady}
 use Rattle.model.specs.Run.{Node, Call, Done, World, is_accepted, at_start, run_from}
 use Rattle.theory.specs.Premises.{good_start, largest_clock, clock_at, keeps}
 use Rattle.theory.specs.Demand3.{covered_from, covered, heard_in}
 use Rattle.theory.specs.Changeover.{Changeover, along_all, Phase, frozen_until, keeps_through, starts_through}
 use Rattle.theory.specs.Through.{covered_through}
-use Rattle.theory.specs.Showing.{shown_by, ShownAt, ShownBefore, steps_up_to, shown_until, ShownSooner, Showing, Shows, ShowsThrough}
-use Rattle.violations.specs.Tests.{every_from, any_from, implies}
+use Rattle.theory.specs.Showing.{shown_by, ShownAt, steps_up_to, shown_until, Showing, Shows, ShowsThrough}
+use Rattle.violations.specs.Tests.{any_from}
 use Rattle.violations.specs.Showing.{shown_test, shown_where, heard_there, far_below, far_from, far_test, soon_at, soon_test}
 use Rattle.violations.proofs.Refuting.{implies-intro, same_frames-eq, every-at}
 use Rattle.violations.proofs.Telling.{telling}

@@ -35,7 +35,7 @@ abbrev pub engine_call : Setup → List ℕ → List (List ℕ) → Input
 engine_call s frames entries =
     record {
       setup = s;
-      own_val = 0;
+      own = 0;
       clock = now;
       tables = fresh_tables (now - 1);
       holdback = frames ++ replicate (long_holdback_size s - length frames) 170;

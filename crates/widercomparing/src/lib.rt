@@ -1,4 +1,7 @@
 // 02, 2.10: the comparison with both pairs of limits, which judges as a tick at its clock.
+
+#![tactic(auto)]
+
 mod call;
 mod frames;
 

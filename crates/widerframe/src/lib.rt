@@ -1,4 +1,7 @@
 // 02, 2.10: frames of both widths: "both widths are read always".
+
+#![tactic(auto)]
+
 mod codec;
 mod form;
 

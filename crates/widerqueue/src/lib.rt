@@ -1,5 +1,8 @@
 // 02, 2.10: the shelf, here the hold-back queue, with frames of both widths on it, judged by both pairs of limits. No table of starts: a search
 // and a cut walk from the front.
+
+#![tactic(auto)]
+
 mod change;
 mod due;
 mod order;

@@ -1,4 +1,7 @@
 // 02, 2.10: the words of 2.1 with both pairs of limits, which print the limits of the mark's side.
+
+#![tactic(auto)]
+
 ghost use Rattle.std.specs.Prelude.{◌≡◌, ◌*◌, ◌≤◌};
 ghost use Rattle.setup.specs.Views.{setup_of};
 ghost use Rattle.pairs.specs.Views.{wider_of};
