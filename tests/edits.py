@@ -44,7 +44,7 @@ from concurrent.futures import ThreadPoolExecutor, as_completed
 from pathlib import Path
 
 ROOT = Path(__file__).resolve().parent.parent
-LIMIT = 300  # seconds that a check may take
+LIMIT = 900  # seconds that a check may take
 TURNS = 4  # days in which each edit has its turn
 TRIED = ROOT / "tests" / "tried"  # of which crates all edits were tried, and as what they stood
 JOBS = int(os.environ.get("RT_JOBS") or min(os.cpu_count() or 1, 4))  # checks that run at a time, as in rt

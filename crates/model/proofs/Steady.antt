@@ -2,7 +2,7 @@
 -- between equal pairs, wherever V stands; and the calls with equal pairs are the plain ones.
 -- Assumes nothing.
 use Prim.Native.Nat.{ℕ}
-use mathlib.Core.Path.{◌≡◌, refl}
+use mathlib.Core.Path.{◌≡◌, refl, ap}
 use Rattle.model.proofs.ComputingWider.{computing_wider}
 use Rattle.model.specs.Setup.{Setup}
 use Rattle.model.specs.Timestamp.{Timestamp, sound_timestamp, absorb}
@@ -12,7 +12,7 @@ use Rattle.model.specs.Question.{frame_questions}
 use Rattle.model.specs.Holdback.{held_bytes, held, sound_holdback}
 use Rattle.model.specs.Judge.{judge_questions, observer_questions, judge, hear, absorb_all}
 use Rattle.model.specs.Tick.{Input, tables_sound, opening_stamp, opening_queue, acceptance}
-use Rattle.model.specs.Observer.{Listening, listened}
+use Rattle.model.specs.Observer.{Listening, Listened, listened}
 use Rattle.model.specs.Poll.{polled_queue, next_due, number_within}
 use Rattle.model.specs.Comparison.{compared}
 use Rattle.model.specs.Schedule.{steady, widest_of, own_limits}
@@ -124,11 +124,29 @@ module _ (s : Setup) where
   unfolding computing_wider
   within-steady = refl
 
--- an accepted tick, and an accepted call of an observer
+-- an accepted tick
 pub tick-steady : (i : Input) → wider_acceptance (steady i.setup) i ≡ acceptance i
 unfolding computing_wider
 tick-steady i = refl
 
+-- an accepted call of an observer; its last clock by itself, since two that differ there alone are told apart only after minutes
+pub last-steady : (i : Listening) → (wider_listened (steady i.setup) i).last ≡ (listened i).last
+unfolding wider_listened listened
+last-steady i = refl
+
+abbrev with_last : Listened → ℕ → Listened
+with_last o clock =
+    record {
+      number = o.number;
+      repair = o.repair;
+      taken = o.taken;
+      delivered = o.delivered;
+      last = clock;
+      holdback = o.holdback;
+      verdicts = o.verdicts;
+      delivery = o.delivery;
+    }
+
 pub listen-steady : (i : Listening) → wider_listened (steady i.setup) i ≡ listened i
 unfolding computing_wider
-listen-steady i = refl
+listen-steady i = ap (with_last (listened i)) (last-steady i)
