@@ -4,29 +4,70 @@ use mathlib.Core.Bool.{true, false, ◌&&◌}
 use mathlib.Core.List.{List, [], ◌∷◌}
 use mathlib.Core.Logic.{inl, inr}
 use Prim.Native.Nat.{ℕ, zero, suc, ◌+◌, ◌-◌, ◌≤◌, ◌<◌, min}
-use native.Mathlib.Nat.{min-eq_left, eq-or-lt_of_le}
+use native.Mathlib.Nat.{min-eq_left}
 use native.Mathlib.Numerals.{add-one}
 use native.Mathlib.Omega.{arith}
 use lib.Dec.{leb, eqb}
 use lib.ListN.{length, take, drop, get_or, length-drop, drop_of_length-le, get_or-eq_default}
-use lib.Seq.{drop-cons, drop-drop, drop-length, take_all}
-use borrow.Author.Tests.{le-leb, lt-leb, eq-eqb, ne_eqb, leb-true}
+use lib.Seq.{drop-cons, drop-drop, take_all}
+use borrow.Author.Tests.{le-leb, lt-leb, ne_eqb, leb-true}
 use Rattle.laws.proofs.Numbers.{lt-or-ge, clash, and_left, and_right}
+use Rattle.std.specs.Prelude.{slice_range}
+use Rattle.std.proofs.lemmas.Slice.{between_to_end}
 use Rattle.model.specs.Batch.{ends_after, exact_batch, entries_of, batch_entries}
 use Rattle.batch.specs.Walk.{count_of, entry_at, next_at, entry_span_at}
 use Rattle.batch.specs.declared.EntrySpan.{EntrySpan}
 
--- ---- a batch of no bytes, and one with a count
+-- ---- what is left of a batch, and how many entries are left
 
-pub exact-empty : (s : List ℕ) → length s ≡ 0 → exact_batch s ≡ false
+-- the bytes after the first, as the code has them
+abbrev pub after_first : List ℕ → List ℕ
+after_first s = take (length s - 1) (drop 1 s)
+
+after-is : (s : List ℕ) → after_first s ≡ drop 1 s
+after-is s = take_all (length s - 1) (drop 1 s) (simp length-drop (omega arith))
+
+pub exact-empty : (s : List ℕ) → length s < 1 → exact_batch s ≡ false
 unfolding exact_batch
 exact-empty [] h = refl
 exact-empty (x ∷ xs) h = absurd (omega arith)
 
-pub exact-opened : (s : List ℕ) → (length s ≡ 0 → ⊥) → exact_batch s ≡ ends_after (get_or s 0 0) (drop 1 s)
+pub exact-opened : (s : List ℕ) → 1 ≤ length s → exact_batch s ≡ ends_after (get_or s 0 0 - 0) (after_first s)
 unfolding exact_batch
-exact-opened [] h = absurd (h refl)
-exact-opened (x ∷ xs) h = refl
+exact-opened [] h = absurd (omega arith)
+exact-opened (x ∷ xs) h = let e : x - 0 ≡ x = omega arith in rw (after-is (x ∷ xs), e)
+
+-- no entry is left to count
+pub ends-done : (k : ℕ) (rest : List ℕ) → k ≤ 0 → ends_after k rest ≡ eqb (length rest) 0
+unfolding ends_after
+ends-done zero [] h = refl
+ends-done zero (x ∷ xs) h = sym (ne_eqb (length (x ∷ xs)) 0 (omega arith))
+ends-done (suc k) rest h = absurd (omega arith)
+
+-- an entry is missing
+pub ends-missing : (k : ℕ) (rest : List ℕ) → 0 < k → length rest < 1 → ends_after k rest ≡ false
+unfolding ends_after
+ends-missing zero rest z h = absurd (omega arith)
+ends-missing (suc k) [] z h = refl
+ends-missing (suc k) (x ∷ xs) z h = absurd (omega arith)
+
+-- an entry is cut
+pub ends-cut : (k size : ℕ) (rest : List ℕ) → 0 < k → 1 ≤ length rest → size ≡ get_or rest 0 0 → length (after_first rest) < size
+    → ends_after k rest ≡ false
+unfolding ends_after
+ends-cut zero size rest z h e o = absurd (omega arith)
+ends-cut (suc k) size [] z h e o = absurd (omega arith)
+ends-cut (suc k) size (x ∷ xs) z h e o = let short = rw (after-is (x ∷ xs), e) at o in rw (lt-leb x (length xs) short)
+
+-- an entry is whole
+pub ends-turn : (k j size : ℕ) (rest next : List ℕ) → k ≡ suc j → 1 ≤ length rest → size ≡ get_or rest 0 0 → size ≤ length (after_first rest)
+    → next ≡ slice_range (after_first rest) size (length (after_first rest)) → ends_after k rest ≡ ends_after j next
+unfolding ends_after
+ends-turn k j size [] next m h e o f = absurd (omega arith)
+ends-turn k j size (x ∷ xs) next m h e o f =
+    let fits = rw (after-is (x ∷ xs), e) at o in
+    let following = rw (after-is (x ∷ xs), e, between_to_end xs x (length xs) (omega arith)) at f in
+    rw (m, le-leb x (length xs) fits, following)
 
 -- ---- at an entry's length, at the end, and past it
 
@@ -39,35 +80,11 @@ ends_at : (k : ℕ) (s : List ℕ) (at : ℕ) → at < length s
 unfolding ends_after
 ends_at k s at h = rw (opened s at h, length-drop (at + 1) s, drop-drop (get_or s at 0) (at + 1) s)
 
--- no entry is left to count
-pub ends-done : (left : ℕ) (s : List ℕ) (at : ℕ) → left ≤ 0 → at ≤ length s → ends_after left (drop at s) ≡ eqb at (length s)
-unfolding ends_after
-ends-done (suc k) s at z h = absurd (omega arith)
-ends-done zero s at z h =
-    elim (eq-or-lt_of_le h) [
-      | inl e ↦ rw (eq-eqb at (length s) e, e, drop-length s)
-      | inr o ↦ rw (ne_eqb at (length s) (omega arith), opened s at o)
-    ]
-
 -- an entry is missing
-pub ends-short : (left : ℕ) (s : List ℕ) (at : ℕ) → 0 < left → length s ≤ at → ends_after left (drop at s) ≡ false
+ends-short : (left : ℕ) (s : List ℕ) (at : ℕ) → 0 < left → length s ≤ at → ends_after left (drop at s) ≡ false
 unfolding ends_after
 ends-short zero s at z h = absurd (omega arith)
 ends-short (suc k) s at z h = rw (drop_of_length-le s h)
-
--- an entry is cut
-pub ends-cut : (left : ℕ) (s : List ℕ) (at : ℕ) → 0 < left → at < length s → length s - (at + 1) < get_or s at 0
-    → ends_after left (drop at s) ≡ false
-ends-cut zero s at z h o = absurd (omega arith)
-ends-cut (suc k) s at z h o = ends_at k s at h ∙ rw (lt-leb (get_or s at 0) (length s - (at + 1)) o)
-
--- an entry is whole
-pub ends-turn : (left : ℕ) (s : List ℕ) (at : ℕ) → 0 < left → at < length s → get_or s at 0 ≤ length s - (at + 1)
-    → ends_after left (drop at s) ≡ ends_after (left - 1) (drop (at + 1 + get_or s at 0) s)
-ends-turn zero s at z h o = absurd (omega arith)
-ends-turn (suc k) s at z h o =
-    let e : suc k - 1 ≡ k = omega arith in
-    ends_at k s at h ∙ rw (le-leb (get_or s at 0) (length s - (at + 1)) o, e)
 
 -- ---- the entry at a position, and the position after it, where the entry is whole
 
@@ -83,34 +100,30 @@ module _ (s : List ℕ) (at : ℕ) (h : at < length s) (o : get_or s at 0 ≤ le
 -- ---- and where it is not
 
 module _ (s : List ℕ) (at : ℕ) where
-  pub entry_past : length s ≤ at → entry_at s at ≡ []
+  entry_past : length s ≤ at → entry_at s at ≡ []
   unfolding entry_at
   entry_past h = rw (get_or-eq_default s 0 h)
+
+  -- as the code has it: from a position that is not past the largest number
+  pub entry-from : (n : ℕ) → (at < length s → n ≡ at + 1) → take (get_or s at 0) (drop n s) ≡ entry_at s at
+  unfolding entry_at
+  entry-from n e = elim (lt-or-ge at (length s)) [ inl h ↦ rw (e h) | inr h ↦ rw (get_or-eq_default s 0 h) ]
 
   entry-cut : length s - (at + 1) < get_or s at 0 → entry_at s at ≡ drop (at + 1) s
   unfolding entry_at
   entry-cut h = take_all (get_or s at 0) (drop (at + 1) s) (simp length-drop (omega arith))
 
   -- as the code has it: up to the batch's end, or for as long as the entry says
-  pub entry-rest : length s - (at + 1) < get_or s at 0 → take (length s - (at + 1)) (drop (at + 1) s) ≡ entry_at s at
+  entry-rest : length s - (at + 1) < get_or s at 0 → take (length s - (at + 1)) (drop (at + 1) s) ≡ entry_at s at
   entry-rest h = take_all (length s - (at + 1)) (drop (at + 1) s) (simp length-drop (omega arith)) ∙ sym (entry-cut h)
 
-  pub entry-between : take (at + 1 + get_or s at 0 - (at + 1)) (drop (at + 1) s) ≡ entry_at s at
+  entry-between : take (at + 1 + get_or s at 0 - (at + 1)) (drop (at + 1) s) ≡ entry_at s at
   unfolding entry_at
   entry-between = let e : at + 1 + get_or s at 0 - (at + 1) ≡ get_or s at 0 = omega arith in rw e
 
 -- ---- one step
 
 module _ (s : List ℕ) (at : ℕ) where
-  -- as the code has it, at the position e after the entry
-  pub step_past : (e : ℕ) → e ≡ next_at s at → e ≤ at → record { start = e; end = e } ≡ entry_span_at s at
-  unfolding entry_span_at next_at
-  step_past e h o = let b : e ≡ min (at + 1) (length s) = omega arith in λ i. record { start = b i; end = h i }
-
-  pub step-inside : (e : ℕ) → e ≡ next_at s at → at < e → record { start = at + 1; end = e } ≡ entry_span_at s at
-  unfolding entry_span_at next_at
-  step-inside e h o = let b : at + 1 ≡ min (at + 1) (length s) = omega arith in λ i. record { start = b i; end = h i }
-
   stepped : take ((entry_span_at s at).end - (entry_span_at s at).start) (drop (entry_span_at s at).start s) ≡ entry_at s at
   unfolding entry_span_at next_at
   stepped = elim (lt-or-ge at (length s)) [

@@ -1,8 +1,8 @@
-// A batch and a position in it. `step` and `advance` take the walker apart and call a function of the crate on the slice and the number.
+// A batch and a position in it.
 ghost use Rattle.std.specs.Prelude.{◌≡◌};
 ghost use Rattle.batch.specs.Walk.{entry_span_at, moved_on};
 
-use crate::{EntrySpan, next_at, span_at};
+use crate::{EntrySpan, span_at};
 
 // 01: "A walk over a bundle remembers the bundle and its position".
 #[derive(Clone, Copy)]
@@ -11,29 +11,21 @@ pub struct Walker<'a> {
     pub at: usize,
 }
 
-// Where the entry at the walker's position starts and ends.
-pub fn span<'a>(w: Walker<'a>) -> EntrySpan
-    ensures { result ≡ entry_span_at w.entry.src.now w.entry.at }
-{
-    span_at(w.src, w.at)
+impl<'a> Walker<'a> {
+    // Where the entry at the walker's position starts and ends; the walker goes on to the next.
+    pub fn step(&mut self) -> EntrySpan
+        ensures entry { result ≡ entry_span_at self.old.src.now self.old.at }
+        ensures next { self.new ≡ moved_on self.old }
+    {
+        let span = span_at(self.src, self.at);
+        self.at = span.end;
+        span
+    }
 }
 
-// At the next entry.
-pub fn advance<'a>(w: Walker<'a>) -> Walker<'a>
-    ensures { result ≡ moved_on w.entry }
-{
-    let at = next_at(w.src, w.at);
-    Walker { src: w.src, at }
-}
-
-// The step of a walker at a position of a batch. Its contract says nothing of a walker, so a caller needs no walk by hand. It
-// goes by the walker's own two functions: the entry starts where `step` says, and ends where `advance` goes on. `step` has the same
-// end, so the position after the entry is worked out twice.
+// The step of a walker at a position of a batch.
 pub fn walk_entry(batch: &[u8], at: usize) -> EntrySpan
     ensures { result ≡ entry_span_at batch.now at }
 {
-    let w = Walker { src: batch, at };
-    let end = advance(w).at;
-    let start = span(w).start;
-    EntrySpan { start, end }
+    Walker { src: batch, at }.step()
 }

@@ -25,13 +25,11 @@ pub fn replace(stations: &mut [Station], at: usize, station: Station)
     stations[at] = station;
 }
 
-// The stations with one of them replaced: they are lent as a slice, and come back. Its contract speaks of no slice, so
-// that a caller needs no walk by hand.
-pub fn with_station(stations: [Station; MOST], at: usize, station: Station) -> [Station; MOST]
+// The stations with one of them replaced: they are lent as a slice, and come back.
+pub fn with_station(mut stations: [Station; MOST], at: usize, station: Station) -> [Station; MOST]
     requires { at < 16 }
     ensures { result ≡ set stations at station }
 {
-    let mut all = stations;
-    replace(&mut all, at, station);
-    all
+    replace(&mut stations, at, station);
+    stations
 }

@@ -1,9 +1,9 @@
 -- Digits: how many a number has, and the loop that writes them from the last on. Assumes nothing.
-use Prim.Native.Nat.{ℕ, zero, suc, ◌+◌, ◌-◌, ◌/◌, ◌%◌, ◌^◌, ◌≤◌, ◌<◌}
+use Prim.Native.Nat.{ℕ, zero, suc, ◌+◌, ◌-◌, ◌*◌, max, ◌/◌, ◌%◌, ◌^◌, ◌≤◌, ◌<◌}
 use mathlib.Core.Path.{◌≡◌, refl, sym, ap, ◌∙◌}
 use mathlib.Core.List.{List, [], ◌∷◌, ◌++◌}
 use mathlib.Core.Logic.{⊎_elim}
-use native.Mathlib.Nat.{pow-suc}
+use native.Mathlib.Nat.{pow-suc, one-le-pow}
 use native.Mathlib.Numerals.{add-one}
 use native.Mathlib.Omega.{arith}
 use lib.ListN.{length, take, get_or, length-append}
@@ -58,6 +58,16 @@ digit_count-le (suc k) x h =
 -- a number of 64 bits has at most 20
 pub digit_count-most : (x : ℕ) → x < 2 ^ 64 → digit_count x ≤ 20
 digit_count-most x h = digit_count-le 19 x (omega arith)
+
+-- by the power of ten below it; 0 has one, as 1 has
+pub digit_count-power : (k x : ℕ) → 10 ^ k ≤ max x 1 → max x 1 < 10 * 10 ^ k → digit_count x ≡ k + 1
+digit_count-power zero x h o = digit_count-small x (omega arith)
+digit_count-power (suc k) x h o =
+    let e : 10 ^ suc k ≡ 10 ^ k * 10 = pow-suc 10 k in
+    let low : 1 ≤ 10 ^ k = one-le-pow k 10 (omega arith) in
+    let big : 10 ≤ x = omega arith in
+    let rest : digit_count (x / 10) ≡ k + 1 = digit_count-power k (x / 10) (omega arith) (omega arith) in
+    omega (arith, digit_count-step x big)
 
 -- ---- the digits
 

@@ -8,10 +8,7 @@ fn glyph_of(d: usize) -> u8
     requires { d < 16 }
     ensures { result ≡ glyph d }
 {
-    if d < 10 {
-        return 48 + d as u8;
-    }
-    87 + d as u8
+    char::from_digit(d as u32, 16).unwrap() as u8
 }
 
 // Writes the last `count` digits of `x` in `base`.
@@ -19,11 +16,9 @@ pub fn put_digits(buf: &mut [u8], at: usize, base: usize, count: usize, x: usize
     requires { ((0 < base) × (base ≤ 16)) × (at + count ≤ length buf.old) }
     ensures { buf.new ≡ pasted buf.old at (digits base count x) }
 {
-    let mut left = count;
     let mut rest = x;
-    while 0 < left {
-        left -= 1;
-        buf[at + left] = glyph_of(rest % base);
+    for i in (0..count).rev() {
+        buf[at + i] = glyph_of(rest % base);
         rest /= base;
     }
 }
@@ -32,13 +27,7 @@ pub fn put_digits(buf: &mut [u8], at: usize, base: usize, count: usize, x: usize
 pub fn digit_count(x: usize) -> usize
     ensures { (result ≡ digit_count x) × (result ≤ 20) }
 {
-    let mut rest = x;
-    let mut count = 1;
-    while 9 < rest {
-        rest /= 10;
-        count += 1;
-    }
-    count
+    x.max(1).ilog10() as usize + 1
 }
 
 // Writes `x` in decimal, and answers where it ends.

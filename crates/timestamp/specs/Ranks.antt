@@ -1,10 +1,9 @@
 -- The order of two timestamps in the code's terms.
 -- Assumes nothing.
-use Prim.Native.Nat.{ℕ, suc, ◌*◌, ◌≤◌, ◌<◌, ◌^◌, compare, Ordering}
-use Rattle.std.specs.Prelude.{List, [], ◌∷◌, length}
+use Prim.Native.Nat.{ℕ, suc, ◌+◌, ◌*◌, ◌≤◌, ◌<◌, ◌^◌, compare, Ordering}
+use Rattle.std.specs.Prelude.{◌≡◌, List, [], ◌∷◌, length}
 use Rattle.model.specs.Timestamp.{Timestamp}
 use Rattle.model.specs.Frame.{Frame}
-use Rattle.model.specs.Order.{counts_down}
 use Rattle.model.specs.Comparison as model
 use Rattle.timestamp.specs.declared.ordering.Reason.{Reason}
 use Rattle.timestamp.specs.declared.ordering.Reason.TheVariants.{Sum, Count, Station, R}
@@ -47,10 +46,6 @@ compare_counts k (x ∷ xs) (y ∷ ys) = or_decide (decide_by (model.by_count k)
 compare_counts k [] ys = record { order = Ordering.eq; reason = model.by_nothing }
 compare_counts k (x ∷ xs) [] = record { order = Ordering.eq; reason = model.by_nothing }
 
--- the ε counts from offset c down, of a list of counts
-abbrev pub newest_counts : ℕ → ℕ → List ℕ → List ℕ
-newest_counts epsilon c kn = counts_down epsilon (of_counts c kn)
-
 -- a frame with that station and timestamp. The order does not look at the payload
 abbrev pub stamped_frame : ℕ → Timestamp → Frame
 stamped_frame station t = record { station = station; stamp = t; payload = [] }
@@ -58,6 +53,16 @@ stamped_frame station t = record { station = station; stamp = t; payload = [] }
 -- a frame with that rank and those counts. The order looks at the reading in the place of r
 abbrev pub ranked_frame : Rank → List ℕ → Frame
 ranked_frame f kn = stamped_frame f.station (of_counts f.c kn)
+
+-- what is given for each of so many numbers of clocks is the count of a row there
+abbrev pub Reads : ℕ → (ℕ → ℕ → Type 0) → (ℕ → ℕ) → Type 0
+Reads most gives row = (k n : ℕ) → k < most → gives k n → n ≡ row k
+
+-- "First difference decides": the sum, what the counts decide, the station number and r, in turn
+abbrev pub in_turn : Rank → Rank → model.Comparison → model.Comparison
+in_turn f g counts =
+    or_decide (decide_by model.by_sum (compare (f.reading + f.c) (g.reading + g.c)))
+    (or_decide counts (or_decide (decide_by model.by_station (compare f.station g.station)) (decide_by model.by_r (compare f.reading g.reading))))
 
 -- what a comparison asks of a frame: its lead is sound, its reading small, and 2ε counts are there
 pub record Ranked (epsilon : ℕ) (f : Rank) (kn : List ℕ) : Type 0 where

@@ -1,6 +1,6 @@
 -- What the counts in a window are held to.
 -- Assumes nothing.
-use Rattle.std.specs.Prelude.{ℕ, ◌+◌, ◌*◌, ◌&&◌, cond, List, leb, ltb, get_or}
+use Rattle.std.specs.Prelude.{ℕ, ◌+◌, ◌*◌, cond, List, ltb}
 use Rattle.laws.specs.Lists.{tab}
 
 -- the limit at a place: n in the first 32; 0 in the next 32, and in as many more as there are counts; then 255, the most that a byte can be
@@ -11,7 +11,3 @@ ceiling_at n epsilon i = cond (ltb i 32) n (cond (ltb i (64 + 2 * epsilon)) 0 25
 -- has 0 at the place of a count, and 255 past the 2ε counts
 unfoldable pub ceilings_of : ℕ → ℕ → List ℕ
 ceilings_of n epsilon = tab 96 (ceiling_at n epsilon)
-
--- what stands at a place of a list that has x in the places from one up to, not including, another
-abbrev pub ceiling_in : ℕ → ℕ → ℕ → List ℕ → ℕ → ℕ
-ceiling_in from to x l i = cond (leb from i && ltb i to) x (get_or l i 0)

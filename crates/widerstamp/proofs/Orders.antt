@@ -21,9 +21,8 @@ use Rattle.lemmas.proofs.Counts.{count-moved}
 use Rattle.lemmas.proofs.WiderQueue.{length-down-by}
 use Rattle.timestamp.specs.declared.ordering.Rank.{Rank}
 use Rattle.timestamp.specs.Views.{of_counts}
-use Rattle.timestamp.specs.Ranks.{decide_by, or_decide, compare_counts, ranked_frame}
+use Rattle.timestamp.specs.Ranks.{decide_by, or_decide, compare_counts, in_turn, ranked_frame}
 use Rattle.timestamp.proofs.Deciding.{rows-in-turn}
-use Rattle.timestamp.proofs.Ordered.{Turns}
 use Rattle.widerstamp.specs.Keys.{key_with}
 
 -- ---- the counts of one
@@ -38,7 +37,7 @@ unfolding count_at placed_at
 count-some half k c kn h = rw (le-leb k (c + half) h)
 
 -- so many of them, from offset c down
-pub down-row : (most half c : ℕ) (kn : List ℕ) → counts_down_by most half (of_counts c kn) ≡ tab most (λ k. count_at half k kn c)
+down-row : (most half c : ℕ) (kn : List ℕ) → counts_down_by most half (of_counts c kn) ≡ tab most (λ k. count_at half k kn c)
 unfolding counts_down_by count_at
 down-row most half c kn =
     tab-ext most (λ k. placed_at most kn (most + c - k + half)) (λ k. placed_at k kn (c + half))
@@ -57,16 +56,13 @@ keys-in-turn most half half' x y f g =
     rows-in-turn most (x + f.stamp.c) (y + g.stamp.c) (counts_down_by most half f.stamp) (counts_down_by most half' g.stamp) f.station g.station x y
     (length-down-by most half f.stamp) (length-down-by most half' g.stamp)
 
-abbrev pub turns_with : ℕ → ℕ → ℕ → Rank → Rank → List ℕ → List ℕ → Turns
-turns_with most half half' f g a b =
-    record {
-      whole = compare_keys most (key_with most half f.reading (ranked_frame f a)) (key_with most half' g.reading (ranked_frame g b));
-      sums = decide_by model.by_sum (compare (f.reading + f.c) (g.reading + g.c));
-      counts = compare_counts 0 (counts_down_by most half (of_counts f.c a)) (counts_down_by most half' (of_counts g.c b));
-      stations = decide_by model.by_station (compare f.station g.station);
-      readings = decide_by model.by_r (compare f.reading g.reading);
-      in-turn = keys-in-turn most half half' f.reading g.reading (ranked_frame f a) (ranked_frame g b);
-    }
+-- by the counts of each, from offset c down
+pub compared-in-turn : (most half half' : ℕ) (f g : Rank) (a b : List ℕ)
+    → in_turn f g (compare_counts 0 (tab most (λ k. count_at half k a f.c)) (tab most (λ k. count_at half' k b g.c)))
+    ≡ compare_keys most (key_with most half f.reading (ranked_frame f a)) (key_with most half' g.reading (ranked_frame g b))
+compared-in-turn most half half' f g a b =
+    rw (← down-row most half f.c a, ← down-row most half' g.c b)
+    (sym (keys-in-turn most half half' f.reading g.reading (ranked_frame f a) (ranked_frame g b)))
 
 -- where the sums differ nothing behind them is looked at
 keys-head : (most x y : ℕ) (a b b' : List ℕ) → (x ≡ y → ⊥) → compare_keys most (x ∷ a) (y ∷ b) ≡ compare_keys most (x ∷ a) (y ∷ b')

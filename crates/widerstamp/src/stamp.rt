@@ -1,5 +1,5 @@
 // Counts of one half width placed among those of another; 02: "missing counts being 0".
-ghost use Rattle.std.specs.Prelude.{◌≡◌, ◌-◌, ◌*◌, ◌≤◌, ◌^◌, min, length, take};
+ghost use Rattle.std.specs.Prelude.{◌≡◌, ◌*◌, ◌≤◌, ◌^◌, length, take};
 ghost use Rattle.laws.specs.Lists.{tab, padded};
 ghost use Rattle.model.specs.Setup.{width, widest};
 ghost use Rattle.model.specs.Timestamp.{trimmed, widened};
@@ -7,16 +7,7 @@ ghost use Rattle.model.specs.Wider.{step_into, absorb_wide};
 ghost use Rattle.timestamp.specs.Views.{stamp_of, of_counts};
 ghost use Rattle.widerstamp.specs.Placed.{larger_beside};
 
-use timestamp::{Timestamp, larger_lead, past, raise};
-
-// How many counts there are behind two places, where each row ends.
-fn shared(own: usize, to: usize, other: usize, from: usize) -> usize
-    ensures { result ≡ min (own - to) (other - from) }
-{
-    let a = past(own, to);
-    let b = past(other, from);
-    if a < b { a } else { b }
-}
+use timestamp::{Timestamp, raise};
 
 // Lays counts of a half width, whose r stands at a reading, over the own 2ε, which are placed relative to v at `modulus`, and keeps the larger of each
 // two.
@@ -34,11 +25,12 @@ fn raise_beside(
 {
     let at = reading + epsilon;
     let low = modulus + half;
-    let up = past(at, low);
-    let down = past(low, at);
-    let count = shared(2 * epsilon, up, 2 * half, down);
+    let up = at.saturating_sub(low);
+    let down = low.saturating_sub(at);
+    let own_left = (2 * epsilon).saturating_sub(up);
+    let other_left = (2 * half).saturating_sub(down);
     let mut kn = own;
-    raise(&mut kn, up, other, down, count);
+    raise(&mut kn, up, other, down, own_left.min(other_left));
     kn
 }
 
@@ -48,11 +40,10 @@ pub fn step_into(stamp: Timestamp, epsilon: usize, half: usize, k: usize, clock:
     ensures { stamp_of result ≡ widened (step_into epsilon half k clock (trimmed half (stamp_of stamp))) }
 {
     let own = [0u8; Timestamp::WIDTH];
-    let old = stamp.kn;
-    let kn = raise_beside(own, epsilon, k, &old[..2 * half], half, 0);
+    let kn = raise_beside(own, epsilon, k, &stamp.kn[..2 * half], half, 0);
     Timestamp {
         r: clock,
-        c: past(stamp.c, k),
+        c: stamp.c.saturating_sub(k),
         kn,
     }
 }
@@ -73,11 +64,10 @@ pub fn absorb_into(
     ensures { stamp_of result
         ≡ widened (absorb_wide epsilon half modulus (trimmed epsilon (stamp_of stamp)) reading (of_counts c counts.now)) }
 {
-    let own = stamp.kn;
-    let kn = raise_beside(own, epsilon, modulus, counts, half, reading);
+    let kn = raise_beside(stamp.kn, epsilon, modulus, counts, half, reading);
     Timestamp {
         r: stamp.r,
-        c: larger_lead(stamp.c, reading + c, modulus),
+        c: stamp.c.max((reading + c).saturating_sub(modulus)),
         kn,
     }
 }

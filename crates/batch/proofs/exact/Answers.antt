@@ -1,32 +1,26 @@
--- `batch::exact` meets its contract. The invariant: the whole batch is exact if the bytes from `at` on end after `left` entries. Assumes nothing.
+-- `batch::exact` meets its contract. The invariant: the whole batch is exact if `rest` ends after as many entries as are left. Assumes nothing.
 use mathlib.Core.Path.{sym, ◌∙◌}
 use native.Mathlib.Omega.{arith}
-use Rattle.batch.proofs.Walk.{exact-empty, exact-opened, ends-done, ends-short, ends-cut, ends-turn}
+use Rattle.batch.proofs.Walk.{exact-empty, exact-opened, ends-done, ends-missing, ends-cut, ends-turn}
 use Rattle.batch.proofs.exact.Goals as goal
 
-pub returns-then-n-eq0 : goal.returns-then-n-eq0
-returns-then-n-eq0 c = sym (exact-empty c.args.batch.now (omega arith))
+pub returns-in_default : goal.returns-in_default
+returns-in_default c = sym (exact-empty c.args.batch.now c.in_default.len_below)
 
-pub overflow_cast-left : goal.overflow_cast-left
-overflow_cast-left c = omega (arith, c.shared_slice_known-1.given 0)
+pub loop-init : goal.loop-init
+loop-init c = exact-opened c.args.batch.now c.in-len1-up.len_at_least
 
-pub loop-left-init : goal.loop-left-init
-loop-left-init c = (omega arith, exact-opened c.args.batch.now (omega arith))
+pub returns-in_default-rest : goal.returns-in_default-rest
+returns-in_default-rest c = sym (c.loop.invariant ∙ ends-missing _ c.loop.rest.now (omega arith) c.in_default-rest.len_below)
 
-pub returns-then-n-at : goal.returns-then-n-at
-returns-then-n-at c = sym (c.loop-left.invariant.1 ∙ ends-short c.loop-left.left c.args.batch.now c.loop-left.at (omega arith) (omega arith))
+pub returns-in_default-get : goal.returns-in_default-get
+returns-in_default-get c =
+    sym (c.loop.invariant ∙ ends-cut _ c.from.result c.loop.rest.now (omega arith) c.in-len1-up-rest.len_at_least c.from.ensures (omega (arith, c.in_default-get.ensures.lookup.0)))
 
-pub overflow_cast-size : goal.overflow_cast-size
-overflow_cast-size c = omega (arith, c.shared_slice_known-in-loop-left-1.given c.loop-left.at)
-
-pub returns-then-n-at-2 : goal.returns-then-n-at-2
-returns-then-n-at-2 c = sym (c.loop-left.invariant.1 ∙ ends-cut c.loop-left.left c.args.batch.now c.loop-left.at (omega arith) (omega arith) (omega arith))
-
-pub loop-left-preserved : goal.loop-left-preserved
-loop-left-preserved c = (
-  omega arith,
-  c.loop-left.invariant.1 ∙ ends-turn c.loop-left.left c.args.batch.now c.loop-left.at (omega arith) (omega arith) (omega arith),
-)
+pub loop-preserved : goal.loop-preserved
+loop-preserved c =
+    c.loop.invariant
+    ∙ ends-turn _ _ c.from.result c.loop.rest.now c.in-Some.next.now (omega arith) c.in-len1-up-rest.len_at_least c.from.ensures c.in-Some.ensures.lookup.0.0 c.in-Some.ensures.lookup.0.2
 
 pub returns : goal.returns
-returns c = sym (c.loop-left.invariant.1 ∙ ends-done c.loop-left.left c.args.batch.now c.loop-left.at (omega arith) (omega arith))
+returns c = c.is_empty.ensures ∙ sym (c.loop.invariant ∙ ends-done _ c.loop.rest.now (omega arith))

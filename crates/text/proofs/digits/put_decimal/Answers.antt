@@ -7,8 +7,5 @@ use Rattle.text.proofs.digits.put_decimal.Goals as goal
 pub put_digits-requires : goal.put_digits-requires
 put_digits-requires c = omega (arith, length-decimal c.args.x)
 
-pub overflow_add-result : goal.overflow_add-result
-overflow_add-result c = omega (arith, length-decimal c.args.x)
-
 pub returns : goal.returns
 returns c = put-digits-decimal c.args.at c.digit_count-count.result c.args.x c.digit_count-count.ensures.0 c.put_digits.ensures

@@ -1,7 +1,6 @@
 -- `text::digits::put_digits` meets its contract. The invariant of its loop: the last digits are pasted, and those left are the first ones, of the rest. Assumes nothing.
 use Prim.Native.Nat.{suc, ◌-◌}
 use mathlib.Core.Path.{◌≡◌, sym, ◌∙◌}
-use native.Mathlib.Nat.{mod-lt}
 use lib.Seq.{take_all}
 use native.Mathlib.Omega.{arith}
 use Rattle.splice.proofs.Laws.{starts, grows-left, ends}
@@ -9,30 +8,27 @@ use Rattle.text.specs.Text.{digits}
 use Rattle.text.proofs.Numerals.{length_digits, front-last, front-before}
 use Rattle.text.proofs.digits.put_digits.Goals as goal
 
-pub loop-left-init : goal.loop-left-init
-loop-left-init c =
+pub loop-i-init : goal.loop-i-init
+loop-i-init c =
     let args = c.args in
     let size = length_digits args.base args.count args.x in (
       starts args.buf.now args.at (digits args.base args.count args.x) args.count (omega arith) (omega arith),
       take_all args.count (digits args.base args.count args.x) (omega arith),
     )
 
-pub glyph_of-requires : goal.glyph_of-requires
-glyph_of-requires c = omega (arith, mod-lt c.loop-left.rest c.requires.0.0)
-
-pub loop-left-preserved : goal.loop-left-preserved
-loop-left-preserved c =
+pub loop-i-preserved : goal.loop-i-preserved
+loop-i-preserved c =
     let args = c.args in
     let all = digits args.base args.count args.x in
-    let e : c.loop-left.left ≡ suc (c.loop-left.left - 1) = omega arith in (
-      grows-left c.loop-left.invariant.0
-          (c.glyph_of.ensures ∙ sym (front-last args.base all c.loop-left.left c.loop-left.rest c.loop-left.invariant.1 (c.loop-left.left - 1) e))
+    let e : c.loop-i.i ≡ suc (c.loop-i.i - 1) = omega arith in (
+      grows-left c.loop-i.invariant.0
+          (c.glyph_of.ensures ∙ sym (front-last args.base all c.loop-i.i c.loop-i.rest c.loop-i.invariant.1 (c.loop-i.i - 1) e))
           (omega arith),
-      front-before args.base all c.loop-left.left c.loop-left.rest c.loop-left.invariant.1 (c.loop-left.left - 1) e,
+      front-before args.base all c.loop-i.i c.loop-i.rest c.loop-i.invariant.1 (c.loop-i.i - 1) e,
     )
 
 pub returns : goal.returns
 returns c =
     let args = c.args in
     let size = length_digits args.base args.count args.x in
-    ends c.loop-left.invariant.0 (omega arith) (omega arith)
+    ends c.loop-i.invariant.0 (omega arith) (omega arith)

@@ -5,8 +5,5 @@ use Rattle.splice.proofs.Laws.{Pasting}
 use Rattle.text.specs.Text.{digits}
 use Rattle.text.proofs.digits.put_digits.Given as goal
 
-abbrev pub invariant-loop-left : goal.invariant-loop-left
-invariant-loop-left l = Pasting l.initial.buf l.at (digits l.base l.count l.x) l.left l.count l.buf × (take l.left (digits l.base l.count l.x) ≡ digits l.base l.left l.rest)
-
-abbrev pub decreases-loop-left : goal.decreases-loop-left
-decreases-loop-left l = l.left
+abbrev pub invariant-loop-i : goal.invariant-loop-i
+invariant-loop-i l = Pasting l.initial.buf l.at (digits l.base l.count l.x) l.i l.count l.buf × (take l.i (digits l.base l.count l.x) ≡ digits l.base l.i l.rest)

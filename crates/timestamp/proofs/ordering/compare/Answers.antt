@@ -1,7 +1,6 @@
 -- `timestamp::ordering::compare` meets its contract: places past the 2ε counts are not looked at.
 -- Assumes nothing.
 use mathlib.Core.Path.{◌≡◌}
-use native.Mathlib.Omega.{arith}
 use lib.ListN.{length}
 use Rattle.timestamp.specs.Views.{stamp_of}
 use Rattle.timestamp.proofs.Ordered.{key-trimmed}
@@ -14,9 +13,6 @@ long-f c = search rules
 
 long-g : (c : Start) → length c.args.g.kn ≡ 32
 long-g c = search rules
-
-pub compare_ranked-requires : goal.compare_ranked-requires
-compare_ranked-requires c = omega (arith, long-f (goal.at.compare_ranked-requires c).Start, long-g (goal.at.compare_ranked-requires c).Start)
 
 pub returns : goal.returns
 returns c =

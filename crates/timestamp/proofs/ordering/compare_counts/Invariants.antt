@@ -1,16 +1,15 @@
 -- `timestamp::ordering::compare_counts` meets its contract: the loop's invariant: all the counts compare as those from place k on.
 -- Assumes nothing.
-use Prim.Native.Nat.{◌-◌, ◌≤◌}
+use Prim.Native.Nat.{ℕ, ◌-◌, ◌≤◌}
 use mathlib.Core.Path.{◌≡◌}
-use lib.ListN.{drop}
-use Rattle.timestamp.specs.Ranks.{compare_counts, newest_counts}
+use Rattle.timestamp.specs.Ranks.{Reads}
+use Rattle.timestamp.proofs.Ordered.{rows_from}
 use Rattle.timestamp.proofs.ordering.compare_counts.Given as goal
 
 abbrev pub invariant-loop-k : goal.invariant-loop-k
-invariant-loop-k l =
-    (l.k ≤ l.epsilon)
-    × (compare_counts 0 (newest_counts l.epsilon l.ca l.a) (newest_counts l.epsilon l.cb l.b)
-    ≡ compare_counts l.k (drop l.k (newest_counts l.epsilon l.ca l.a)) (drop l.k (newest_counts l.epsilon l.cb l.b)))
+invariant-loop-k g l =
+    (l.k ≤ l.most)
+    × ((a b : ℕ → ℕ) → Reads l.most (goal.F-post g l.count_f) a → Reads l.most (goal.G-post g l.count_g) b → rows_from l.most a b 0 ≡ rows_from l.most a b l.k)
 
 abbrev pub decreases-loop-k : goal.decreases-loop-k
-decreases-loop-k l = l.epsilon - l.k
+decreases-loop-k g l = l.most - l.k

@@ -1,33 +1,19 @@
 -- `timestamp::stamp::counts_at_most` meets its contract: the loop's invariant: the test of the whole part is that of the largest count passed and of what is left.
 -- Assumes nothing.
-use mathlib.Core.Path.{sym, ◌∙◌}
-use native.Mathlib.Omega.{arith}
-use Rattle.timestamp.proofs.Counts.{at-most-start, at-most-next, at-most-end}
+use mathlib.Core.Path.{sym, ap, ◌∙◌}
+use lib.Dec.{leb}
+use Prim.Native.Nat.{ℕ}
+use mathlib.Core.List.{List}
+use Rattle.model.specs.Timestamp.{at_most}
+use Rattle.timestamp.proofs.Counts.{at-most-next, at-most-end, part-from}
 use Rattle.timestamp.proofs.stamp.counts_at_most.Goals as goal
 
-pub loop-i-init : goal.loop-i-init
-loop-i-init c = (omega arith, at-most-start c.args.bound _)
-
-pub bounds-kn-i : goal.bounds-kn-i
-bounds-kn-i c = omega arith
-
-pub overflow_add-i : goal.overflow_add-i
-overflow_add-i c = omega arith
-
-pub loop-i-smaller : goal.loop-i-smaller
-loop-i-smaller c = omega arith
-
-pub loop-i-preserved : goal.loop-i-preserved
-loop-i-preserved c = (
-  omega (arith, c.shared_slice_known-1.given c.loop-i.i),
-  c.loop-i.invariant.1
-      ∙ at-most-next _ _ _ _ _ _ c.loop-i-test.true c.requires c.larger-most.ensures,
-)
-
-pub overflow_cast-result : goal.overflow_cast-result
-overflow_cast-result c = omega arith
+pub loop-count-preserved : goal.loop-count-preserved
+loop-count-preserved c = c.loop-count.invariant ∙ at-most-next _ _ _ _ _ c.loop-count-test.true c.max-most.ensures
 
 pub returns : goal.returns
 returns c =
     let a = c.args in
-    sym (c.loop-i.invariant.1 ∙ at-most-end a.bound _ _ c.loop-i.most a.kn.now c.loop-i-test.false c.requires)
+    ap (λ (n : ℕ). leb n a.bound) c.from.ensures
+    ∙ sym (c.loop-count.invariant ∙ at-most-end _ _ _ _ c.loop-count-test.false)
+    ∙ ap (λ (l : List ℕ). at_most a.bound l) (part-from a.from a.to c.min.result a.kn.now c.requires c.min.ensures)

@@ -1,37 +1,17 @@
--- `timestamp::stamp::counts_of` meets its contract: the loop's invariant: the counts passed are copied, the other places are 0.
+-- `timestamp::stamp::counts_of` meets its contract: the counts are copied, the other places are 0.
 -- Assumes nothing.
-use mathlib.Core.Path.{refl}
-use native.Mathlib.Nat.{le_antisymm}
+use Prim.Native.Nat.{◌+◌, ◌-◌}
+use mathlib.Core.Path.{◌≡◌, ap, ◌∙◌}
+use mathlib.Core.List.{List, ◌++◌}
 use native.Mathlib.Omega.{arith}
-use Rattle.laws.specs.Lists.{padded}
-use Rattle.timestamp.proofs.Counts.{copied_next}
+use lib.ListN.{drop, replicate}
+use Prim.Native.Nat.{ℕ}
+use Rattle.timestamp.proofs.Counts.{copied-padded}
 use Rattle.timestamp.proofs.stamp.counts_of.Goals as goal
 
-pub loop-i-init : goal.loop-i-init
-unfolding padded
-loop-i-init c = (omega arith, refl)
-
-pub overflow_add-kn : goal.overflow_add-kn
-overflow_add-kn c = omega arith
-
-pub bounds-s-from : goal.bounds-s-from
-bounds-s-from c = omega arith
-
-pub bounds-kn-i : goal.bounds-kn-i
-bounds-kn-i c = omega arith
-
-pub overflow_add-i : goal.overflow_add-i
-overflow_add-i c = omega arith
-
-pub loop-i-smaller : goal.loop-i-smaller
-loop-i-smaller c = omega arith
-
-pub loop-i-preserved : goal.loop-i-preserved
-loop-i-preserved c = (
-  omega arith,
-  copied_next 32 _ _ _ _ _ c.requires.0 c.requires.1 c.loop-i-test.true
-      c.loop-i.invariant.1,
-)
-
 pub returns : goal.returns
-returns c = rw (le_antisymm c.loop-i.invariant.0 c.loop-i-test.false) at c.loop-i.invariant.1
+returns c =
+    let a = c.args in
+    let e : a.from + a.count - a.from ≡ a.count = omega arith in
+    ap (λ (l : List ℕ). l ++ drop a.count (replicate 32 0)) (rw e at c.copy_from_slice.ensures.after)
+    ∙ copied-padded 32 a.from a.count a.s.now c.requires.0

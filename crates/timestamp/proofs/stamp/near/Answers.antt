@@ -3,19 +3,9 @@
 use Prim.Native.Nat.{ℕ, ◌+◌, ◌<◌}
 use mathlib.Core.Path.{ap, ◌∙◌}
 use native.Mathlib.Omega.{arith}
-use native.Mathlib.Nat.{mod-lt}
 use Rattle.lemmas.proofs.Reading.{ahead-below}
 use Rattle.timestamp.proofs.Readings.{near-from}
 use Rattle.timestamp.proofs.stamp.near.Goals as goal
-
-pub turned-least-requires : goal.turned-least-requires
-turned-least-requires c = omega arith
-
-pub ahead-requires : goal.ahead-requires
-ahead-requires c =
-    let some-clock : 0 < c.args.modulus = omega arith in
-    let inside : c.turned-least.result < c.args.modulus = omega (arith, c.turned-least.ensures, mod-lt (c.args.clock + c.args.epsilon) some-clock) in
-    (c.requires.modulus_bound.0, (inside, c.requires.modulus_bound.1.1))
 
 pub overflow_add-result : goal.overflow_add-result
 overflow_add-result c =

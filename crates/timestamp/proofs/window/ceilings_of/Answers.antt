@@ -1,20 +1,12 @@
 -- `timestamp::window::ceilings_of` meets its contract: n in the first part, then 255 past the counts of the last.
 -- Assumes nothing.
-use Prim.Native.Nat.{ℕ, ◌+◌, ◌*◌}
-use mathlib.Core.Path.{ap, ◌∙◌}
-use mathlib.Core.List.{List}
-use native.Mathlib.Omega.{arith}
-use Rattle.laws.specs.Lists.{tab}
-use Rattle.timestamp.specs.Window.{ceiling_in}
-use Rattle.timestamp.proofs.Windows.{ceilings-made}
+use mathlib.Core.Path.{refl}
+use lib.ListN.{drop, replicate}
+use Rattle.timestamp.proofs.Windows.{limits-made}
 use Rattle.timestamp.proofs.window.ceilings_of.Goals as goal
-
-pub with_ceiling-requires : goal.with_ceiling-requires
-with_ceiling-requires c = omega arith
 
 pub returns : goal.returns
 returns c =
     let a = c.args in
-    c.with_ceiling.ensures
-    ∙ ap (λ (l : List ℕ). tab 96 (ceiling_in (64 + 2 * a.epsilon) 96 255 l)) c.with_ceiling-counts.ensures
-    ∙ ceilings-made a.n a.epsilon
+    limits-made a.n a.epsilon c.fill.new.self (drop 32 (replicate 96 0)) c.fill-2.new.self c.requires.1 (c.fill.ensures.after (λ y e. e)) refl
+    (c.fill-2.ensures.after (λ y e. e))

@@ -1,6 +1,6 @@
 -- `widerstamp::stamp::step_into` meets its contract: the counts are laid over none at all. Assumes nothing.
 use Prim.Native.Nat.{◌*◌}
-use mathlib.Core.Path.{◌≡◌, sym}
+use mathlib.Core.Path.{◌≡◌}
 use native.Mathlib.Omega.{arith}
 use lib.ListN.{length}
 use lib.Seq.{length-take-le}
@@ -13,17 +13,14 @@ use Rattle.widerstamp.proofs.stamp.step_into.Goals as goal
 long : (c : Start) → length c.args.stamp.kn ≡ 32
 long c = search rules
 
-pub slice_bounds-old-end : goal.slice_bounds-old-end
-slice_bounds-old-end c = omega (arith, long (goal.at.slice_bounds-old-end c).Start)
-
-pub slice_bounds-raise_beside-end : goal.slice_bounds-raise_beside-end
-slice_bounds-raise_beside-end c = sym (length-take-le _ _ (omega (arith, long (goal.at.slice_bounds-raise_beside-end c).Start)))
-
-pub raise_beside-kn-requires : goal.raise_beside-kn-requires
-raise_beside-kn-requires c = record { epsilon_bound = (c.requires.0, (c.requires.1.0, (c.requires.1.1, omega arith))); own_value = (zeros-narrow (2 * c.args.epsilon) 32, length-take-le _ _ (omega (arith, long (goal.at.raise_beside-kn-requires c).Start))) }
+pub raise_beside-kn-requires-clause-own_value : goal.raise_beside-kn-requires-clause-own_value
+raise_beside-kn-requires-clause-own_value c = (
+  zeros-narrow (2 * c.args.epsilon) 32,
+  length-take-le _ _ (omega (arith, long (goal.at.raise_beside-kn-requires-clause-own_value c).Start)),
+)
 
 pub returns : goal.returns
 returns c =
     let a = c.args in
-    step-beside (stamp_of a.stamp) (long (goal.at.returns c).Start) a.epsilon a.half a.k a.clock c.past.result c.raise_beside-kn.result
-    c.requires.1.0 c.past.ensures c.raise_beside-kn.ensures
+    step-beside (stamp_of a.stamp) (long (goal.at.returns c).Start) a.epsilon a.half a.k a.clock c.saturating_sub.result c.raise_beside-kn.result
+    c.requires.1.0 c.saturating_sub.ensures c.raise_beside-kn.ensures

@@ -2,7 +2,6 @@
 -- Assumes nothing.
 use Rattle.timestamp.proofs.Steps.{step-widened}
 use mathlib.Core.Path.{◌≡◌}
-use native.Mathlib.Omega.{arith}
 use lib.ListN.{length}
 use borrow.Author.Rules.{rules}
 use Rattle.timestamp.proofs.stamp.Timestamp.step.Goals.{Start}
@@ -11,8 +10,5 @@ use Rattle.timestamp.proofs.stamp.Timestamp.step.Goals as goal
 long : (c : Start) → length c.args.self.kn ≡ 32
 long c = search rules
 
-pub counts_of-kn-requires : goal.counts_of-kn-requires
-counts_of-kn-requires c = omega (arith, long (goal.at.counts_of-kn-requires c).Start)
-
 pub returns : goal.returns
-returns c = step-widened _ _ c.requires.1 (long (goal.at.returns c).Start) _ _ _ _ c.requires.0 c.past.ensures c.counts_of-kn.ensures
+returns c = step-widened _ _ c.requires.1 (long (goal.at.returns c).Start) _ _ _ _ c.requires.0 c.saturating_sub.ensures c.counts_of-kn.ensures
