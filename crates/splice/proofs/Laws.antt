@@ -1,21 +1,16 @@
--- The laws of `specs/Bytes.antt`'s definitions. What the library writes into a part of a list is a `pasted`, and so is a store; two neighbouring
--- `pasted` are one: every function of the crate is made of those laws. `Pasting` is the state of a loop that pastes piece by piece, from either
--- end. Assumes nothing.
+-- The laws of `specs/Bytes.antt`'s definitions. A store is a `pasted` of one byte, and two neighbouring `pasted` are one: every function of the
+-- crate is made of those two laws. `Pasting` is the state of a loop that pastes piece by piece, from either end. Assumes nothing.
 use mathlib.Core.Path.{◌≡◌, refl, sym, ap, ◌∙◌}
-use mathlib.Core.List.{List, [], ◌∷◌, ◌++◌, append_assoc}
-use mathlib.Core.Logic.{◌⊎◌, inl, inr}
-use Prim.Native.Nat.{ℕ, zero, suc, ◌+◌, ◌-◌, ◌*◌, ◌/◌, ◌%◌, ◌^◌, ◌≤◌, ◌<◌, zero-le}
-use native.Mathlib.Nat.{add-zero, pow-suc, div-div-eq-div-mul}
+use mathlib.Core.List.{List, [], ◌∷◌, ◌++◌, append_assoc, append-nil}
+use mathlib.Core.Logic.{◌⊎◌, inl, inr, ⊎_elim}
+use Prim.Native.Nat.{ℕ, zero, suc, ◌+◌, ◌-◌, ◌*◌, ◌/◌, ◌%◌, ◌≤◌, ◌<◌, zero-le}
+use native.Mathlib.Nat.{add-zero, zero-add}
 use native.Mathlib.Numerals.{add-one}
 use native.Mathlib.Omega.{arith}
-use lib.ListN.{length, take, drop, get_or, set, length-append, length-take, length-drop, length-set, length-replicate, take-append-drop}
+use lib.ListN.{length, take, drop, get_or, set, length-append, length-take, length-drop, length-set, length-replicate, take-append-drop, drop_of_length-le}
 use lib.Seq.{length-take-le, take-append-le, drop-append-le, drop-append-add, take-take, take-add, take_at, take_all, drop_at, drop-cons, drop-drop, drop-length, set_split, get_or-take, get_or-drop, slice, slice_empty, length-slice}
-use borrow.Rule.Slice.PartMut.{put_mid}
-use Rattle.std.specs.List.{copy_within}
-use Rattle.std.specs.Int.{w32, w64, to_le_bytes, from_le_bytes, byte_at, bytes_low_first}
 use Rattle.laws.specs.Lex.{number_of}
 use Rattle.laws.proofs.Lex.{number-ext}
-use Rattle.model.specs.Frame.{two_bytes}
 use Rattle.model.specs.Long.{low_first, number_at}
 use Rattle.splice.specs.Bytes.{pasted, part, used_from, zeros, cleared, inserted, cut_out}
 
@@ -87,19 +82,6 @@ module _ (l : List ℕ) (at : ℕ) (s : List ℕ) (h : at ≤ length l) where
   get_or-pasted-before k i =
       sym (get_or-take at (pasted l at s) k 0 i) ∙ ap (λ (r : List ℕ). get_or r k 0) (take-pasted at (omega arith)) ∙ get_or-take at l k 0 i
 
--- ---- what the library writes
-
--- into a part of a list
-pub put_mid-pasted : (l : List ℕ) (at n : ℕ) (s : List ℕ) → length s ≡ n → put_mid at n l s ≡ pasted l at s
-unfolding pasted
-put_mid-pasted l at n s e = rw (← e, drop-drop (length s) at l)
-
--- a part of a list into the list itself
-pub moved-pasted : (l : List ℕ) (from to n : ℕ) → from + n ≤ length l → copy_within l from (from + n) to ≡ pasted l to (part l from n)
-unfolding pasted
-moved-pasted l from to n h = let e : from + n - from ≡ n = omega arith in
-    rw (e, length_part l from n h, append_assoc (take to l) (part l from n) (drop (to + n) l))
-
 -- ---- neighbouring parts
 
 pasted-is : (l : List ℕ) (at : ℕ) (s : List ℕ) → pasted l at s ≡ take at l ++ (s ++ drop (at + length s) l)
@@ -139,6 +121,11 @@ pasted-over : (l : List ℕ) (p : ℕ) (u : List ℕ) (q : ℕ) (t : List ℕ) �
     → pasted (pasted l p u) q t ≡ pasted l q t
 pasted-over l p u q t h a b =
     rw (pasted-is (pasted l p u) q t, take-pasted l p u h q a, drop-pasted-after l p u h (q + length t) b) (sym (pasted-is l q t))
+
+-- all of a list pasted over
+pasted-whole : (l s : List ℕ) → length l ≤ length s → pasted l 0 s ≡ s
+unfolding pasted
+pasted-whole l s h = rw (zero-add (length s), drop_of_length-le l {i = length s} h) (append-nil s)
 
 -- a part pasted where it stands: nothing changes
 pub pasted-own : (l : List ℕ) (from to n : ℕ) → to ≡ from → from + n ≤ length l → l ≡ pasted l to (part l from n)
@@ -259,6 +246,22 @@ module _ {l : List ℕ} {at : ℕ} {s : List ℕ} {i j : ℕ} {cur : List ℕ} (
   grows-left {x} e h =
       joins-left (i - 1) 1 (rw e (part-one s (i - 1) (omega arith))) (set-pasted cur (at + (i - 1)) x (omega arith)) (omega arith) (omega arith) (omega arith)
 
+-- ---- a list of zeros filled by a part of s
+
+module _ (w : ℕ) (s : List ℕ) (at : ℕ) (fits : at + w ≤ length s) where
+  pub filling-starts : Pasting (zeros w) 0 (part s at w) 0 0 (zeros w)
+  filling-starts = starts (zeros w) 0 (part s at w) 0 (omega (arith, length_part s at w fits, length-zeros w)) zero-le
+
+  pub fills : {i : ℕ} {cur : List ℕ} → Pasting (zeros w) 0 (part s at w) 0 i cur → i < w
+      → Pasting (zeros w) 0 (part s at w) 0 (i + 1) (set cur i (get_or s (at + i) 0))
+  fills {i} {cur} now h =
+      rw (zero-add i) at (grows-right now (sym (get_d_part s at w i h)) (omega (arith, length_part s at w fits)))
+
+  pub filled : {i : ℕ} {cur : List ℕ} → Pasting (zeros w) 0 (part s at w) 0 i cur → w ≤ i → cur ≡ part s at w
+  filled now h =
+      let size : length (part s at w) ≡ w = length_part s at w fits in
+      ends now zero-le (omega arith) ∙ pasted-whole (zeros w) (part s at w) (omega (arith, length-zeros w))
+
 -- ---- a move of n bytes: a loop that pastes a part of the list itself
 
 -- a piece of the part
@@ -279,18 +282,6 @@ module _ (l : List ℕ) (from to n : ℕ) (fits : from + n ≤ length l) where
   pub moving-starts : (i : ℕ) → to + n ≤ length l → i ≤ n → Pasting l to (part l from n) i i l
   moving-starts i room h = starts l to (part l from n) i (omega (arith, whole)) (omega (arith, whole))
 
-  -- the first k bytes are moved
-  pub moved-so-far : (k : ℕ) {cur : List ℕ} → to + n ≤ length l → k ≤ n → cur ≡ pasted l to (part l from k) → Pasting l to (part l from n) 0 k cur
-  moved-so-far k {cur} room h e =
-      let first : part l from k ≡ slice 0 k (part l from n) = sym (take-take k n (drop from l) h) in
-      record {
-        room = omega (arith, whole);
-        ordered = zero-le;
-        within = omega (arith, whole);
-        so_far = rw (add-zero to, ← first) e;
-        as_long = ap length e ∙ length-pasted l to (part l from k) (omega (arith, length_part l from k (omega arith)));
-      }
-
   module _ {i j : ℕ} {cur : List ℕ} (now : Pasting l to (part l from n) i j cur) where
     -- a piece more at the end, and at the start
     pub moves-right : (k m : ℕ) {t next : List ℕ} → t ≡ part l (from + k) m → next ≡ pasted cur (to + k) t → i ≤ k → k ≤ j → j ≤ k + m → k + m ≤ n
@@ -300,6 +291,19 @@ module _ (l : List ℕ) (from to n : ℕ) (fits : from + n ≤ length l) where
     pub moves-left : (k m : ℕ) {t next : List ℕ} → t ≡ part l (from + k) m → next ≡ pasted cur (to + k) t → k ≤ i → i ≤ k + m → k + m ≤ j
         → Pasting l to (part l from n) k j next
     moves-left k m e f a b c = joins-left now k m (e ∙ part-part l from n k m fits (omega (arith, whole, now.within))) f a b c
+
+    -- a byte that still stands where it was, outside what is pasted
+    pub unmoved : (k : ℕ) → k < n → (from + k < to + i) ⊎ (to + j ≤ from + k) → get_or cur (from + k) 0 ≡ get_or (part l from n) k 0
+    unmoved k h w =
+        let here : get_or (part cur (from + k) 1) 0 0 ≡ get_or cur (from + k) 0 = rw (add-zero (from + k)) at (get_d_part cur (from + k) 1 0 (omega arith)) in
+        sym here
+        ∙ ap (λ (r : List ℕ). get_or r 0 0)
+        (outside now (from + k) 1 (omega arith) (⊎_elim (λ b. inl (omega arith)) (λ a. inr a) w)
+        ∙ part-part l from n k 1 fits (omega arith)
+        ∙ sym (part-one (part l from n) k (omega (arith, whole))))
+
+    pub moving-ends : i ≤ 0 → n ≤ j → cur ≡ pasted l to (part l from n)
+    moving-ends a b = ends now a (omega (arith, whole))
 
     -- by a last piece at the end, and at the start
     pub moving-ends-right : (k m : ℕ) {t next : List ℕ} → t ≡ part l (from + k) m → next ≡ pasted cur (to + k) t → i ≤ 0 → k ≤ j → k + m ≡ n
@@ -391,18 +395,18 @@ cut_out-pieces a b c d used at n e f g =
       drop_at c d (length c) refl,
     )
 
--- four bytes, and eight, as the number that the library reads of them
-module _ (s : List ℕ) (at : ℕ) where
-  pub four-read : from_le_bytes w32 (part s at 4) ≡ number_of 4 (λ k. get_or s (at + (3 - k)) 0)
-  unfolding number_of
-  four-read = omega (arith, get_d_part s at 4 0 (omega arith), get_d_part s at 4 1 (omega arith), get_d_part s at 4 2 (omega arith), get_d_part s at 4 3 (omega arith))
+-- four digits one by one
+pub four-number : (f : ℕ → ℕ) (d : ℕ) → d ≡ f 3 → ((f 0 * 256 + f 1) * 256 + f 2) * 256 + d ≡ number_of 4 f
+unfolding number_of
+four-number f d e = omega arith
 
-  pub eight-read : from_le_bytes w64 (part s at 8) ≡ number_of 8 (λ k. get_or s (at + (7 - k)) 0)
-  unfolding number_of
-  eight-read =
-      omega (arith, get_d_part s at 8 0 (omega arith), get_d_part s at 8 1 (omega arith), get_d_part s at 8 2 (omega arith), get_d_part s at 8 3 (omega arith), get_d_part s at 8 4 (omega arith), get_d_part s at 8 5 (omega arith), get_d_part s at 8 6 (omega arith), get_d_part s at 8 7 (omega arith))
+-- eight digits, four at a time
+pub eight-number : (f g h : ℕ → ℕ) → ((k : ℕ) → k < 4 → g k ≡ f k) → ((k : ℕ) → k < 4 → h k ≡ f (4 + k)) → number_of 4 g * 4294967296 + number_of 4 h ≡ number_of 8 f
+unfolding number_of
+eight-number f g h p q =
+    omega (arith, p 0 (omega arith), p 1 (omega arith), p 2 (omega arith), p 3 (omega arith), q 0 (omega arith), q 1 (omega arith), q 2 (omega arith), q 3 (omega arith))
 
--- bytes, low first: the number that they are the bytes of
+-- the same eight, low first: the number that they are the bytes of
 pub low-first-number : (k : ℕ) (s : List ℕ) (at : ℕ) → number_of k (λ i. get_or s (at + (k - 1 - i)) 0) ≡ number_at k s at
 unfolding number_of number_at
 low-first-number zero s at = refl
@@ -415,24 +419,39 @@ low-first-number (suc k) s at =
     let low : get_or s (at + (suc k - 1 - k)) 0 ≡ get_or s at 0 = ap (λ (j : ℕ). get_or s j 0) e in
     omega arith
 
--- ---- a number's bytes, the low one first, as the library has them
+-- ---- a number's bytes stored, the low one first
 
-byte_at-is : (i x : ℕ) → byte_at i x ≡ x / 256 ^ i % 256
-byte_at-is zero x = omega arith
-byte_at-is (suc i) x = refl
+-- the state of a loop that stores them: with the bytes of what is left of the number, all of them are pasted
+pub record Digits (l : List ℕ) (at k value : ℕ) (cur : List ℕ) (rest i : ℕ) : Type 0 where
+  pub kept : length cur ≡ length l
+  pub most : i ≤ k
+  pub whole : pasted cur (at + i) (low_first (k - i) rest) ≡ pasted l at (low_first k value)
 
-bytes-low-first : (k i m x : ℕ) → k ≤ m → take k (bytes_low_first i m x) ≡ low_first k (x / 256 ^ i)
+pub digits-start : (l : List ℕ) (at k value : ℕ) → Digits l at k value l value 0
+digits-start l at k value =
+    let all : k - 0 ≡ k = omega arith in
+    record { kept = refl; most = omega arith; whole = rw (add-zero at, all) }
+
+pub digits-turn :
+    {l : List ℕ} {at k value : ℕ} {cur : List ℕ} {rest i : ℕ} → Digits l at k value cur rest i → i < k → at + k ≤ length l
+    → Digits l at k value (set cur (at + i) (rest % 256)) (rest / 256) (i + 1)
 unfolding low_first
-bytes-low-first zero i m x h = refl
-bytes-low-first (suc k) i zero x h = absurd (omega arith)
-bytes-low-first (suc k) i (suc m) x h =
-    let rest : take k (bytes_low_first (suc i) m x) ≡ low_first k (x / (256 ^ i * 256)) = rw (← pow-suc 256 i) (bytes-low-first k (suc i) m x (omega arith)) in
-    rw (byte_at-is i x, rest, div-div-eq-div-mul x (256 ^ i) 256)
+digits-turn {l} {at} {k} {value} {cur} {rest} {i} d h room =
+    let here : at + i < length cur = omega (arith, d.kept) in
+    let next : at + (i + 1) ≡ at + i + 1 = omega arith in
+    let more : k - i ≡ suc (k - (i + 1)) = omega arith in
+    record {
+      kept = length-set cur (at + i) (rest % 256) ∙ d.kept;
+      most = omega arith;
+      whole =
+          rw (set-pasted cur (at + i) (rest % 256) here)
+          (pasted-right cur (at + i) (rest % 256 ∷ []) (at + (i + 1)) next (low_first (k - (i + 1)) (rest / 256)) (omega arith)
+          ∙ ap (λ (j : ℕ). pasted cur (at + i) (low_first j rest)) (sym more)
+          ∙ d.whole);
+    }
 
-pub le-low-first : (k x : ℕ) → k ≤ 8 → take k (to_le_bytes w64 x) ≡ low_first k x
-le-low-first k x h = let e : x / 256 ^ 0 ≡ x = omega arith in bytes-low-first k 0 8 x h ∙ ap (low_first k) e
-
--- two of them, of a number that has no more
-pub two-low-first : (x : ℕ) → x < 65536 → low_first 2 x ≡ two_bytes x
-unfolding low_first two_bytes
-two-low-first x h = let e : x / 256 % 256 ≡ x / 256 = omega arith in rw e
+pub digits-end : {l : List ℕ} {at k value : ℕ} {cur : List ℕ} {rest i : ℕ} → Digits l at k value cur rest i → k ≤ i → cur ≡ pasted l at (low_first k value)
+unfolding low_first
+digits-end {l} {at} {k} {value} {cur} {rest} {i} d h =
+    let none : k - i ≡ 0 = omega arith in
+    sym (ap (λ (j : ℕ). pasted cur (at + i) (low_first j rest)) none ∙ pasted-nil cur (at + i)) ∙ d.whole
