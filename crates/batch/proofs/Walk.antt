@@ -81,7 +81,7 @@ unfolding ends_after
 ends_at k s at h = rw (opened s at h, length-drop (at + 1) s, drop-drop (get_or s at 0) (at + 1) s)
 
 -- an entry is missing
-ends-short : (left : ℕ) (s : List ℕ) (at : ℕ) → 0 < left → length s ≤ at → ends_after left (drop at s) ≡ false
+pub ends-short : (left : ℕ) (s : List ℕ) (at : ℕ) → 0 < left → length s ≤ at → ends_after left (drop at s) ≡ false
 unfolding ends_after
 ends-short zero s at z h = absurd (omega arith)
 ends-short (suc k) s at z h = rw (drop_of_length-le s h)
@@ -100,7 +100,7 @@ module _ (s : List ℕ) (at : ℕ) (h : at < length s) (o : get_or s at 0 ≤ le
 -- ---- and where it is not
 
 module _ (s : List ℕ) (at : ℕ) where
-  entry_past : length s ≤ at → entry_at s at ≡ []
+  pub entry_past : length s ≤ at → entry_at s at ≡ []
   unfolding entry_at
   entry_past h = rw (get_or-eq_default s 0 h)
 
@@ -114,10 +114,10 @@ module _ (s : List ℕ) (at : ℕ) where
   entry-cut h = take_all (get_or s at 0) (drop (at + 1) s) (simp length-drop (omega arith))
 
   -- as the code has it: up to the batch's end, or for as long as the entry says
-  entry-rest : length s - (at + 1) < get_or s at 0 → take (length s - (at + 1)) (drop (at + 1) s) ≡ entry_at s at
+  pub entry-rest : length s - (at + 1) < get_or s at 0 → take (length s - (at + 1)) (drop (at + 1) s) ≡ entry_at s at
   entry-rest h = take_all (length s - (at + 1)) (drop (at + 1) s) (simp length-drop (omega arith)) ∙ sym (entry-cut h)
 
-  entry-between : take (at + 1 + get_or s at 0 - (at + 1)) (drop (at + 1) s) ≡ entry_at s at
+  pub entry-between : take (at + 1 + get_or s at 0 - (at + 1)) (drop (at + 1) s) ≡ entry_at s at
   unfolding entry_at
   entry-between = let e : at + 1 + get_or s at 0 - (at + 1) ≡ get_or s at 0 = omega arith in rw e
 

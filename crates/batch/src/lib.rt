@@ -10,14 +10,14 @@ ghost use Rattle.batch.specs.Walk.{count_of, entry_at, next_at, entry_span_at};
 pub mod walker;
 
 // One step of a walk: where an entry's bytes start and end. After them stands the next entry's length, if there is one. A `Range` says no
-// more of it, and its two ends are what the contracts of all that walk a batch speak of.
+// more of it, and its two ends are what all that walk a batch ask for by name.
 #[derive(Drop)]
 pub struct EntrySpan {
     pub start: usize,
     pub end: usize,
 }
 
-// Check 5: does the batch end exactly after its last entry?
+// Check 5: does the batch end exactly after its last entry? Where a byte or an entry is missing, `let .. else` answers no and ends the walk.
 pub fn exact(batch: &[u8]) -> bool
     ensures { result ≡ exact_batch batch.now }
 {

@@ -23,9 +23,31 @@ impl<'a> Walker<'a> {
     }
 }
 
-// The step of a walker at a position of a batch.
+// Where the entry at a walker's position starts and ends.
+pub fn span<'a>(w: Walker<'a>) -> EntrySpan
+    ensures { result ≡ entry_span_at w.entry.src.now w.entry.at }
+{
+    let mut here = w;
+    here.step()
+}
+
+// At the next entry.
+pub fn advance<'a>(w: Walker<'a>) -> Walker<'a>
+    ensures { result ≡ moved_on w.entry }
+{
+    let mut next = w;
+    next.step();
+    next
+}
+
+// The step of a walker at a position of a batch: the entry starts where `step` says, and ends where the walker goes on.
 pub fn walk_entry(batch: &[u8], at: usize) -> EntrySpan
     ensures { result ≡ entry_span_at batch.now at }
 {
-    Walker { src: batch, at }.step()
+    let mut walker = Walker { src: batch, at };
+    let start = walker.step().start;
+    EntrySpan {
+        start,
+        end: walker.at,
+    }
 }

@@ -3,7 +3,7 @@ ghost use Rattle.std.specs.Prelude.{◌≡◌, ◌+◌, ◌≤◌, ◌<◌, leng
 ghost use Rattle.splice.specs.Bytes.{pasted};
 ghost use Rattle.text.specs.Text.{glyph, digits, digit_count, decimal, Put};
 
-// The ASCII code of a digit below 16.
+// The ASCII code, a byte of text, of a digit below 16.
 fn glyph_of(d: usize) -> u8
     requires { d < 16 }
     ensures { result ≡ glyph d }

@@ -30,7 +30,7 @@ unfolding ahead
 ahead-round modulus v r h below = let small : r + (modulus - v) < modulus = omega arith in sym (mod-eq_of_lt small)
 
 -- a number below 2B modulo B
-turned-past : (x modulus : ℕ) → modulus ≤ x → x < 2 * modulus → x - modulus ≡ x % modulus
+pub turned-past : (x modulus : ℕ) → modulus ≤ x → x < 2 * modulus → x - modulus ≡ x % modulus
 turned-past x modulus h k =
     let back : x ≡ x - modulus + modulus = omega arith in
     let small : x - modulus < modulus = omega arith in
@@ -91,7 +91,7 @@ near-from epsilon modulus v r least some-offset few below inside e =
     go (inr t) = by (omega arith) (inr (omega arith))
 
 -- 01: "Outside those offsets a count reads as 0"
-count-before : (reading w : ℕ) (kn : List ℕ) → w < reading → 0 ≡ placed_at reading kn w
+pub count-before : (reading w : ℕ) (kn : List ℕ) → w < reading → 0 ≡ placed_at reading kn w
 unfolding placed_at
 count-before reading w kn h = rw (lt-leb reading w h)
 

@@ -21,18 +21,18 @@ module _ (n epsilon c : ℕ) (kn : List ℕ) where
   unfolding count_at
   count-c = let e : c + epsilon ≡ epsilon + c = omega arith in count-zero kn (c + epsilon) ∙ ap (λ (i : ℕ). get_or kn i 0) e
 
-  unsound-lead : 1 ≤ epsilon → epsilon ≤ c → sound_timestamp n epsilon (of_counts c kn) ≡ false
+  pub unsound-lead : 1 ≤ epsilon → epsilon ≤ c → sound_timestamp n epsilon (of_counts c kn) ≡ false
   unfolding sound_timestamp
   unsound-lead h k = let high : epsilon - 1 < c = omega arith in rw (lt-leb c (epsilon - 1) high)
 
-  unsound-none : c < epsilon → get_or kn (epsilon + c) 0 < 1 → sound_timestamp n epsilon (of_counts c kn) ≡ false
+  pub unsound-none : c < epsilon → get_or kn (epsilon + c) 0 < 1 → sound_timestamp n epsilon (of_counts c kn) ≡ false
   unfolding sound_timestamp
   unsound-none h k =
       let low : c ≤ epsilon - 1 = omega arith in
       rw (le-leb c (epsilon - 1) low, count-c, lt-leb 1 (get_or kn (epsilon + c) 0) k, and-false (at_most n kn))
 
   -- with a count at offset c, the limits of the counts decide
-  sound-within : length kn ≡ 2 * epsilon → c < epsilon → 1 ≤ get_or kn (epsilon + c) 0
+  pub sound-within : length kn ≡ 2 * epsilon → c < epsilon → 1 ≤ get_or kn (epsilon + c) 0
       → sound_timestamp n epsilon (of_counts c kn) ≡ within_ceilings n (epsilon + c) kn
   unfolding sound_timestamp
   sound-within long h k =

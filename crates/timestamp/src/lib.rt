@@ -10,7 +10,7 @@ pub use ordering::{
     Comparison, Rank, Reason, compare, compare_by_counts, compare_numbers, compare_ranked,
 };
 pub use stamp::{
-    Timestamp, ahead, clock_sound, clock_step, counts_at_most, counts_of, near, past, raise,
-    sound_counts,
+    Timestamp, ahead, clock_sound, clock_step, counts_at_most, counts_of, larger_lead, near, past,
+    raise, sound_counts,
 };
 pub use window::{ceilings_of, sound_window};

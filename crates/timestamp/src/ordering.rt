@@ -11,7 +11,7 @@ ghost use Rattle.timestamp.specs.Ranks.{reason_of, comparison_of, decide_by, com
 use crate::stamp::Timestamp;
 use std::cmp::Ordering;
 
-// 02, 2.4: what decided.
+// 02, 2.4: what decided. An enum of its own: std's `Ordering` says which is first, and not by what.
 #[derive(Clone, Copy, Debug, PartialEq, Eq)]
 pub enum Reason {
     Sum,

@@ -1,5 +1,5 @@
 // 01: the stamp, its soundness, the steps of one tick that change it, and reading a clock near v.
-ghost use Rattle.std.specs.Prelude.{◌≡◌, cond, ℕ, ◌+◌, ◌-◌, ◌*◌, ◌%◌, ◌≤◌, ◌<◌, ◌^◌, length, take, drop, get_or, leb};
+ghost use Rattle.std.specs.Prelude.{◌≡◌, cond, ℕ, ◌+◌, ◌-◌, ◌*◌, ◌%◌, ◌≤◌, ◌<◌, ◌^◌, max, length, take, drop, get_or, leb};
 ghost use Rattle.laws.specs.Lists.{tab, padded};
 ghost use Rattle.model.specs.Setup.{widest};
 ghost use Rattle.model.specs.Timestamp.{at_most, sound_timestamp, sound_beside, sound_tables, trimmed, widened};
@@ -74,7 +74,7 @@ impl Timestamp {
         raise(&mut kn, up, counts, down, count);
         Timestamp {
             r: self.r,
-            c: self.c.max((reading + c).saturating_sub(modulus)),
+            c: larger_lead(self.c, reading + c, modulus),
             kn,
         }
     }
@@ -132,7 +132,7 @@ pub fn sound_counts(kn: &[u8], c: usize, n: usize, epsilon: usize) -> bool
     c < epsilon && 1 <= kn[epsilon + c] && within_ceilings(kn, epsilon + c, n)
 }
 
-// 01: "each count ≤ n" and "all counts above" the place `top` "are 0", in one pass. A place is held as a byte too, so that the
+// 01: "each count ≤ n" and "all counts above" the place `top` "are 0", in one pass. A place is compared as a byte, so that the
 // compiler can take 16 counts at a time.
 fn within_ceilings(kn: &[u8], top: usize, n: usize) -> bool
     requires { (length kn.now ≤ 32) × ((top < length kn.now) × (n ≤ 16)) }
@@ -147,7 +147,7 @@ fn within_ceilings(kn: &[u8], top: usize, n: usize) -> bool
     fine
 }
 
-// The most that the count at a place may be: `n` up to the place `top`, 0 above it.
+// The most that the count at a place may be, a byte as the count is: `n` up to the place `top`, 0 above it.
 fn ceiling_at(index: u8, top: u8, n: u8) -> u8
     ensures { result ≡ cond (leb index top) n 0 }
 {
@@ -177,11 +177,18 @@ pub fn counts_of(s: &[u8], from: usize, count: usize) -> [u8; Timestamp::WIDTH]
     kn
 }
 
-// How far `a` lies past `b`, 0 if it does not.
+// How far `a` lies past `b`, 0 if it does not: std's `saturating_sub` under the name by which the crates above ask for it.
 pub fn past(a: usize, b: usize) -> usize
     ensures { result ≡ a - b }
 {
     a.saturating_sub(b)
+}
+
+// The larger of a lead and of how far a sum lies past B.
+pub fn larger_lead(lead: usize, sum: usize, modulus: usize) -> usize
+    ensures { result ≡ max lead (sum - modulus) }
+{
+    lead.max(sum.saturating_sub(modulus))
 }
 
 // Lays the `count` counts of `other` that start at the place `from` over the own ones that start at the place `to`, and keeps

@@ -37,7 +37,7 @@ unfolding count_at placed_at
 count-some half k c kn h = rw (le-leb k (c + half) h)
 
 -- so many of them, from offset c down
-down-row : (most half c : ℕ) (kn : List ℕ) → counts_down_by most half (of_counts c kn) ≡ tab most (λ k. count_at half k kn c)
+pub down-row : (most half c : ℕ) (kn : List ℕ) → counts_down_by most half (of_counts c kn) ≡ tab most (λ k. count_at half k kn c)
 unfolding counts_down_by count_at
 down-row most half c kn =
     tab-ext most (λ k. placed_at most kn (most + c - k + half)) (λ k. placed_at k kn (c + half))

@@ -9,7 +9,7 @@ ghost use Rattle.widerstamp.specs.Keys.{key_with, Small};
 use splice::byte_at;
 use timestamp::{Comparison, Rank, compare_by_counts};
 
-// The count at offset c − k of counts of a half width; "Outside those offsets a count reads as 0".
+// The count, a byte, at offset c − k of counts of a half width; "Outside those offsets a count reads as 0".
 fn count_down(half: usize, kn: &[u8], c: usize, k: usize) -> u8
     requires { (half ≤ 16) × (c ≤ 2 ^ 16) }
     ensures { result ≡ count_at half k kn.now c }

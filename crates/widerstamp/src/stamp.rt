@@ -7,7 +7,7 @@ ghost use Rattle.model.specs.Wider.{step_into, absorb_wide};
 ghost use Rattle.timestamp.specs.Views.{stamp_of, of_counts};
 ghost use Rattle.widerstamp.specs.Placed.{larger_beside};
 
-use timestamp::{Timestamp, raise};
+use timestamp::{Timestamp, larger_lead, raise};
 
 // Lays counts of a half width, whose r stands at a reading, over the own 2ε, which are placed relative to v at `modulus`, and keeps the larger of each
 // two.
@@ -67,7 +67,7 @@ pub fn absorb_into(
     let kn = raise_beside(stamp.kn, epsilon, modulus, counts, half, reading);
     Timestamp {
         r: stamp.r,
-        c: stamp.c.max((reading + c).saturating_sub(modulus)),
+        c: larger_lead(stamp.c, reading + c, modulus),
         kn,
     }
 }

@@ -1,6 +1,5 @@
 -- `widerstamp::stamp::absorb_into` meets its contract. Assumes nothing.
 use mathlib.Core.Path.{◌≡◌}
-use native.Mathlib.Omega.{arith}
 use lib.ListN.{length}
 use borrow.Author.Rules.{rules}
 use Rattle.timestamp.specs.Views.{stamp_of}
@@ -21,5 +20,5 @@ raise_beside-kn-requires-clause-own_value c = (
 pub returns : goal.returns
 returns c =
     let a = c.args in
-    absorb-beside (stamp_of a.stamp) (long (goal.at.returns c).Start) a.epsilon a.half a.modulus a.reading a.c c.max.result a.counts.now c.raise_beside-kn.result
-    c.requires.epsilon_bound.0 (omega (arith, c.max.ensures, c.saturating_sub.ensures)) c.raise_beside-kn.ensures
+    absorb-beside (stamp_of a.stamp) (long (goal.at.returns c).Start) a.epsilon a.half a.modulus a.reading a.c c.larger_lead.result a.counts.now c.raise_beside-kn.result
+    c.requires.epsilon_bound.0 c.larger_lead.ensures c.raise_beside-kn.ensures

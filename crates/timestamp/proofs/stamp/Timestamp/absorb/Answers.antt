@@ -18,5 +18,5 @@ returns c =
     let up = c.saturating_sub-up in
     let down = c.saturating_sub-down in
     let count = c.saturating_sub-count in
-    absorb-widened a.epsilon (stamp_of a.self) c.requires.epsilon_bound.0 (long (goal.at.returns c).Start) a.modulus a.reading up.result down.result count.result a.c c.max.result a.counts.now _
-    c.requires.self_value.0 c.requires.self_value.1 up.ensures down.ensures (omega (arith, count.ensures)) c.raise.ensures (omega (arith, c.max.ensures, c.saturating_sub.ensures))
+    absorb-widened a.epsilon (stamp_of a.self) c.requires.epsilon_bound.0 (long (goal.at.returns c).Start) a.modulus a.reading up.result down.result count.result a.c c.larger_lead.result a.counts.now _
+    c.requires.self_value.0 c.requires.self_value.1 up.ensures down.ensures (omega (arith, count.ensures)) c.raise.ensures c.larger_lead.ensures
